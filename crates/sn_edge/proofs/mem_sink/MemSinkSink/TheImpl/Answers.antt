@@ -1,0 +1,12 @@
+use Rattle.std.proofs.Common.{rules}
+use Rattle.sn_edge.proofs.Pieces.{part_taken}
+use Rattle.sn_edge.proofs.mem_sink.MemSinkSink.TheImpl.Goals as goal
+
+pub put-tells : goal.put-tells
+put-tells c = record {
+  faults_stay = search rules;
+  failed = search rules;
+  all = search rules;
+  nothing = search rules;
+  part = rw c.ensures.next (part_taken c.args.self.now c.args.piece.now c.result);
+}

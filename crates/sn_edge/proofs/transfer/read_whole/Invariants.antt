@@ -1,0 +1,12 @@
+use Rattle.std.proofs.Common.{◌≤◌, ◌-◌, vec_len}
+use Rattle.std.specs.Io.KnownBytes.{Consumes}
+use Rattle.sn_edge.proofs.transfer.read_whole.Given as goal
+
+abbrev pub invariant-loop-bytes : goal.invariant-loop-bytes
+invariant-loop-bytes g l = record {
+  within : vec_len l.bytes ≤ l.limit;
+  consumed : Consumes (g.R.Read.remaining l.initial.reader) (g.R.Read.remaining l.reader) l.bytes.items;
+}
+
+abbrev pub decreases-loop-bytes : goal.decreases-loop-bytes
+decreases-loop-bytes g l = l.limit - vec_len l.bytes

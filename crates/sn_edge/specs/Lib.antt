@@ -1,0 +1,10 @@
+-- Words for the answers of the outside.
+pub mod Loaded
+pub mod Put
+pub mod Pieces
+pub mod Found
+pub mod MemFolder
+pub mod MemSink
+pub mod MemPatterns
+pub mod DirFolder
+pub mod OutSink

@@ -1,0 +1,40 @@
+//! Patterns that find names.
+ghost use Rattle.std.specs.Prelude.{◌≡◌, ◌<◌, ◌≤◌, ℕ, List, Option, Bool, IsTrue, IsFalse};
+ghost use Rattle.std.specs.Option.{ForSome};
+ghost use Rattle.sn_edge.specs.Found.{OnYes, OnNo, OnBad, IsBadUnlessStopped};
+
+use std::alloc::Global;
+
+/// Whether a pattern finds a name.
+#[derive(Clone, Copy, Debug, PartialEq, Eq, Hash)]
+pub enum Found {
+    Yes,
+    No,
+    /// The pattern is refused.
+    Bad,
+    /// There was no memory for the search, or a count is full.
+    NoMemory,
+}
+
+/// What decides which names a pattern finds.
+pub trait Patterns {
+    /// Whether a pattern, first, matches a name, where the object tells.
+    ghost matches: { Self → Option (List ℕ → List ℕ → Bool) };
+
+    /// Which patterns are bad, where the object tells.
+    ghost bad_patterns: { Self → Option (List ℕ → Bool) };
+
+    /// How often a pattern was refused.
+    ghost refusals: { Self → ℕ };
+
+    /// Whether the pattern finds the name.
+    fn find(&mut self, alloc: Global, pattern: &str, name: &str) -> Found
+        ensures matches_kept { matches self.new ≡ matches self.old }
+        ensures bad_kept { bad_patterns self.new ≡ bad_patterns self.old }
+        ensures refusals_stay { refusals self.old ≤ refusals self.new }
+        ensures refused { OnBad result (refusals self.old < refusals self.new) }
+        ensures yes { OnYes result (ForSome (matches self.old) (λ finds. IsTrue (finds pattern.now name.now))) }
+        ensures no { OnNo result (ForSome (matches self.old) (λ finds. IsFalse (finds pattern.now name.now))) }
+        ensures bad { OnBad result (ForSome (bad_patterns self.old) (λ is_bad. IsTrue (is_bad pattern.now))) }
+        ensures at_bad { ForSome (bad_patterns self.old) (λ is_bad. IsTrue (is_bad pattern.now) → IsBadUnlessStopped result) };
+}

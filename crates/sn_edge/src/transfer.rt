@@ -1,0 +1,54 @@
+//! Loops over a reader and a writer.
+ghost use Rattle.std.specs.Prelude.{◌≡◌, ◌<◌, ◌≤◌, ◌+◌, ℕ, List, length, IsTrue};
+ghost use Rattle.std.specs.Io.KnownBytes.{Appends, Consumes, IsAtEnd};
+ghost use Rattle.sn_edge.specs.Loaded.{IfBytes, OnAbsent, OnTooBig};
+ghost use Rattle.sn_edge.specs.Pieces.{IsPrefix};
+
+use crate::Loaded;
+use std::alloc::Global;
+use std::io::{Read, Write};
+
+// How many bytes a read asks for at most.
+const CHUNK: usize = 65536;
+
+// All the bytes that a reader has left. It ends after `limit + 1` bytes.
+pub(crate) fn read_whole<R: Read>(alloc: Global, reader: &mut R, limit: u64) -> Loaded
+    ensures within { IfBytes result (λ bytes. length bytes ≤ limit) }
+    ensures bytes { IfBytes result (λ bytes. Consumes (R.remaining reader.old) (R.remaining reader.new) bytes × IsAtEnd (R.remaining reader.new)) }
+    ensures too_big { OnTooBig result ((bytes : List ℕ) × (length bytes ≡ limit + 1) × Consumes (R.remaining reader.old) (R.remaining reader.new) bytes) }
+    ensures present { OnAbsent result ⊥ }
+{
+    let mut bytes = Vec::new(alloc);
+    let mut chunk = [0u8; CHUNK];
+    loop {
+        let room = limit - bytes.len() as u64;
+        let asked = room.min(CHUNK as u64 - 1) as usize + 1;
+        let part = &mut chunk[..asked];
+        let count = match reader.read(part) {
+            Ok(0) => return Loaded::Bytes(bytes),
+            Ok(count) => count,
+            Err(_) => return Loaded::Failed,
+        };
+        if count as u64 > room {
+            return Loaded::TooBig;
+        }
+        if bytes.extend_from_slice(&part[..count]).is_err() {
+            return Loaded::NoMemory;
+        }
+    }
+}
+
+// Writes the piece, and answers whether all of it was taken. A write that takes nothing has failed.
+pub(crate) fn write_whole<W: Write>(writer: &mut W, piece: &[u8]) -> bool
+    ensures all { IsTrue result → Appends (W.contents writer.old) (W.contents writer.new) piece.now }
+    ensures part { (part : List ℕ) × IsPrefix part piece.now × Appends (W.contents writer.old) (W.contents writer.new) part }
+{
+    let mut rest = piece;
+    while !rest.is_empty() {
+        match writer.write(rest) {
+            Ok(0) | Err(_) => return false,
+            Ok(count) => rest = &rest[count..],
+        }
+    }
+    true
+}
