@@ -1,0 +1,4 @@
+pub mod Ends
+pub mod Members
+pub mod Nodes
+pub mod Pairs

@@ -1,0 +1,13 @@
+//! Persistent maps and stacks whose copies share what they have in common.
+#![tactic(auto)]
+
+mod branch;
+mod memory;
+mod shared;
+#[cfg(test)]
+mod tests;
+mod tree;
+
+pub use memory::NoMemory;
+pub use shared::{Members, Shared};
+pub use tree::{Pairs, Tree};
