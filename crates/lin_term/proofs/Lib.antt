@@ -1,0 +1,4 @@
+pub mod Modular
+pub mod Coefficients
+pub mod Values
+pub mod Merging

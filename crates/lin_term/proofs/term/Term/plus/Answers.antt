@@ -1,0 +1,7 @@
+use Rattle.std.proofs.lemmas.Result.{IfOk-weaker}
+use Rattle.lin_term.proofs.Values.{value_at-once}
+use Rattle.lin_term.proofs.term.Term.plus.Goals as goal
+
+pub returns-clause-value : goal.returns-clause-value
+returns-clause-value c =
+    IfOk-weaker _ _ _ (λ t h. value_at-once c.args.self.now c.args.other.now t c.requires h) c.plus_multiple.ensures.combination

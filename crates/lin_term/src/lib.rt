@@ -1,0 +1,10 @@
+//! Linear terms: a constant and coefficients of symbols, modulo a power of two.
+#![tactic(auto)]
+
+pub mod laws;
+mod merge;
+mod term;
+#[cfg(test)]
+mod tests;
+
+pub use term::Term;

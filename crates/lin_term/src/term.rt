@@ -1,0 +1,186 @@
+//! Terms.
+
+ghost use Rattle.std.specs.Prelude.{◌≡◌, ℕ, ◌+◌, ◌*◌, ◌%◌, ◌^◌, ◌<◌, ◌≤◌, ◌↔◌, List, [], ◌∷◌, length, slice_get, slice_index, IsTrue, IsNone, IfOk, IfSome};
+ghost use Rattle.sn_width.specs.Width.{FitsWidth, wrapped_sum, wrapped_difference};
+
+use crate::merge::{Part, merged, plus_times};
+use sn_width::{NoMemory, Num, SymId, Width};
+use std::alloc::Global;
+use std::marker::Model;
+
+/// A constant plus coefficients times symbols, modulo `2^w`.
+#[derive(Debug, Drop)]
+pub struct Term {
+    width: Width,
+    constant: Num,
+    /// Ascending by symbol, with coefficients that are not 0.
+    parts: Vec<Part>,
+}
+
+impl Model for Term {
+    ghost use Rattle.lin_term.specs.Terms.{LinearTerm, IsReduced};
+
+    ghost Value = { LinearTerm };
+
+    ghost view = { λ t. record { width = t.width; constant = t.constant; parts = t.parts.items } };
+
+    ghost invariant = { λ t. IsReduced (record { width = t.width; constant = t.constant; parts = t.parts.items }) };
+}
+
+impl Term {
+    ghost use Rattle.lin_term.specs.Terms.{LinearTerm, IsReduced, coefficient_of, value_at, IsSum, IsDifference, IsCombination};
+
+    /// A number. It must be at most the width's maximum.
+    pub fn of_const(alloc: Global, width: Width, value: Num) -> Result<Term, NoMemory>
+        requires { FitsWidth width value }
+        ensures term { IfOk result
+            (λ t. t ≡ record { width = width; constant = value; parts = [] }) }
+        ensures reduced { IfOk result IsReduced }
+        ensures value { IfOk result (λ t. (values : List ℕ) → value_at t values ≡ value) }
+    {
+        Ok(Term {
+            width,
+            constant: value,
+            parts: Vec::new(alloc),
+        })
+    }
+
+    /// A symbol.
+    pub fn of_symbol(alloc: Global, width: Width, symbol: SymId) -> Result<Term, NoMemory>
+        ensures term { IfOk result
+            (λ t. t ≡ record { width = width; constant = 0; parts = (symbol, 1) ∷ [] }) }
+        ensures reduced { IfOk result IsReduced }
+        ensures value { IfOk result
+            (λ t. (values : List ℕ) → value_at t values ≡ slice_index values symbol.0 % 2 ^ width) }
+    {
+        // So 1 is a number of the width.
+        prove!(width.bits() >= 1);
+        let mut parts = Vec::new(alloc);
+        parts.push((symbol, 1))?;
+        Ok(Term {
+            width,
+            constant: 0,
+            parts,
+        })
+    }
+
+    /// `self + other`. The two have one width.
+    pub fn plus(&self, alloc: Global, other: &Term) -> Result<Term, NoMemory>
+        requires { self.now.width ≡ other.now.width }
+        ensures sum { IfOk result (IsSum self.now other.now) }
+        ensures reduced { IfOk result IsReduced }
+        ensures value { IfOk result (λ t. (values : List ℕ) → value_at t values
+            ≡ wrapped_sum self.now.width (value_at self.now values) (value_at other.now values)) }
+    {
+        self.plus_multiple(alloc, 1, other)
+    }
+
+    /// `self - other`. The two have one width.
+    pub fn minus(&self, alloc: Global, other: &Term) -> Result<Term, NoMemory>
+        requires { self.now.width ≡ other.now.width }
+        ensures difference { IfOk result (IsDifference self.now other.now) }
+        ensures reduced { IfOk result IsReduced }
+        ensures value { IfOk result (λ t. (values : List ℕ) → value_at t values
+            ≡ wrapped_difference self.now.width (value_at self.now values) (value_at other.now values)) }
+    {
+        // The width's greatest value is minus one, modulo `2^w`.
+        self.plus_multiple(alloc, self.width.max(), other)
+    }
+
+    /// `self + factor * other`. The two have one width.
+    fn plus_multiple(&self, alloc: Global, factor: Num, other: &Term) -> Result<Term, NoMemory>
+        requires { self.now.width ≡ other.now.width }
+        ensures combination { IfOk result (IsCombination factor self.now other.now) }
+        ensures other { IsReduced other.now }
+    {
+        let parts = merged(alloc, self.width, &self.parts, factor, &other.parts)?;
+        Ok(Term {
+            width: self.width,
+            constant: plus_times(self.width, self.constant, factor, other.constant),
+            parts,
+        })
+    }
+
+    /// The value where each symbol is the number at its place in `values`, and 0 past their end.
+    pub fn value(&self, values: &[Num]) -> Num
+        ensures value { result ≡ value_at self.now values.now }
+        ensures reduced { IsReduced self.now }
+    {
+        let mut total = self.constant;
+        for (symbol, coefficient) in &self.parts {
+            let number = number_of(*symbol, values);
+            total = plus_times(self.width, total, *coefficient, number);
+        }
+        total
+    }
+
+    /// Whether width, constant and parts are equal.
+    pub fn same(&self, other: &Term) -> bool
+        ensures same { IsTrue result ↔ (self.now ≡ other.now) }
+        ensures reduced { IsReduced self.now }
+    {
+        self.width == other.width
+            && self.constant == other.constant
+            && same_parts(&self.parts, &other.parts)
+    }
+
+    /// The width of the constant, the coefficients and the values.
+    pub fn width(&self) -> Width
+        ensures width { result ≡ self.now.width }
+        ensures reduced { IsReduced self.now }
+    {
+        self.width
+    }
+
+    /// The constant.
+    pub fn constant(&self) -> Num
+        ensures constant { result ≡ self.now.constant }
+        ensures reduced { IsReduced self.now }
+    {
+        self.constant
+    }
+
+    /// The part at a place from 0, ascending by symbol; None past the last one.
+    pub fn part(&self, index: usize) -> Option<(SymId, Num)>
+        ensures part { result ≡ slice_get self.now.parts index }
+        ensures past { IsNone result ↔ (length self.now.parts ≤ index) }
+        ensures coefficient { IfSome result
+            (λ part. (0 < part.1) × FitsWidth self.now.width part.1) }
+        ensures reduced { IsReduced self.now }
+    {
+        part_at(&self.parts, index)
+    }
+
+    /// An equal term.
+    pub fn copy(&self, alloc: Global) -> Result<Term, NoMemory>
+        ensures same { IfOk result (λ t. t ≡ self.now) }
+        ensures reduced { IsReduced self.now }
+    {
+        Ok(Term {
+            width: self.width,
+            constant: self.constant,
+            parts: Vec::from_slice(alloc, &self.parts)?,
+        })
+    }
+}
+
+/// The number of a symbol: that at its place in `values`, and 0 past their end.
+fn number_of(symbol: SymId, values: &[Num]) -> Num
+    ensures { result ≡ slice_index values.now symbol.0 }
+{
+    values.get(symbol.0 as usize).copied().unwrap_or(0)
+}
+
+/// Whether the parts are equal, in their order.
+fn same_parts(left: &[Part], right: &[Part]) -> bool
+    ensures { IsTrue result ↔ (left.now ≡ right.now) }
+{
+    left == right
+}
+
+/// The part at a place; None past the last one.
+fn part_at(parts: &[Part], index: usize) -> Option<Part>
+    ensures { result ≡ slice_get parts.now index }
+{
+    parts.get(index).copied()
+}
