@@ -1,0 +1,9 @@
+pub mod Bound
+pub mod Cycle
+pub mod Elimination
+pub mod Gather
+pub mod Given
+pub mod Kept
+pub mod Table
+pub mod Values
+pub mod Verdict

@@ -1,0 +1,18 @@
+//! Integers that meet upper bounds on the differences of unknowns, or a cycle of bounds that none
+//! meet.
+#![tactic(auto)]
+
+mod bound;
+mod eliminate;
+mod gather;
+pub mod laws;
+mod memory;
+mod solver;
+mod table;
+#[cfg(test)]
+mod tests;
+mod values;
+
+pub use bound::{Bound, DiffVerdict};
+pub use memory::NoMemory;
+pub use solver::solve;
