@@ -1,0 +1,18 @@
+//! Cuts the text of a job into its tokens.
+#![tactic(auto)]
+
+mod bytes;
+mod fault;
+mod front;
+pub mod laws;
+mod lex;
+mod number;
+mod parts;
+#[cfg(test)]
+mod tests;
+mod token;
+
+pub use fault::LexFault;
+pub use lex::tokens;
+pub use parts::{number_value, text_body, token_text};
+pub use token::{Token, TokenKind};
