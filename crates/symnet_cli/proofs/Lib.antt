@@ -1,0 +1,4 @@
+pub mod ReportLemmas
+pub mod ExactLemmas
+pub mod WriteLemmas
+pub mod OutcomeLemmas

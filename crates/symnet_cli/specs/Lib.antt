@@ -1,0 +1,6 @@
+pub mod Words
+pub mod Meaning
+pub mod Paths
+pub mod ReportText
+pub mod Status
+pub mod Outcome
