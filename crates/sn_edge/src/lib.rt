@@ -13,6 +13,7 @@ mod mem_patterns;
 mod mem_sink;
 mod out_sink;
 mod patterns;
+mod regex_patterns;
 mod sink;
 #[cfg(test)]
 mod tests;
@@ -25,4 +26,5 @@ pub use mem_patterns::MemPatterns;
 pub use mem_sink::MemSink;
 pub use out_sink::OutSink;
 pub use patterns::{Found, Patterns};
+pub use regex_patterns::RegexPatterns;
 pub use sink::{Put, Sink};
