@@ -1,3 +1,11 @@
+pub mod CodeText
+pub mod Filled
+pub mod JobText
 pub mod Name
+pub mod NetText
+pub mod NetWords
 pub mod Text
+pub mod TermText
 pub mod Thin
+pub mod Trees
+pub mod Views

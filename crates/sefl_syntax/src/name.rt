@@ -1,15 +1,20 @@
 //! Names of nodes, tags, metadata and variables.
 
-ghost use Rattle.std.specs.Prelude.{◌≡◌, ◌↔◌, false, nat_eq, IsTrue, Some, IsNone, IfSome, IfOk};
+ghost use Rattle.std.specs.Prelude.{◌≡◌, ◌↔◌, false, bytes_eq, refl, IsTrue, Some, IsNone, IfSome, IfOk};
 ghost use Rattle.std.proofs.Common.{rules};
-ghost use Rattle.std.specs.Cmp.Rules.{comparing};
-ghost use Rattle.std.specs.Cmp.Lexicographic.{pointwise};
+ghost use Rattle.std.specs.Cmp.Rules.{hashing};
+ghost use Rattle.std.specs.Cmp.Lexicographic.{nat_list_cmp_total, nat_list_eq_equiv, slice_cmp, texts_po, texts_ties};
+ghost use Rattle.std.specs.Cmp.{partial_equiv_from_equiv};
+ghost use Rattle.std.specs.Hash as fed;
+ghost use Rattle.std.specs.Ordering.{nat_cmp};
 ghost use Rattle.std.specs.List.{list_all};
 ghost use Rattle.sefl_syntax.specs.Name.{is_name, is_name_start, is_name_byte, starts_name};
 
 use sn_width::NoMemory;
-use std::alloc::Global;
+use std::alloc::{AllocError, Global};
+use std::cmp::Ordering;
 use std::fmt;
+use std::hash::{Hash, Hasher};
 use std::marker::Model;
 
 /// The most bytes that a name has.
@@ -56,9 +61,9 @@ impl Name {
 }
 
 impl PartialEq for Name {
-    ghost eq = { pointwise nat_eq };
+    ghost eq = { bytes_eq };
 
-    ghost laws = { Prim.search (comparing, rules) };
+    ghost laws = { partial_equiv_from_equiv nat_list_eq_equiv };
 
     fn eq(&self, other: &Name) -> bool {
         self.text() == other.text()
@@ -66,7 +71,51 @@ impl PartialEq for Name {
 }
 
 impl Eq for Name {
-    ghost laws = { Prim.search (comparing, rules) };
+    ghost laws = { nat_list_eq_equiv };
+}
+
+impl PartialOrd for Name {
+    ghost partial_cmp = { λ a b. Some (slice_cmp nat_cmp a b) };
+
+    ghost laws = { texts_po };
+
+    fn partial_cmp(&self, other: &Name) -> Option<Ordering> {
+        Some(self.cmp(other))
+    }
+}
+
+/// Ordered by bytes.
+impl Ord for Name {
+    ghost cmp = { slice_cmp nat_cmp };
+
+    ghost total = { nat_list_cmp_total };
+
+    ghost matches_partial_cmp = { λ a b. refl };
+
+    ghost matches_eq = { texts_ties };
+
+    fn cmp(&self, other: &Name) -> Ordering {
+        self.text().cmp(other.text())
+    }
+}
+
+impl Hash for Name {
+    ghost hash_input = { λ name. fed.str name };
+
+    ghost respects_eq = { Prim.search (hashing, rules) };
+
+    fn hash<H: Hasher>(&self, state: &mut H) {
+        self.text().hash(state);
+    }
+}
+
+impl Clone for Name {
+    ghost is_clone = { λ name copy. copy ≡ name };
+
+    fn clone(&self) -> Result<Name, AllocError> {
+        let text = self.text.clone()?;
+        Ok(Name { text })
+    }
 }
 
 impl fmt::Display for Name {
