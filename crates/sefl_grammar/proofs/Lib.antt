@@ -1,0 +1,5 @@
+pub mod Closings
+pub mod Depths
+pub mod Examined
+pub mod Runs
+pub mod Wells

@@ -1,0 +1,14 @@
+//! The grammar of job texts.
+#![tactic(auto)]
+
+mod behind;
+mod depth;
+mod examination;
+mod stack;
+mod symbol;
+mod table;
+#[cfg(test)]
+mod tests;
+
+pub use examination::{Finding, examine};
+pub use symbol::Symbol;

@@ -1,0 +1,48 @@
+//! The stack of what is to come, the next symbol last.
+
+ghost use Rattle.std.specs.Prelude.{◌≡◌, ◌++◌, reverse, IfOk, OnOk};
+ghost use Rattle.sefl_lex.specs.Words.{value_of};
+ghost use Rattle.sefl_lex.specs.declared.token.TokenKind.TheVariants.{Number};
+ghost use Rattle.sefl_grammar.specs.Automaton.{step};
+ghost use Rattle.sefl_grammar.specs.Words.{Takes};
+
+use crate::behind::{behind, may_end};
+use crate::symbol::Symbol;
+use sefl_lex::TokenKind;
+use std::alloc::AllocError;
+
+/// Puts the symbols on the stack, the first on top.
+fn push_all(stack: &mut Vec<Symbol>, symbols: &[Symbol]) -> Result<(), AllocError>
+    ensures { OnOk result (reverse stack.new.items ≡ symbols.now ++ reverse stack.old.items) }
+{
+    let mut left = symbols;
+    while let [others @ .., last] = left {
+        stack.push(*last)?;
+        left = others;
+    }
+    Ok(())
+}
+
+/// Takes a word from what is to come; false where it may not come.
+pub(crate) fn take_word(
+    stack: &mut Vec<Symbol>,
+    kind: TokenKind,
+    word: &str,
+    value: u128,
+) -> Result<bool, AllocError>
+    requires { kind ≡ Number → value ≡ value_of word.now }
+    ensures { IfOk result (λ taken. Takes taken
+        (step (reverse stack.old.items) (record { kind = kind; text = word.now }))
+        (reverse stack.new.items)) }
+{
+    while let Some(symbol) = stack.pop() {
+        if let Some(then) = behind(symbol, kind, word, value) {
+            push_all(stack, then)?;
+            return Ok(true);
+        }
+        if !may_end(symbol) {
+            return Ok(false);
+        }
+    }
+    Ok(false)
+}
