@@ -1,0 +1,4 @@
+pub mod Cells
+pub mod Outcome
+pub mod Stacks
+pub mod Valued
