@@ -1,0 +1,6 @@
+pub mod Bounds
+pub mod Ranges
+pub mod Pairs
+pub mod Cases
+pub mod Splits
+pub mod Counts

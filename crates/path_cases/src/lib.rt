@@ -1,0 +1,18 @@
+//! The cases of a formula: lists of bounds between symbols, of which one holds exactly where the formula has
+//! its truth.
+#![tactic(auto)]
+
+mod atoms;
+mod bound;
+mod choices;
+mod count;
+pub mod laws;
+mod pairs;
+mod splits;
+#[cfg(test)]
+mod tests;
+
+pub use bound::SymBound;
+pub use choices::cases;
+pub use count::case_count_of;
+pub use splits::can_split;
