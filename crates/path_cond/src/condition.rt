@@ -1,0 +1,186 @@
+//! Path conditions.
+
+ghost use Rattle.std.specs.Prelude.{◌≡◌, ◌<◌, ℕ, [], ◌∷◌, ◌++◌, ◌&&◌, length, reverse, slice_get, slice_index, unwrap_or, option_copied, IfOk};
+ghost use Rattle.std.specs.Option.{option_map};
+ghost use Rattle.sn_ranges.specs.Ranges.{IsSetOf, fits_width};
+ghost use Rattle.path_formula.specs.Typed.{IsTyped};
+ghost use Rattle.path_formula.specs.View.{view};
+
+use crate::domain::{all_hold, solutions_in};
+use crate::kept::{broken_with, simple_with};
+use crate::sequence::Sequence;
+use path_formula::{Formula, laws};
+use sn_ranges::Ranges;
+use sn_tree::{Shared, Tree};
+use sn_width::{NoMemory, Num, SymId, Width};
+use std::alloc::Global;
+use std::marker::Model;
+
+/// The widths of symbols, and formulas over them, each with the truth that it must have. A formula's
+/// pick is its place, from 0. A change makes a new condition that shares what it can with the old
+/// one, and leaves the old one as it was. There are fewer than 2^32 symbols and 2^32 formulas.
+#[derive(Drop)]
+pub struct PathCond {
+    widths: Sequence<Width>,
+    entries: Sequence<(Formula, bool)>,
+    /// The least pick of a constant formula that has the other truth.
+    broken: Option<u32>,
+    /// For each symbol that has one, the picks of its simple formulas, the newest first.
+    simple: Tree<u64, Shared<u32>>,
+}
+
+impl Model for PathCond {
+    ghost use Rattle.std.specs.Coded.{codes};
+    ghost use Rattle.path_formula.specs.contracts.formula.Formula as the_formula;
+    ghost use Rattle.path_cond.specs.Conditions.{Condition, IsKept};
+
+    ghost Value = { Condition };
+
+    ghost coded = { Prim.hlevel (codes, the_formula.the_row.coded) };
+
+    ghost view = { λ c. record { widths = c.widths; entries = c.entries } };
+
+    ghost invariant = { λ c. IsKept c.widths c.entries c.broken c.simple };
+}
+
+impl PathCond {
+    ghost use Rattle.path_cond.specs.Conditions.{Condition, first_broken, holds_at, in_domain, simple_picks};
+
+    /// The condition without formulas over symbols of these widths.
+    pub fn new(alloc: Global, widths: Vec<Width>) -> Result<PathCond, NoMemory>
+        ensures { IfOk result (λ c. c ≡ record { widths = widths.items; entries = [] }) }
+    {
+        let widths = Sequence::from_vec(alloc, &widths)?;
+        Ok(PathCond {
+            widths,
+            entries: Sequence::empty(),
+            broken: None,
+            simple: Tree::empty(),
+        })
+    }
+
+    /// The same condition. Takes no memory; an `Err` says that the count of owners is full.
+    pub fn fork(&self) -> Result<PathCond, NoMemory>
+        ensures { IfOk result (λ c. c ≡ self.now) }
+    {
+        let widths = self.widths.fork()?;
+        let entries = self.entries.fork()?;
+        let broken = self.broken;
+        match self.simple.fork() {
+            Err(_) => Err(NoMemory),
+            Ok(simple) => Ok(PathCond {
+                widths,
+                entries,
+                broken,
+                simple,
+            }),
+        }
+    }
+
+    /// The number of formulas.
+    pub fn len(&self) -> u64
+        ensures { result ≡ length self.now.entries }
+    {
+        u64::from(self.entries.len())
+    }
+
+    /// The number of symbols.
+    pub fn symbols(&self) -> u64
+        ensures { result ≡ length self.now.widths }
+    {
+        u64::from(self.widths.len())
+    }
+
+    /// The width of a symbol; `None` exactly past the last symbol.
+    pub fn width(&self, symbol: SymId) -> Option<Width>
+        ensures { result ≡ slice_get self.now.widths symbol.0 }
+    {
+        if symbol.0 >= u64::from(self.widths.len()) {
+            return None;
+        }
+        self.widths.get(symbol.0 as u32).copied()
+    }
+
+    /// The formula of a pick and the truth that it must have; `None` exactly past the last formula.
+    pub fn entry(&self, pick: u32) -> Option<(&Formula, bool)>
+        ensures { option_map (λ e. (e.0.now, e.1)) result ≡ slice_get self.now.entries pick }
+    {
+        let entry = self.entries.get(pick)?;
+        Some((&entry.0, entry.1))
+    }
+
+    /// The condition with one symbol more, which comes after the others.
+    pub fn with_symbol(&self, alloc: Global, width: Width) -> Result<PathCond, NoMemory>
+        ensures { IfOk result (λ c. c
+            ≡ record { widths = self.now.widths ++ width ∷ []; entries = self.now.entries }) }
+    {
+        let widths = self.widths.push(alloc, width)?;
+        let entries = self.entries.fork()?;
+        let broken = self.broken;
+        match self.simple.fork() {
+            Err(_) => Err(NoMemory),
+            Ok(simple) => Ok(PathCond {
+                widths,
+                entries,
+                broken,
+                simple,
+            }),
+        }
+    }
+
+    /// The condition with one formula more, which must have the truth `holds`.
+    pub fn with(&self, alloc: Global, formula: Formula, holds: bool) -> Result<PathCond, NoMemory>
+        requires { IsTyped self.now.widths (view formula) }
+        ensures { IfOk result (λ c. c
+            ≡ record { widths = self.now.widths; entries = self.now.entries ++ (formula, holds) ∷ [] }) }
+    {
+        let kind = formula.kind();
+        let pick = self.entries.len();
+        let broken = broken_with(self.broken, kind, holds, pick);
+        let simple = simple_with(alloc, &self.simple, kind, pick)?;
+        let widths = self.widths.fork()?;
+        let entries = self.entries.push(alloc, (formula, holds))?;
+        Ok(PathCond {
+            widths,
+            entries,
+            broken,
+            simple,
+        })
+    }
+
+    /// Whether each formula has the truth that it must have, where each symbol is the number at its
+    /// place in `values`, and 0 past their end.
+    pub fn holds(&self, values: &[Num]) -> bool
+        ensures { result ≡ holds_at self.now values.now }
+    {
+        all_hold(&self.entries, values)
+    }
+
+    /// The values of the symbol's width that meet each simple formula of the symbol.
+    pub fn domain(&self, alloc: Global, symbol: SymId) -> Result<Ranges, NoMemory>
+        requires { symbol.0 < length self.now.widths }
+        ensures { IfOk result (IsSetOf (slice_index self.now.widths symbol.0)
+            (λ x. fits_width (slice_index self.now.widths symbol.0) x && in_domain symbol self.now x)) }
+    {
+        laws::a_simple_formula_is_over_its_symbol();
+        match self.width(symbol) {
+            None => unreachable!(),
+            Some(width) => solutions_in(alloc, &self.entries, symbol, width),
+        }
+    }
+
+    /// The least pick of a constant formula that has not the truth that it must have.
+    pub fn first_broken(&self) -> Option<u32>
+        ensures { result ≡ first_broken self.now }
+    {
+        self.broken
+    }
+
+    /// The picks of the formulas that are simple on the symbol, the newest first; `None` only where
+    /// there is none.
+    pub fn simple_picks(&self, symbol: SymId) -> Option<&Shared<u32>>
+        ensures { unwrap_or (option_copied result) [] ≡ reverse (simple_picks symbol self.now) }
+    {
+        self.simple.get(&symbol.0)
+    }
+}

@@ -1,0 +1,11 @@
+//! Path conditions: lists of formulas that must be true or false, which share what they have in common.
+#![tactic(auto)]
+
+mod condition;
+mod domain;
+mod kept;
+mod sequence;
+#[cfg(test)]
+mod tests;
+
+pub use condition::PathCond;
