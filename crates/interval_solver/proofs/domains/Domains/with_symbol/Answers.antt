@@ -1,0 +1,5 @@
+use Rattle.interval_solver.proofs.Meeting.{domains_wider_ok}
+use Rattle.interval_solver.proofs.domains.Domains.with_symbol.Goals as goal
+
+pub returns : goal.returns
+returns c = domains_wider_ok c.push.result c.args.self.now c.args.width c.in_ok-all.all c.in_ok-all.ensures c.push.ensures
