@@ -1,3 +1,5 @@
+mod plain;
+
 use crate::{Layers, laws};
 use sn_width::{LayoutFault, StepFault, TagId, Width};
 use std::alloc::Global;
