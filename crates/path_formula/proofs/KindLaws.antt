@@ -1,14 +1,15 @@
 -- What the kind of a formula tells.
-use Rattle.std.proofs.Common.{◌≡◌, ℕ, Bool, true, false, cond, List, [], ◌++◌, Option, Some, None, refl, sym, ◌∙◌, subst, inl, inr}
+use Rattle.std.proofs.Common.{◌≡◌, ℕ, Bool, true, false, cond, List, [], ◌∷◌, ◌++◌, Option, Some, None, ◌⊎◌, refl, sym, ap, ◌∙◌, subst, inl, inr}
 use Rattle.std.specs.Prelude.{slice_index, slice_get}
 use Rattle.std.specs.List.{list_all, list_any}
 use Rattle.std.proofs.lemmas.Bool.{and_parts}
 use Rattle.std.proofs.lemmas.List.Folds.{list_all-append}
+use Rattle.std.proofs.lemmas.Option.{none-some}
 use Rattle.sn_width.specs.declared.ids.SymId.{SymId}
 use Rattle.lin_term.specs.Terms.{LinearTerm}
 use Rattle.path_formula.specs.Atoms.{comparison_kind, membership_kind}
 use Rattle.path_formula.specs.Formulas.{FormulaTree, always, compared, belongs, all_of, any_of, opposite, Formulas, no_formulas, formula, truth_at}
-use Rattle.path_formula.specs.Kinds.{Atom, atoms_of, atoms_among, is_constant, is_on, is_hard, is_kind_on, first_single, only_symbol, only_on, kind_unless_constant, kind_of}
+use Rattle.path_formula.specs.Kinds.{Atom, atoms_of, atoms_among, is_constant, is_on, is_hard, is_kind_on, single_or, first_single, only_symbol, only_on, kind_unless_constant, kind_of}
 use Rattle.path_formula.specs.Solutions.{AtomIsOver, IsOver, AreOver, alone}
 use Rattle.path_formula.specs.Terms.{shape_of}
 use Rattle.path_formula.specs.Typed.{PartsAreTyped, TermIsTyped, IsTyped, AreTyped}
@@ -148,3 +149,61 @@ mutual
 
 pub constant_over : (f : FormulaTree) (truth : Bool) (s : SymId) (w : ℕ) → kind_of f ≡ OneTruth truth → IsOver s w f
 constant_over f truth s w h = over_fixed s w f (kind_of-OneTruth f truth h).0
+
+-- the symbol has a width
+abbrev pub Known : List ℕ → SymId → Type 0
+Known widths s = (w : ℕ) × (slice_get widths s.0 ≡ Some w)
+
+only_on-first : (o : Option SymId) (atoms : List Atom) (s : SymId) → only_on o atoms ≡ Some s → o ≡ Some s
+only_on-first None atoms s h = cc
+only_on-first (Some r) atoms s h = let both = chosen-Some (list_all (is_on r) atoms) r s h in ap Some both.1
+
+-- a simple formula has an atom that is single on its symbol
+simple_first : (f : FormulaTree) (s : SymId) → kind_of f ≡ Simple s → first_single (atoms_of f) ≡ Some s
+simple_first f s h =
+    only_on-first (first_single (atoms_of f)) (atoms_of f) s
+    (chosen-Simple (list_all is_constant (atoms_of f)) (truth_at f []) (only_symbol (atoms_of f)) (list_any is_hard (atoms_of f)) s h)
+
+single_first : (k : AtomKind) (s : SymId) → single_or k None ≡ Some s → k ≡ Single s
+single_first Constant s h = cc
+single_first (Single r) s h = cc
+single_first Pair s h = cc
+single_first Outside s h = cc
+
+one_of : {A B C : Type 0} → A ⊎ B → (A → C) → (B → C) → C
+one_of (inl a) f g = f a
+one_of (inr b) f g = g b
+
+kind_first : (k : AtomKind) (left both right : Option SymId) (s : SymId) → (both ≡ Some s → (left ≡ Some s) ⊎ (right ≡ Some s)) → single_or k both ≡ Some s → (single_or k left ≡ Some s) ⊎ (right ≡ Some s)
+kind_first Constant left both right s go h = go h
+kind_first (Single r) left both right s go h = inl h
+kind_first Pair left both right s go h = go h
+kind_first Outside left both right s go h = go h
+
+first_append : (xs ys : List Atom) (s : SymId) → first_single (xs ++ ys) ≡ Some s → (first_single xs ≡ Some s) ⊎ (first_single ys ≡ Some s)
+first_append [] ys s h = inr h
+first_append (x ∷ xs) ys s h = kind_first x.0 (first_single xs) (first_single (xs ++ ys)) (first_single ys) s (first_append xs ys s) h
+
+comparison_known : (widths : List ℕ) (s : SymId) (a b : LinearTerm) → comparison_kind a b ≡ Single s → (a.width ≡ b.width) × TermIsTyped widths a × TermIsTyped widths b → Known widths s
+comparison_known widths s a b single typed = elim (comparison_kind-Single a b s single) [
+  | inl p ↦ (b.width, typed_symbol widths b s typed.2 p.1)
+  | inr p ↦ (a.width, typed_symbol widths a s typed.1 p.0)
+]
+
+mutual
+  first_known : (widths : List ℕ) (s : SymId) (f : FormulaTree) → first_single (atoms_of f) ≡ Some s → IsTyped widths f → Known widths s
+  first_known widths s (always truth) h typed = absurd (none-some s h)
+  first_known widths s (compared rel a b) h typed = comparison_known widths s a b (single_first (comparison_kind a b) s h) typed
+  first_known widths s (belongs t set) h typed = (t.width, typed_symbol widths t s typed.1 (membership_kind-Single t s (single_first (membership_kind t) s h)))
+  first_known widths s (all_of fs) h typed = among_known widths s fs h typed
+  first_known widths s (any_of fs) h typed = among_known widths s fs h typed
+  first_known widths s (opposite f) h typed = first_known widths s f h typed
+
+  among_known : (widths : List ℕ) (s : SymId) (fs : Formulas) → first_single (atoms_among fs) ≡ Some s → AreTyped widths fs → Known widths s
+  among_known widths s no_formulas h typed = absurd (none-some s h)
+  among_known widths s (formula f fs) h typed =
+      one_of (first_append (atoms_of f) (atoms_among fs) s h) (λ e. first_known widths s f e typed.0) (λ e. among_known widths s fs e typed.1)
+
+-- a typed formula is simple on a symbol that has a width
+pub simple_known : (f : FormulaTree) (s : SymId) (widths : List ℕ) → kind_of f ≡ Simple s → IsTyped widths f → Known widths s
+simple_known f s widths h typed = first_known widths s f (simple_first f s h) typed

@@ -39,3 +39,10 @@ pub fn a_simple_formula_is_over_its_symbol()
         → kind_of f ≡ Kind.Simple symbol → IsTyped widths f → slice_get widths symbol.0 ≡ Some width
         → IsOver symbol width f }
 {}
+
+/// A typed formula is simple on a symbol that has a width.
+pub fn a_simple_formula_has_a_known_symbol()
+    ensures { (f : FormulaTree) (symbol : SymId) (widths : List ℕ)
+        → kind_of f ≡ Kind.Simple symbol → IsTyped widths f
+        → (width : ℕ) × (slice_get widths symbol.0 ≡ Some width) }
+{}
