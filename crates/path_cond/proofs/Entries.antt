@@ -1,5 +1,5 @@
 -- Formulas of a condition, one by one.
-use Rattle.std.proofs.Common.{◌≡◌, ℕ, zero, suc, ◌+◌, ◌<◌, ◌≤◌, Bool, true, false, cond, ◌&&◌, List, [], ◌∷◌, ◌++◌, length, take, drop, Option, Some, None, refl, sym, ap, ap₂, ◌∙◌, subst, arith, nat_eq}
+use Rattle.std.proofs.Common.{◌≡◌, ℕ, zero, suc, ◌+◌, ◌<◌, Bool, true, false, cond, ◌&&◌, List, [], ◌∷◌, ◌++◌, length, take, drop, Option, Some, None, refl, sym, ap, ap₂, ◌∙◌, subst, arith}
 use Rattle.std.specs.Prelude.{slice_get, reverse, IfSome, ◌^◌}
 use Rattle.std.specs.List.{list_all, position_from}
 use Rattle.std.proofs.lemmas.Bool.{eqb-true, lt-ltb}
@@ -105,7 +105,7 @@ pub narrow_step : (s : SymId) (w : ℕ) (xs : List Entry) (i : ℕ) (set next : 
 narrow_step s w xs i set next lt hs hn = narrow_to s w xs i set next (slice_get xs i) refl lt hs hn
 
 -- a kind that is simple on the symbol
-kind_simple : (s : SymId) (k : Kind) → is_simple_on s k ≡ true → k ≡ Simple s
+pub kind_simple : (s : SymId) (k : Kind) → is_simple_on s k ≡ true → k ≡ Simple s
 kind_simple s (Constant b) h = cc
 kind_simple s (Simple r) h = let same : r.0 ≡ s.0 = eqb-true r.0 s.0 h in λ i. Simple (record { 0 = same i })
 kind_simple s Inside h = cc

@@ -9,7 +9,8 @@ ghost use Rattle.path_formula.specs.View.{view};
 use crate::domain::{all_hold, solutions_in};
 use crate::kept::{broken_with, simple_with};
 use crate::sequence::Sequence;
-use path_formula::{Formula, laws};
+use path_formula::Formula;
+use path_formula::laws::a_simple_formula_is_over_its_symbol;
 use sn_ranges::Ranges;
 use sn_tree::{Shared, Tree};
 use sn_width::{NoMemory, Num, SymId, Width};
@@ -44,7 +45,7 @@ impl Model for PathCond {
 }
 
 impl PathCond {
-    ghost use Rattle.path_cond.specs.Conditions.{Condition, first_broken, holds_at, in_domain, simple_picks};
+    ghost use Rattle.path_cond.specs.Conditions.{AllTyped, Condition, first_broken, holds_at, in_domain, simple_picks};
 
     /// The condition without formulas over symbols of these widths.
     pub fn new(alloc: Global, widths: Vec<Width>) -> Result<PathCond, NoMemory>
@@ -162,11 +163,18 @@ impl PathCond {
         ensures { IfOk result (IsSetOf (slice_index self.now.widths symbol.0)
             (λ x. fits_width (slice_index self.now.widths symbol.0) x && in_domain symbol self.now x)) }
     {
-        laws::a_simple_formula_is_over_its_symbol();
+        a_simple_formula_is_over_its_symbol();
         match self.width(symbol) {
             None => unreachable!(),
             Some(width) => solutions_in(alloc, &self.entries, symbol, width),
         }
+    }
+
+    /// Says that each formula is typed over the symbols. It does nothing.
+    pub fn formulas_are_typed(&self)
+        ensures { AllTyped self.now.widths self.now.entries }
+    {
+        let _entries = &self.entries;
     }
 
     /// The least pick of a constant formula that has not the truth that it must have.

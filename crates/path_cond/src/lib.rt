@@ -4,6 +4,7 @@
 mod condition;
 mod domain;
 mod kept;
+pub mod laws;
 mod sequence;
 #[cfg(test)]
 mod tests;
