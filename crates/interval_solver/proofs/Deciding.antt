@@ -1,12 +1,12 @@
 -- What domains decide.
-use Rattle.std.proofs.Common.{◌≡◌, ℕ, zero, suc, ◌+◌, ◌<◌, ◌≤◌, Bool, true, false, cond, not, ◌&&◌, ◌||◌, List, [], ◌∷◌, ◌++◌, length, Option, Some, None, ◌⊎◌, inl, inr, refl, sym, ap, ap₂, ◌∙◌, subst, arith, nat_eq, nat_lt, ◌↔◌}
+use Rattle.std.proofs.Common.{◌≡◌, ℕ, zero, suc, ◌+◌, ◌<◌, Bool, true, false, cond, not, ◌&&◌, List, [], ◌∷◌, ◌++◌, length, Option, Some, None, inl, inr, refl, sym, ap, ◌∙◌, subst, arith, nat_eq, nat_lt, ◌↔◌}
 use Rattle.std.specs.Prelude.{slice_get, slice_index, ◌^◌}
 use Rattle.std.specs.List.{list_all, position_from}
 use Rattle.std.proofs.lemmas.Bool.{lt-ltb, ltb-true, le-leb, eq-eqb, eqb-true, cases_lt}
 use Rattle.std.proofs.lemmas.Option.{slice_get_within, slice_get-get_or}
 use Rattle.std.proofs.Math.ListN.{get_or-append}
 use Rattle.std.proofs.Math.Seq.{get_or-append_seam}
-use Rattle.sn_ranges.specs.Ranges.{Range, RangeSet, IsSetOf, IsCanonical, IsLeast, in_range, is_member, fits_width}
+use Rattle.sn_ranges.specs.Ranges.{Range, RangeSet, IsCanonical, IsLeast, in_range, is_member, fits_width}
 use Rattle.sn_width.specs.Width.{FitsWidth}
 use Rattle.sn_width.specs.declared.ids.SymId.{SymId}
 use Rattle.path_formula.specs.Formulas.{FormulaTree, truth_at}
@@ -16,11 +16,11 @@ use Rattle.path_formula.specs.View.{view}
 use Rattle.path_formula.specs.declared.kinds.Kind.{Kind}
 use Rattle.path_formula.specs.declared.kinds.Kind.TheVariants.{Constant, Simple, Inside, Outside}
 use Rattle.path_cond.specs.Conditions.{Condition, Entry, meets, entry_holds, is_entry_on, is_simple_on, is_broken, is_broken_kind, first_broken, holds_at, in_domain}
-use Rattle.interval_solver.specs.Domains.{is_possible, IsDomainOf, AreDomainsOf, is_empty, first_empty}
+use Rattle.interval_solver.specs.Domains.{IsDomainOf, AreDomainsOf, first_empty}
 use Rattle.interval_solver.specs.Verdicts.{AreFitting, IsPossible, IsLeastPossible, AreLeastOfFirst, AreLeastValues, IsFirstWithoutValue, IsWithoutValue, IsVerdictOn, is_refuting, is_false, is_empty_verdict, is_settled, holds_if_settled}
 use Rattle.interval_solver.specs.declared.decide.SimpleVerdict.{SimpleVerdict}
 use Rattle.interval_solver.specs.declared.decide.SimpleVerdict.TheVariants.{Values, False, Empty}
-use Rattle.interval_solver.proofs.Firsts.{IsFirstAt, filled, first_found}
+use Rattle.interval_solver.proofs.Firsts.{IsFirstAt, filled}
 use Rattle.interval_solver.proofs.Meeting.{no_members, length_more}
 
 and_second : (a b : Bool) → a && b ≡ true → b ≡ true

@@ -1,22 +1,21 @@
 -- Domains of a condition after one formula or one symbol more.
-use Rattle.std.proofs.Common.{◌≡◌, ℕ, zero, suc, ◌+◌, ◌-◌, ◌<◌, ◌≤◌, Bool, true, false, cond, ◌&&◌, List, [], ◌∷◌, ◌++◌, length, Option, Some, None, Result, Ok, Err, IfOk, ◌⊎◌, inl, inr, refl, sym, ap, ap₂, ◌∙◌, subst, arith, nat_eq}
-use Rattle.std.specs.Prelude.{slice_get, slice_index, unwrap_or, ◌^◌}
+use Rattle.std.proofs.Common.{◌≡◌, ℕ, zero, suc, ◌+◌, ◌<◌, ◌≤◌, Bool, true, false, cond, ◌&&◌, List, [], ◌∷◌, ◌++◌, length, Some, Result, Ok, Err, IfOk, ◌⊎◌, inl, inr, refl, sym, ap, ap₂, ◌∙◌, subst, arith, nat_eq}
+use Rattle.std.specs.Prelude.{slice_get, slice_index, ◌^◌}
 use Rattle.std.specs.List.{list_all}
 use Rattle.std.proofs.lemmas.Bool.{cases_eq, eqb-true, eq-eqb, ne_eqb, lt-ltb}
 use Rattle.std.proofs.lemmas.List.Folds.{list_all-append}
-use Rattle.std.proofs.lemmas.Option.{slice_get_within, same_Some}
+use Rattle.std.proofs.lemmas.Option.{slice_get_within, slice_get-get_or, same_Some}
 use Rattle.std.proofs.Math.ListN.{set, get_or-append}
 use Rattle.std.proofs.Math.Seq.{get_or-append_seam}
 use Rattle.sn_ranges.specs.Laws.{OneListForEachSet}
-use Rattle.sn_ranges.specs.Ranges.{Range, RangeSet, IsSetOf, IsCanonical, in_range, is_member, fits_width, AscendFrom}
+use Rattle.sn_ranges.specs.Ranges.{Range, RangeSet, IsSetOf, is_member, fits_width}
 use Rattle.sn_width.specs.declared.ids.SymId.{SymId}
 use Rattle.path_formula.specs.Formulas.{truth_at}
 use Rattle.path_formula.specs.Kinds.{kind_of}
 use Rattle.path_formula.specs.Solutions.{agrees, alone}
 use Rattle.path_formula.specs.View.{view}
-use Rattle.path_formula.specs.declared.kinds.Kind.{Kind}
-use Rattle.path_formula.specs.declared.kinds.Kind.TheVariants.{Constant, Simple, Inside, Outside}
-use Rattle.path_cond.specs.Conditions.{Condition, Entry, meets, entry_holds, is_entry_on, is_simple_on, in_domain, picks_from, simple_picks}
+use Rattle.path_formula.specs.declared.kinds.Kind.TheVariants.{Simple}
+use Rattle.path_cond.specs.Conditions.{Condition, Entry, meets, entry_holds, is_entry_on, is_simple_on, in_domain, picks_from, simple_picks, AllTyped}
 use Rattle.interval_solver.specs.Domains.{is_possible, IsDomainOf, AreDomainsOf, AreDomainsOfFirst, AreDomainsBefore, AreDomainsBeforeLast, is_empty, with_width}
 
 pub true_or_false : (b : Bool) → (b ≡ true) ⊎ (b ≡ false)
@@ -223,11 +222,24 @@ domains_wider path sets width next all d none =
       domains = domains_more (with_width path width) sets next (length path.widths) d.count old new;
     }
 
-pub domains_wider_ok : {E : Type 0} (out : Result (List RangeSet) E) (sets : List RangeSet) (width : ℕ) (next : RangeSet) → IsSetOf width (λ x. fits_width width x && true) next
+-- the law of conditions, as it is handed on
+abbrev pub NoneUnknown : Type 0
+NoneUnknown = (path : Condition) (s : SymId) → AllTyped path.widths path.entries → length path.widths ≤ s.0 → simple_picks s path ≡ []
+
+pub domains_wider_ok : {E : Type 0} (law : NoneUnknown) (out : Result (List RangeSet) E) (sets : List RangeSet) (width : ℕ) (next : RangeSet) → IsSetOf width (λ x. fits_width width x && true) next
     → IfOk out (λ longer. longer ≡ sets ++ next ∷ [])
-    → IfOk out (λ longer. (path : Condition) → AreDomainsOf path sets → simple_picks (record { 0 = length path.widths }) path ≡ [] → AreDomainsOf (with_width path width) longer)
-domains_wider_ok (Ok longer) sets width next all is = λ path d none. subst (AreDomainsOf (with_width path width)) (sym is) (domains_wider path sets width next all d none)
-domains_wider_ok (Err e) sets width next all is = tt
+    → IfOk out (λ longer. (path : Condition) → AreDomainsOf path sets → AllTyped path.widths path.entries → AreDomainsOf (with_width path width) longer)
+domains_wider_ok law (Ok longer) sets width next all is = λ path d typed.
+    subst (AreDomainsOf (with_width path width)) (sym is) (domains_wider path sets width next all d (law path (record { 0 = length path.widths }) typed (omega arith)))
+domains_wider_ok law (Err e) sets width next all is = tt
+
+-- the width of a symbol whose domain is found
+pub width_there : (path : Condition) (sets : List RangeSet) (e : Entry) → AreDomainsBefore path sets e → (s : SymId) (found : RangeSet) → slice_get sets s.0 ≡ Some found → slice_get path.widths s.0 ≡ Some found.width
+width_there path sets e before s found at =
+    let within : s.0 < length sets = slice_get_within sets s.0 found at in
+    let count = before.domains.count in
+    let width = (before.domains.domains s found at).same_width in
+    slice_get-get_or path.widths s.0 0 (omega arith) ∙ ap Some (sym width)
 
 -- a condition has one list of domains
 same_lists : (xs ys : List RangeSet) → length xs ≡ length ys → ((i : ℕ) (x y : RangeSet) → slice_get xs i ≡ Some x → slice_get ys i ≡ Some y → x ≡ y) → xs ≡ ys

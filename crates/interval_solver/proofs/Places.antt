@@ -1,13 +1,11 @@
 -- Maps from places.
-use Rattle.std.proofs.Common.{◌≡◌, ℕ, zero, suc, ◌+◌, ◌<◌, ◌≤◌, List, [], ◌∷◌, ◌++◌, length, map, Option, Some, None, refl, sym, ap, ap₂, ◌∙◌, subst, arith}
+use Rattle.std.proofs.Common.{◌≡◌, ℕ, zero, suc, ◌+◌, ◌<◌, List, [], ◌∷◌, ◌++◌, length, refl, sym, ap, ap₂, ◌∙◌, subst, arith}
 use Rattle.std.specs.Prelude.{slice_get}
 use Rattle.std.specs.Ordering.{nat_cmp}
 use Rattle.std.proofs.Math.ListN.{set}
 use Rattle.std.proofs.lemmas.Bool.{eq-eqb, ne_eqb, lt-ltb, le-ltb}
-use Rattle.std.specs.declared.cmp.Ordering.{Ordering}
 use Rattle.std.specs.declared.cmp.Ordering.TheVariants.{Less, Equal, Greater}
-use Rattle.sn_tree.specs.Ends.{first}
-use Rattle.sn_tree.specs.Pairs.{pairs_before, pairs_at, pairs_after, value_at, pairs_with}
+use Rattle.sn_tree.specs.Pairs.{pairs_before, pairs_after, value_at, pairs_with}
 use Rattle.path_cond.specs.Numbered.{CountsFrom, IsNumbered, values_of}
 
 nat_cmp-lt : (x y : ℕ) → x < y → nat_cmp x y ≡ Less

@@ -1,5 +1,5 @@
 -- What the simple formulas of a condition decide.
-use Rattle.std.specs.Prelude.{◌≡◌, ℕ, ◌<◌, ◌≤◌, nat_lt, Bool, true, false, if◌then◌else◌, List, Option, Some, None, length, slice_get, slice_index}
+use Rattle.std.specs.Prelude.{◌≡◌, ℕ, ◌<◌, ◌≤◌, nat_lt, Bool, true, false, if◌then◌else◌, List, Some, None, length, slice_get, slice_index}
 use Rattle.sn_width.specs.Width.{FitsWidth}
 use Rattle.sn_width.specs.declared.ids.SymId.{SymId}
 use Rattle.path_formula.specs.Kinds.{kind_of}

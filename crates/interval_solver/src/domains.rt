@@ -5,14 +5,17 @@ ghost use Rattle.std.specs.Option.{option_map};
 ghost use Rattle.sn_ranges.specs.Ranges.{RangeSet, IsSetOf, fits_width};
 ghost use Rattle.sn_width.specs.declared.ids.SymId.{SymId as Symbol};
 ghost use Rattle.path_formula.specs.Kinds.{kind_of};
+ghost use Rattle.path_formula.specs.Typed.{IsTyped};
 ghost use Rattle.path_formula.specs.View.{view as tree_of};
 ghost use Rattle.path_formula.specs.declared.kinds.Kind.{Kind as FormulaKind};
 ghost use Rattle.path_formula.specs.declared.kinds.Kind.TheVariants.{Simple as SimpleKind};
-ghost use Rattle.path_cond.specs.Conditions.{Condition, simple_picks};
+ghost use Rattle.path_cond.specs.Conditions.{AllTyped, Condition};
 
 use crate::empty::{after_change, after_push};
 use crate::sets::Sets;
 use path_cond::PathCond;
+use path_cond::laws::{each_formula_is_typed, no_formula_is_simple_on_an_unknown_symbol};
+use path_formula::laws::a_simple_formula_is_over_its_symbol;
 use path_formula::{Formula, Kind};
 use sn_ranges::Ranges;
 use sn_width::{NoMemory, SymId, Width};
@@ -70,6 +73,8 @@ impl Domains {
         requires { AreDomainsBeforeLast cond.now self.now }
         ensures { IfOk result (AreDomainsOf cond.now) }
     {
+        cond.formulas_are_typed();
+        each_formula_is_typed();
         let Ok(pick) = u32::try_from(cond.len() - 1) else {
             return Err(NoMemory);
         };
@@ -87,7 +92,8 @@ impl Domains {
         formula: &Formula,
         holds: bool,
     ) -> Result<Domains, NoMemory>
-        requires { AreDomainsBefore cond.now self.now (formula.now, holds) }
+        requires before { AreDomainsBefore cond.now self.now (formula.now, holds) }
+        requires typed { IsTyped cond.now.widths (tree_of formula.now) }
         ensures { IfOk result (AreDomainsOf cond.now) }
     {
         match formula.kind() {
@@ -108,6 +114,7 @@ impl Domains {
         symbol: SymId,
     ) -> Result<Domains, NoMemory>
         requires before { AreDomainsBefore cond.now self.now (formula.now, holds) }
+        requires typed { IsTyped cond.now.widths (tree_of formula.now) }
         requires simple { kind_of (tree_of formula.now) ≡ SimpleKind symbol }
         ensures { IfOk result (AreDomainsOf cond.now) }
     {
@@ -117,11 +124,8 @@ impl Domains {
         if set.is_empty() {
             return self.fork();
         }
+        a_simple_formula_is_over_its_symbol();
         let width = set.width();
-        if !formula.is_over(symbol, width) {
-            // Not met: a condition's formulas are over its symbols, each with its width.
-            return Domains::of(alloc, cond);
-        }
         let more = formula.solutions(alloc, symbol, width, holds)?;
         let met = set.meet(alloc, &more)?;
         self.with(alloc, symbol, met)
@@ -130,9 +134,9 @@ impl Domains {
     /// The domains of the condition whose domains these are, with one symbol of this width more.
     pub fn with_symbol(&self, alloc: Global, width: Width) -> Result<Domains, NoMemory>
         ensures { IfOk result (λ next. (cond : Condition) → AreDomainsOf cond self.now
-            → simple_picks (record { 0 = length cond.widths }) cond ≡ []
-            → AreDomainsOf (with_width cond width) next) }
+            → AllTyped cond.widths cond.entries → AreDomainsOf (with_width cond width) next) }
     {
+        no_formula_is_simple_on_an_unknown_symbol();
         let all = all_values(alloc, width)?;
         self.push(alloc, all)
     }
