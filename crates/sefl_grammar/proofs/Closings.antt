@@ -1,5 +1,6 @@
 -- Each stack can be led to an end.
-use Rattle.std.proofs.Common.{◌≡◌, ℕ, ◌&&◌, Bool, true, false, List, [], ◌∷◌, ◌++◌, None, Some, codes, refl, sym, true≢false}
+use Rattle.std.proofs.Common.{◌≡◌, ℕ, Bool, true, false, List, [], ◌∷◌, ◌++◌, None, Some, codes, refl, sym, true≢false}
+use Rattle.std.proofs.lemmas.Bool.{and_parts}
 use Rattle.std.specs.List.{list_all}
 use Rattle.sefl_lex.specs.Words.{value_of, are_digits, have_value}
 use Rattle.sefl_lex.specs.declared.token.TokenKind.TheVariants as kind
@@ -146,20 +147,12 @@ ends_on In word ends plain = absurd (true≢false (sym ends))
 ends_on Else word ends plain = absurd (true≢false (sym ends))
 ends_on At word ends plain = absurd (true≢false (sym ends))
 
-pub and_left : (a b : Bool) → a && b ≡ true → a ≡ true
-and_left true b h = refl
-and_left false b h = h
-
-pub and_right : (a b : Bool) → a && b ≡ true → b ≡ true
-and_right true b h = h
-and_right false b h = absurd (true≢false (sym h))
-
 -- a plain word is not for what may end
 pub skips : (ends rest : List Symbol) (word : Word) → list_all may_end ends ≡ true → IsPlain word → step (ends ++ rest) word ≡ step rest word
 skips [] rest word all plain = refl
 skips (symbol ∷ ends) rest word all plain =
-    let here = and_left (may_end symbol) (list_all may_end ends) all in
-    rw (ends_on symbol word here plain, here) (skips ends rest word (and_right (may_end symbol) (list_all may_end ends) all) plain)
+    let here = (and_parts (may_end symbol) (list_all may_end ends) all).0 in
+    rw (ends_on symbol word here plain, here) (skips ends rest word (and_parts (may_end symbol) (list_all may_end ends) all).1 plain)
 
 -- some words end what the symbol stands for, but for what may end
 pub record Closes (symbol : Symbol) (rest : List Symbol) : Type 0 where

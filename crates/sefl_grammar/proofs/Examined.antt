@@ -1,12 +1,12 @@
 -- What is known behind some words of a text.
 use Rattle.std.proofs.Common.{◌≡◌, ℕ, zero, suc, ◌+◌, ◌<◌, Bool, true, false, List, [], ◌∷◌, ◌++◌, take, drop, length, Option, None, Some, slice_get, slice_index_or, if◌then◌else◌, refl, sym, ap, ◌∙◌, subst, true≢false, arith}
-use Rattle.std.proofs.lemmas.Option.{slice_get_within}
+use Rattle.std.proofs.lemmas.Option.{none-some, same_Some, slice_get_within}
 use Rattle.std.specs.List.{list_all}
 use Rattle.sefl_lex.specs.declared.token.Token.{Token}
 use Rattle.sefl_grammar.specs.Automaton.{Word, may_end, step, and_then, run, Accepts, IsUnexpected, is_deep, deep_here, deep_place}
 use Rattle.sefl_grammar.specs.Words.{IsFound, Takes, finding_of, or_later, place_if, word_at, words_of}
-use Rattle.sefl_grammar.proofs.Runs.{run_append, some_inj}
-use Rattle.sefl_grammar.proofs.Wells.{run_well, well_ends, some_differs}
+use Rattle.sefl_grammar.proofs.Runs.{run_append}
+use Rattle.sefl_grammar.proofs.Wells.{run_well, well_ends}
 use Rattle.sefl_grammar.specs.declared.symbol.Symbol.{Symbol}
 use Rattle.sefl_grammar.specs.declared.symbol.Symbol.TheVariants.{Start}
 
@@ -19,25 +19,13 @@ pub start_stands : (words : List Word) → Stands words 0 (Start ∷ []) None
 start_stands words = record { runs = refl; deeper = refl }
 
 take_more : (words : List Word) (place : ℕ) (word : Word) → slice_get words place ≡ Some word → take (suc place) words ≡ take place words ++ word ∷ []
-take_more [] place word is = absurd (none_differs is)
-  where
-    none_differs : {w : Word} → None ≡ Some w → ⊥
-    none_differs e = true≢false (ap (λ (o : Option Word). elim o [ None ↦ true | Some x ↦ false ]) e)
-take_more (first ∷ words) zero word is = ap (λ w. w ∷ []) (inj is)
-  where
-    inj : {v w : Word} → Some v ≡ Some w → v ≡ w
-    inj {v} e = ap (λ (o : Option Word). elim o [ None ↦ v | Some x ↦ x ]) e
+take_more [] place word is = absurd (none-some word is)
+take_more (first ∷ words) zero word is = ap (λ w. w ∷ []) (same_Some first word is)
 take_more (first ∷ words) (suc place) word is = ap (λ ws. first ∷ ws) (take_more words place word is)
 
 drop_at : (words : List Word) (place : ℕ) (word : Word) → slice_get words place ≡ Some word → drop place words ≡ word ∷ drop (suc place) words
-drop_at [] place word is = absurd (none_differs is)
-  where
-    none_differs : {w : Word} → None ≡ Some w → ⊥
-    none_differs e = true≢false (ap (λ (o : Option Word). elim o [ None ↦ true | Some x ↦ false ]) e)
-drop_at (first ∷ words) zero word is = ap (λ w. w ∷ words) (inj is)
-  where
-    inj : {v w : Word} → Some v ≡ Some w → v ≡ w
-    inj {v} e = ap (λ (o : Option Word). elim o [ None ↦ v | Some x ↦ x ]) e
+drop_at [] place word is = absurd (none-some word is)
+drop_at (first ∷ words) zero word is = ap (λ w. w ∷ words) (same_Some first word is)
 drop_at (first ∷ words) (suc place) word is = drop_at words place word is
 
 -- one word more
@@ -81,7 +69,7 @@ begun words stack runs =
 
 stuck : (words more : List Word) → run (Start ∷ []) words ≡ None → Accepts (words ++ more) → ⊥
 stuck words more runs accepts =
-    some_differs (sym (run_append (Start ∷ []) words more ∙ ap (λ s. and_then s (λ left. run left more)) runs) ∙ accepts.1)
+    none-some _ (sym (run_append (Start ∷ []) words more ∙ ap (λ s. and_then s (λ left. run left more)) runs) ∙ accepts.1)
 
 pub refused : (words : List Word) (place : ℕ) (stack : List Symbol) (deep : Option ℕ) (word : Word) → Stands words place stack deep → slice_get words place ≡ Some word
     → step stack word ≡ None → IsUnexpected words place
@@ -115,7 +103,7 @@ found_by words stack deep false may runs deeper = record {
   begun = subst (λ ws. (more : List Word) × Accepts (ws ++ more)) (sym (take_all words)) (begun words stack runs);
   stuck = λ h. absurd (omega (arith, h));
   unfinished = λ e accepts.
-      true≢false (sym (accepts.2) ∙ ap (list_all may_end) (some_inj (sym accepts.1 ∙ runs)) ∙ may);
+      true≢false (sym (accepts.2) ∙ ap (list_all may_end) (same_Some _ _ (sym accepts.1 ∙ runs)) ∙ may);
 }
 
 pub ended : (words : List Word) (stack : List Symbol) (deep : Option ℕ) (count : ℕ) → count ≡ length words → Stands words count stack deep → IsFound words (finding_of (list_all may_end stack) deep count)

@@ -1,8 +1,10 @@
 -- Runs over words, and stacks that can be led to an end.
 use Rattle.std.proofs.Common.{◌≡◌, ◌&&◌, ◌⊎◌, inl, inr, Bool, true, false, List, [], ◌∷◌, ◌++◌, Option, None, Some, refl, sym, ap, ◌∙◌}
+use Rattle.std.proofs.lemmas.Option.{same_Some}
+use Rattle.std.proofs.lemmas.Bool.{and_parts}
 use Rattle.std.specs.List.{list_all}
 use Rattle.sefl_grammar.specs.Automaton.{Word, may_end, step, and_then, run}
-use Rattle.sefl_grammar.proofs.Closings.{closing, is_inner, Closes, closes, Starts, starts, skips, and_left, and_right}
+use Rattle.sefl_grammar.proofs.Closings.{closing, is_inner, Closes, closes, Starts, starts, skips}
 use Rattle.sefl_grammar.specs.declared.symbol.Symbol.{Symbol}
 
 and_then_later : (s : Option (List Symbol)) (f g : List Symbol → Option (List Symbol)) → ((left : List Symbol) → f left ≡ g left) → and_then s f ≡ and_then s g
@@ -33,14 +35,7 @@ and_true false b h k = h
 
 pub all_append : (p : Symbol → Bool) (xs ys : List Symbol) → list_all p xs ≡ true → list_all p ys ≡ true → list_all p (xs ++ ys) ≡ true
 all_append p [] ys h k = k
-all_append p (x ∷ xs) ys h k = and_true (p x) _ (and_left (p x) (list_all p xs) h) (all_append p xs ys (and_right (p x) (list_all p xs) h) k)
-
-pub some_inj : {a b : List Symbol} → Some a ≡ Some b → a ≡ b
-some_inj e = ap (λ o. unwrapped o) e
-  where
-    unwrapped : Option (List Symbol) → List Symbol
-    unwrapped None = []
-    unwrapped (Some xs) = xs
+all_append p (x ∷ xs) ys h k = and_true (p x) _ (and_parts (p x) (list_all p xs) h).0 (all_append p xs ys (and_parts (p x) (list_all p xs) h).1 k)
 
 -- behind what may end, the words of the stack below serve
 pub below_ends : (ends rest : List Symbol) → list_all may_end ends ≡ true → CanEnd rest → CanEnd (ends ++ rest)
@@ -48,7 +43,7 @@ below_ends ends rest all can = by can.none_or_plain
   where
     by : (can.words ≡ []) ⊎ Starts can.words → CanEnd (ends ++ rest)
     by (inl none) =
-        let same : rest ≡ can.left = some_inj (sym (ap (run rest) none) ∙ can.runs) in
+        let same : rest ≡ can.left = same_Some _ _ (sym (ap (run rest) none) ∙ can.runs) in
         record {
           words = [];
           none_or_plain = inl refl;
@@ -84,5 +79,5 @@ one_ends symbol rest false ends inner later = closed_ends symbol rest (closes sy
 pub inner_ends : (stack : List Symbol) → list_all is_inner stack ≡ true → CanEnd stack
 inner_ends [] h = record { words = []; none_or_plain = inl refl; left = []; runs = refl; may = refl }
 inner_ends (symbol ∷ rest) h =
-    one_ends symbol rest (may_end symbol) refl (and_left (is_inner symbol) (list_all is_inner rest) h)
-    (inner_ends rest (and_right (is_inner symbol) (list_all is_inner rest) h))
+    one_ends symbol rest (may_end symbol) refl (and_parts (is_inner symbol) (list_all is_inner rest) h).0
+    (inner_ends rest (and_parts (is_inner symbol) (list_all is_inner rest) h).1)

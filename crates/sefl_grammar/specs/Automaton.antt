@@ -1,4 +1,5 @@
--- The grammar of job texts, read word by word with a stack of what is to come.
+-- The grammar of job texts as an automaton, which takes word by word and has a stack of what is to come. A job is here
+-- what it accepts.
 use Rattle.std.specs.Prelude.{◌≡◌, ℕ, ◌<◌, ◌≤◌, suc, nat_le, nat_lt, Bool, true, false, List, [], ◌∷◌, ◌++◌, take, length, Option, None, Some, bytes_eq, if◌then◌else◌}
 use Rattle.std.specs.List.{list_all}
 use Rattle.sefl_lex.specs.Words.{value_of}
@@ -90,7 +91,7 @@ abbrev pub run : List Symbol → List Word → Option (List Symbol)
 run stack [] = Some stack
 run stack (word ∷ words) = and_then (step stack word) (λ left. run left words)
 
--- the words are those of a job
+-- the words are those of a job: all are taken, and nothing more has to come
 abbrev pub Accepts : List Word → Type 0
 Accepts words = (left : List Symbol) × (run (Start ∷ []) words ≡ Some left) × (list_all may_end left ≡ true)
 

@@ -14,7 +14,8 @@ use sefl_lex::{Token, TokenKind, number_value, token_text};
 use sn_width::NoMemory;
 use std::alloc::{AllocError, Global};
 
-/// What the tokens of a text are, by the grammar of jobs.
+/// What the tokens of a text are, by the automaton of this crate: the jobs that it accepts are meant
+/// to be those of the grammar of job texts, which is tested and not proved.
 #[derive(Clone, Copy, Debug, PartialEq, Eq)]
 pub enum Finding {
     /// A job with at most 64 constructs open at once: blocks, brackets, parentheses and `not`s.
@@ -62,7 +63,7 @@ fn noted(deep: Option<usize>, stack: &[Symbol], place: usize) -> Option<usize>
 {
     match deep {
         Some(place) => Some(place),
-        None => { if is_deep(stack) { Some(place) } else { None } }
+        None => is_deep(stack).then_some(place),
     }
 }
 

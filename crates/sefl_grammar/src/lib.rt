@@ -1,4 +1,4 @@
-//! The grammar of job texts.
+//! The grammar of job texts as an automaton, and where tokens leave it.
 #![tactic(auto)]
 
 mod behind;
