@@ -28,9 +28,9 @@ pub enum Cond {
     Not(Box<Cond>),
 }
 
-/// How the members of a chain are joined.
-#[derive(Clone, Copy)]
-enum Joint {
+/// How the members of a chain are joined: by `and`, or by `or`.
+#[derive(Clone, Copy, Debug, PartialEq, Eq)]
+pub enum Joint {
     All,
     Any,
 }

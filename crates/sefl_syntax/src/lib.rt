@@ -17,7 +17,7 @@ mod tests;
 mod text;
 mod thin;
 
-pub use cond::Cond;
+pub use cond::{Cond, Joint};
 pub use expr::{Expr, Sign};
 pub use instr::Instr;
 pub use job::{Ask, Job, RawField, RawInjection, RawPlace, fill, is_filled};
