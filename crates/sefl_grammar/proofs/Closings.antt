@@ -2,9 +2,10 @@
 use Rattle.std.proofs.Common.{◌≡◌, ℕ, Bool, true, false, List, [], ◌∷◌, ◌++◌, None, Some, codes, refl, sym, true≢false}
 use Rattle.std.proofs.lemmas.Bool.{and_parts}
 use Rattle.std.specs.List.{list_all}
-use Rattle.sefl_lex.specs.Words.{value_of, are_digits, have_value}
+use Rattle.sefl_lex.specs.Words.{value_of, is_number, are_digits, have_value}
 use Rattle.sefl_lex.specs.declared.token.TokenKind.TheVariants as kind
-use Rattle.sefl_grammar.specs.Automaton.{Word, behind, may_end, step, run}
+use Rattle.sefl_grammar.specs.Word.{Word, AreWords}
+use Rattle.sefl_grammar.specs.Automaton.{behind, may_end, step, run}
 use Rattle.sefl_grammar.specs.declared.symbol.Symbol.{Symbol}
 use Rattle.sefl_grammar.specs.declared.symbol.Symbol.TheVariants.{Start, Version, Nodes, OldNodes, Links, NodeBody, OldNodeBody, TableKind, Style, Codes, OldCodes, Block, OldBlock, Instrs, OldInstrs, Value, Ports, MorePorts, Target, Addr, AddrSign, Operand, SumTail, Test, NotEnd, TestTail, Relation, RangeTail, MoreRanges, Tags, Fields, Wheres, FieldTarget, FieldValue, Asks, Question, Side, With, Name, Number, Port, Offset, Width, Text, Semicolon, Colon, Dot, Equals, Arrow, OpenBrace, CloseParenthesis, CloseBracket, In, Else, At}
 
@@ -281,3 +282,62 @@ starts CloseBracket inner h = record { first = _; others = _; is = refl; plain =
 starts In inner h = record { first = _; others = _; is = refl; plain = record { sum = refl; opposite = refl; chain = refl; asks = refl } }
 starts Else inner h = record { first = _; others = _; is = refl; plain = record { sum = refl; opposite = refl; chain = refl; asks = refl } }
 starts At inner h = record { first = _; others = _; is = refl; plain = record { sum = refl; opposite = refl; chain = refl; asks = refl } }
+
+-- each of these words is one of its kind
+pub closing_words : (symbol : Symbol) → AreWords (closing symbol)
+unfolding is_number are_digits have_value
+closing_words Start = (refl, (refl, (refl, (refl, (refl, (refl, (refl, (refl, (refl, tt)))))))))
+closing_words Version = (refl, (refl, (refl, (refl, (refl, (refl, (refl, (refl, tt))))))))
+closing_words Nodes = (refl, (refl, (refl, (refl, (refl, (refl, tt))))))
+closing_words OldNodes = (refl, (refl, (refl, (refl, (refl, (refl, tt))))))
+closing_words Links = (refl, (refl, (refl, (refl, (refl, (refl, tt))))))
+closing_words NodeBody = (refl, (refl, (refl, (refl, (refl, tt)))))
+closing_words OldNodeBody = (refl, (refl, (refl, (refl, (refl, tt)))))
+closing_words TableKind = (refl, tt)
+closing_words Style = (refl, tt)
+closing_words Codes = (refl, tt)
+closing_words OldCodes = (refl, tt)
+closing_words Block = (refl, (refl, tt))
+closing_words OldBlock = (refl, (refl, tt))
+closing_words Instrs = (refl, tt)
+closing_words OldInstrs = (refl, tt)
+closing_words Value = (refl, tt)
+closing_words Ports = (refl, tt)
+closing_words MorePorts = (refl, tt)
+closing_words Target = (refl, (refl, (refl, (refl, tt))))
+closing_words Addr = (refl, tt)
+closing_words AddrSign = (refl, (refl, tt))
+closing_words Operand = (refl, tt)
+closing_words SumTail = tt
+closing_words Test = (refl, tt)
+closing_words NotEnd = tt
+closing_words TestTail = tt
+closing_words Relation = (refl, (refl, tt))
+closing_words RangeTail = (refl, tt)
+closing_words MoreRanges = (refl, tt)
+closing_words Tags = (refl, tt)
+closing_words Fields = (refl, tt)
+closing_words Wheres = (refl, tt)
+closing_words FieldTarget = (refl, (refl, (refl, (refl, tt))))
+closing_words FieldValue = (refl, tt)
+closing_words Asks = tt
+closing_words Question = (refl, (refl, (refl, (refl, (refl, (refl, tt))))))
+closing_words Side = (refl, tt)
+closing_words With = (refl, tt)
+closing_words Name = (refl, tt)
+closing_words Number = (refl, tt)
+closing_words Port = (refl, tt)
+closing_words Offset = (refl, tt)
+closing_words Width = (refl, tt)
+closing_words Text = (([], refl, refl), tt)
+closing_words Semicolon = (refl, tt)
+closing_words Colon = (refl, tt)
+closing_words Dot = (refl, tt)
+closing_words Equals = (refl, tt)
+closing_words Arrow = (refl, tt)
+closing_words OpenBrace = (refl, tt)
+closing_words CloseParenthesis = (refl, tt)
+closing_words CloseBracket = (refl, tt)
+closing_words In = (refl, tt)
+closing_words Else = (refl, tt)
+closing_words At = (refl, tt)

@@ -1,14 +1,33 @@
 -- What is known behind some words of a text.
-use Rattle.std.proofs.Common.{◌≡◌, ℕ, zero, suc, ◌+◌, ◌<◌, Bool, true, false, List, [], ◌∷◌, ◌++◌, take, drop, length, Option, None, Some, slice_get, slice_index_or, if◌then◌else◌, refl, sym, ap, ◌∙◌, subst, true≢false, arith}
+use Rattle.std.proofs.Common.{◌≡◌, ℕ, zero, suc, ◌+◌, ◌<◌, ◌≤◌, Bool, true, false, List, [], ◌∷◌, ◌++◌, take, drop, length, Option, None, Some, slice_get, slice_index_or, if◌then◌else◌, refl, sym, ap, ◌∙◌, subst, true≢false, arith}
 use Rattle.std.proofs.lemmas.Option.{none-some, same_Some, slice_get_within}
-use Rattle.std.specs.List.{list_all}
+use Rattle.std.specs.List.{All, list_all}
+use Rattle.std.proofs.lemmas.List.Elements.{All-head, All-tail}
+use Rattle.sefl_lex.specs.Reads.{IsTokenOf}
 use Rattle.sefl_lex.specs.declared.token.Token.{Token}
-use Rattle.sefl_grammar.specs.Automaton.{Word, may_end, step, and_then, run, Accepts, IsUnexpected, is_deep, deep_here, deep_place}
-use Rattle.sefl_grammar.specs.Words.{IsFound, Takes, finding_of, or_later, place_if, word_at, words_of}
+use Rattle.sefl_grammar.specs.Word.{Word, AreWords}
+use Rattle.sefl_grammar.specs.Automaton.{may_end, step, and_then, run, Accepts, is_deep, deep_here, deep_place}
+use Rattle.sefl_grammar.specs.Words.{Takes, finding_of, or_later, place_if, word_at, words_of}
 use Rattle.sefl_grammar.proofs.Runs.{run_append}
 use Rattle.sefl_grammar.proofs.Wells.{run_well, well_ends}
+use Rattle.sefl_grammar.specs.declared.examination.Finding.{Finding}
+use Rattle.sefl_grammar.specs.declared.examination.Finding.TheVariants.{Job, TooDeep, Unexpected}
 use Rattle.sefl_grammar.specs.declared.symbol.Symbol.{Symbol}
 use Rattle.sefl_grammar.specs.declared.symbol.Symbol.TheVariants.{Start}
+
+-- The automaton takes the words before the place, and some words lead them to an end; it does not take the word there, or
+-- the words end there and are not at an end.
+pub record Leaves (words : List Word) (place : ℕ) : Type 0 where
+  pub within : place ≤ length words
+  pub begun : (more : List Word) × AreWords more × Accepts (take place words ++ more)
+  pub stuck : place < length words → (more : List Word) → Accepts (take (suc place) words ++ more) → ⊥
+  pub unfinished : place ≡ length words → Accepts words → ⊥
+
+-- what the finding says of the automaton's run
+abbrev pub Decides : List Word → Finding → Type 0
+Decides words Job = Accepts words × (deep_place 0 (Start ∷ []) words ≡ None)
+Decides words (TooDeep place) = Accepts words × (deep_place 0 (Start ∷ []) words ≡ Some place)
+Decides words (Unexpected place) = Leaves words place
 
 -- before the word at the place: what is to come, and the first place that was too deep
 pub record Stands (words : List Word) (place : ℕ) (stack : List Symbol) (deep : Option ℕ) : Type 0 where
@@ -60,10 +79,11 @@ next_stands words place stack new deep word s is taken =
     next_place n = omega arith
 
 -- some words lead what stands behind the words to an end
-begun : (words : List Word) (stack : List Symbol) → run (Start ∷ []) words ≡ Some stack → (more : List Word) × Accepts (words ++ more)
+begun : (words : List Word) (stack : List Symbol) → run (Start ∷ []) words ≡ Some stack → (more : List Word) × AreWords more × Accepts (words ++ more)
 begun words stack runs =
     let ends = well_ends stack (run_well (Start ∷ []) words stack refl runs) in (
       ends.words,
+      ends.lexed,
       (ends.left, run_append (Start ∷ []) words ends.words ∙ ap (λ s. and_then s (λ left. run left ends.words)) runs ∙ ends.runs, ends.may),
     )
 
@@ -72,7 +92,7 @@ stuck words more runs accepts =
     none-some _ (sym (run_append (Start ∷ []) words more ∙ ap (λ s. and_then s (λ left. run left more)) runs) ∙ accepts.1)
 
 pub refused : (words : List Word) (place : ℕ) (stack : List Symbol) (deep : Option ℕ) (word : Word) → Stands words place stack deep → slice_get words place ≡ Some word
-    → step stack word ≡ None → IsUnexpected words place
+    → step stack word ≡ None → Leaves words place
 refused words place stack deep word s is taken =
     let within = slice_get_within words place word is in
     record {
@@ -95,23 +115,23 @@ later_none None = refl
 later_none (Some place) = refl
 
 found_by : (words : List Word) (stack : List Symbol) (deep : Option ℕ) (ends : Bool) → list_all may_end stack ≡ ends → run (Start ∷ []) words ≡ Some stack
-    → deep ≡ deep_place 0 (Start ∷ []) words → IsFound words (finding_of ends deep (length words))
+    → deep ≡ deep_place 0 (Start ∷ []) words → Decides words (finding_of ends deep (length words))
 found_by words stack None true may runs deeper = ((stack, runs, may), sym deeper)
 found_by words stack (Some place) true may runs deeper = ((stack, runs, may), sym deeper)
 found_by words stack deep false may runs deeper = record {
   within = omega arith;
-  begun = subst (λ ws. (more : List Word) × Accepts (ws ++ more)) (sym (take_all words)) (begun words stack runs);
+  begun = subst (λ ws. (more : List Word) × AreWords more × Accepts (ws ++ more)) (sym (take_all words)) (begun words stack runs);
   stuck = λ h. absurd (omega (arith, h));
   unfinished = λ e accepts.
       true≢false (sym (accepts.2) ∙ ap (list_all may_end) (same_Some _ _ (sym accepts.1 ∙ runs)) ∙ may);
 }
 
-pub ended : (words : List Word) (stack : List Symbol) (deep : Option ℕ) (count : ℕ) → count ≡ length words → Stands words count stack deep → IsFound words (finding_of (list_all may_end stack) deep count)
+pub ended : (words : List Word) (stack : List Symbol) (deep : Option ℕ) (count : ℕ) → count ≡ length words → Stands words count stack deep → Decides words (finding_of (list_all may_end stack) deep count)
 ended words stack deep count all s =
     let at_end : Stands words (length words) stack deep = subst (λ n. Stands words n stack deep) all s in
     let runs = sym (ap (run (Start ∷ [])) (take_all words)) ∙ at_end.runs in
     let deeper = sym (later_none deep) ∙ sym (ap (λ ws. or_later deep (deep_place (length words) stack ws)) (drop_all words)) ∙ at_end.deeper in
-    subst (λ n. IsFound words (finding_of (list_all may_end stack) deep n)) (sym all) (found_by words stack deep (list_all may_end stack) refl runs deeper)
+    subst (λ n. Decides words (finding_of (list_all may_end stack) deep n)) (sym all) (found_by words stack deep (list_all may_end stack) refl runs deeper)
 
 pub word_there : (text : List ℕ) (tokens : List Token) (place : ℕ) (d : Token) → place < length tokens → slice_get (words_of text tokens) place ≡ Some (word_at text (slice_index_or tokens place d))
 word_there text [] place d h = absurd (omega (arith, h))
@@ -129,3 +149,7 @@ is_taken false after new h t = absurd (true≢false (sym h))
 pub is_refused : (taken : Bool) (after : Option (List Symbol)) (new : List Symbol) → taken ≡ false → Takes taken after new → after ≡ None
 is_refused true after new h t = absurd (true≢false h)
 is_refused false after new h t = t
+
+pub are_words : (text : List ℕ) (tokens : List Token) → All (IsTokenOf text) tokens → AreWords (words_of text tokens)
+are_words text [] all = tt
+are_words text (token ∷ tokens) all = ((All-head (IsTokenOf text) token tokens all).word, are_words text tokens (All-tail (IsTokenOf text) token tokens all))

@@ -3,8 +3,9 @@ use Rattle.std.proofs.Common.{◌≡◌, ◌&&◌, ◌⊎◌, inl, inr, Bool, tr
 use Rattle.std.proofs.lemmas.Option.{same_Some}
 use Rattle.std.proofs.lemmas.Bool.{and_parts}
 use Rattle.std.specs.List.{list_all}
-use Rattle.sefl_grammar.specs.Automaton.{Word, may_end, step, and_then, run}
-use Rattle.sefl_grammar.proofs.Closings.{closing, is_inner, Closes, closes, Starts, starts, skips}
+use Rattle.sefl_grammar.specs.Word.{Word, AreWords}
+use Rattle.sefl_grammar.specs.Automaton.{may_end, step, and_then, run}
+use Rattle.sefl_grammar.proofs.Closings.{closing, closing_words, is_inner, Closes, closes, Starts, starts, skips}
 use Rattle.sefl_grammar.specs.declared.symbol.Symbol.{Symbol}
 
 and_then_later : (s : Option (List Symbol)) (f g : List Symbol → Option (List Symbol)) → ((left : List Symbol) → f left ≡ g left) → and_then s f ≡ and_then s g
@@ -21,9 +22,14 @@ run_append stack (word ∷ words) more =
     and_then_later (step stack word) _ _ (λ left. run_append left words more)
     ∙ sym (and_then_twice (step stack word) (λ left. run left words) (λ left. run left more))
 
+pub words_append : (words more : List Word) → AreWords words → AreWords more → AreWords (words ++ more)
+words_append [] more h k = k
+words_append (word ∷ words) more h k = (h.0, words_append words more h.1 k)
+
 -- the words end the stack; they are none, or begin with a plain word
 pub record CanEnd (stack : List Symbol) : Type 0 where
   pub words : List Word
+  pub lexed : AreWords words
   pub none_or_plain : (words ≡ []) ⊎ Starts words
   pub left : List Symbol
   pub runs : run stack words ≡ Some left
@@ -46,6 +52,7 @@ below_ends ends rest all can = by can.none_or_plain
         let same : rest ≡ can.left = same_Some _ _ (sym (ap (run rest) none) ∙ can.runs) in
         record {
           words = [];
+          lexed = tt;
           none_or_plain = inl refl;
           left = ends ++ rest;
           runs = refl;
@@ -54,6 +61,7 @@ below_ends ends rest all can = by can.none_or_plain
     by (inr begins) =
         record {
           words = can.words;
+          lexed = can.lexed;
           none_or_plain = inr begins;
           left = can.left;
           runs = ap (run (ends ++ rest)) begins.is ∙ ap (λ s. and_then s (λ left. run left begins.others)) (skips ends rest begins.first all begins.plain) ∙ sym (ap (run rest) begins.is) ∙ can.runs;
@@ -65,6 +73,7 @@ closed_ends symbol rest c begins later =
     let can = below_ends c.left rest c.may later in
     record {
       words = closing symbol ++ can.words;
+      lexed = words_append (closing symbol) can.words (closing_words symbol) can.lexed;
       none_or_plain = inr (record { first = begins.first; others = begins.others ++ can.words; is = ap (λ ws. ws ++ can.words) begins.is; plain = begins.plain });
       left = can.left;
       runs = run_append (symbol ∷ rest) (closing symbol) can.words ∙ ap (λ s. and_then s (λ left. run left can.words)) c.done ∙ can.runs;
@@ -77,7 +86,7 @@ one_ends symbol rest false ends inner later = closed_ends symbol rest (closes sy
 
 -- a stack without a sign behind a tag can be led to an end
 pub inner_ends : (stack : List Symbol) → list_all is_inner stack ≡ true → CanEnd stack
-inner_ends [] h = record { words = []; none_or_plain = inl refl; left = []; runs = refl; may = refl }
+inner_ends [] h = record { words = []; lexed = tt; none_or_plain = inl refl; left = []; runs = refl; may = refl }
 inner_ends (symbol ∷ rest) h =
     one_ends symbol rest (may_end symbol) refl (and_parts (is_inner symbol) (list_all is_inner rest) h).0
     (inner_ends rest (and_parts (is_inner symbol) (list_all is_inner rest) h).1)

@@ -7,9 +7,10 @@ use Rattle.sefl_lex.specs.Words.{value_of}
 use Rattle.sefl_lex.specs.declared.token.TokenKind.{TokenKind}
 use Rattle.sefl_lex.specs.declared.token.TokenKind.TheVariants as kind
 use Rattle.sefl_grammar.specs.Table.{Alternative, alternatives}
-use Rattle.sefl_grammar.specs.Automaton.{Word, find, first_of, by_kind, named, numbered, quoted, behind, may_end, chosen, step, and_then, run}
-use Rattle.sefl_grammar.proofs.Closings.{closing, closes, is_inner}
-use Rattle.sefl_grammar.proofs.Runs.{and_true, below_ends, all_append, inner_ends, run_append}
+use Rattle.sefl_grammar.specs.Word.{Word, AreWords}
+use Rattle.sefl_grammar.specs.Automaton.{find, first_of, by_kind, named, numbered, quoted, behind, may_end, chosen, step, and_then, run}
+use Rattle.sefl_grammar.proofs.Closings.{closing, closes, is_inner, closing_words}
+use Rattle.sefl_grammar.proofs.Runs.{and_true, below_ends, all_append, inner_ends, run_append, words_append}
 use Rattle.sefl_grammar.specs.declared.symbol.Symbol.{Symbol}
 use Rattle.sefl_grammar.specs.declared.symbol.Symbol.TheVariants.{Start, Version, Nodes, OldNodes, Links, NodeBody, OldNodeBody, TableKind, Style, Codes, OldCodes, Block, OldBlock, Instrs, OldInstrs, Value, Ports, MorePorts, Target, Addr, AddrSign, Operand, SumTail, Test, NotEnd, TestTail, Relation, RangeTail, MoreRanges, Tags, Fields, Wheres, FieldTarget, FieldValue, Asks, Question, Side, With, Name, Number, Port, Offset, Width, Text, Semicolon, Colon, Dot, Equals, Arrow, OpenBrace, CloseParenthesis, CloseBracket, In, Else, At}
 
@@ -379,6 +380,7 @@ outer_stays At h = absurd (true≢false h)
 -- some words end the stack
 pub record Ends (stack : List Symbol) : Type 0 where
   pub words : List Word
+  pub lexed : AreWords words
   pub left : List Symbol
   pub runs : run stack words ≡ Some left
   pub may : list_all may_end left ≡ true
@@ -386,12 +388,13 @@ pub record Ends (stack : List Symbol) : Type 0 where
 inner_or_not : (symbol : Symbol) (rest : List Symbol) (inner : Bool) → is_inner symbol ≡ inner → list_all is_inner rest ≡ true → Ends (symbol ∷ rest)
 inner_or_not symbol rest true is well =
     let can = inner_ends (symbol ∷ rest) (and_true (is_inner symbol) (list_all is_inner rest) is well) in
-    record { words = can.words; left = can.left; runs = can.runs; may = can.may }
+    record { words = can.words; lexed = can.lexed; left = can.left; runs = can.runs; may = can.may }
 inner_or_not symbol rest false is well =
     let c = closes symbol rest (outer_stays symbol is) in
     let can = below_ends c.left rest c.may (inner_ends rest well) in
     record {
       words = closing symbol ++ can.words;
+      lexed = words_append (closing symbol) can.words (closing_words symbol) can.lexed;
       left = can.left;
       runs = run_append (symbol ∷ rest) (closing symbol) can.words ∙ ap (λ s. and_then s (λ left. run left can.words)) c.done ∙ can.runs;
       may = can.may;
@@ -399,5 +402,5 @@ inner_or_not symbol rest false is well =
 
 -- each stack that comes up can be led to an end
 pub well_ends : (stack : List Symbol) → IsWell stack → Ends stack
-well_ends [] well = record { words = []; left = []; runs = refl; may = refl }
+well_ends [] well = record { words = []; lexed = tt; left = []; runs = refl; may = refl }
 well_ends (symbol ∷ rest) well = inner_or_not symbol rest (is_inner symbol) refl well

@@ -1,18 +1,13 @@
--- The grammar of job texts as an automaton, which takes word by word and has a stack of what is to come. A job is here
--- what it accepts.
-use Rattle.std.specs.Prelude.{◌≡◌, ℕ, ◌<◌, ◌≤◌, suc, nat_le, nat_lt, Bool, true, false, List, [], ◌∷◌, ◌++◌, take, length, Option, None, Some, bytes_eq, if◌then◌else◌}
+-- The automaton that decides the grammar: it takes word by word and has a stack of what is to come.
+use Rattle.std.specs.Prelude.{◌≡◌, ℕ, suc, nat_le, nat_lt, Bool, true, false, List, [], ◌∷◌, ◌++◌, Option, None, Some, bytes_eq, if◌then◌else◌}
 use Rattle.std.specs.List.{list_all}
 use Rattle.sefl_lex.specs.Words.{value_of}
 use Rattle.sefl_lex.specs.declared.token.TokenKind.{TokenKind}
 use Rattle.sefl_lex.specs.declared.token.TokenKind.TheVariants as kind
+use Rattle.sefl_grammar.specs.Word.{Word}
 use Rattle.sefl_grammar.specs.Table.{Alternative, alternatives}
 use Rattle.sefl_grammar.specs.declared.symbol.Symbol.{Symbol}
 use Rattle.sefl_grammar.specs.declared.symbol.Symbol.TheVariants.{Start, NodeBody, OldNodeBody, Codes, OldCodes, Instrs, OldInstrs, Value, Ports, MorePorts, Addr, AddrSign, Operand, SumTail, Test, NotEnd, TestTail, Relation, Asks, Name, Number, Port, Offset, Width, Text, OpenBrace, CloseParenthesis, CloseBracket, Arrow}
-
--- a token: its kind and its bytes
-pub record Word : Type 0 where
-  pub kind : TokenKind
-  pub text : List ℕ
 
 -- what is to come behind the first of these words that is this one
 abbrev pub find : List ℕ → List Alternative → Option (List Symbol)
@@ -91,17 +86,9 @@ abbrev pub run : List Symbol → List Word → Option (List Symbol)
 run stack [] = Some stack
 run stack (word ∷ words) = and_then (step stack word) (λ left. run left words)
 
--- the words are those of a job: all are taken, and nothing more has to come
+-- all words are taken, and nothing more has to come
 abbrev pub Accepts : List Word → Type 0
 Accepts words = (left : List Symbol) × (run (Start ∷ []) words ≡ Some left) × (list_all may_end left ≡ true)
-
--- Some job begins with the words before the place, none with the words up to it; and where the place is the end of
--- the words, they are no job.
-pub record IsUnexpected (words : List Word) (place : ℕ) : Type 0 where
-  pub within : place ≤ length words
-  pub begun : (more : List Word) × Accepts (take place words ++ more)
-  pub stuck : place < length words → (more : List Word) → Accepts (take (suc place) words ++ more) → ⊥
-  pub unfinished : place ≡ length words → Accepts words → ⊥
 
 -- the symbol ends a construct that is open: a block, a bracket, a parenthesis, or a `not`
 abbrev pub is_open : Symbol → Bool

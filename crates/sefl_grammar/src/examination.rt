@@ -14,8 +14,7 @@ use sefl_lex::{Token, TokenKind, number_value, token_text};
 use sn_width::NoMemory;
 use std::alloc::{AllocError, Global};
 
-/// What the tokens of a text are, by the automaton of this crate: the jobs that it accepts are meant
-/// to be those of the grammar of job texts, which is tested and not proved.
+/// What the tokens of a text are, by the grammar of job texts.
 #[derive(Clone, Copy, Debug, PartialEq, Eq)]
 pub enum Finding {
     /// A job with at most 64 constructs open at once: blocks, brackets, parentheses and `not`s.

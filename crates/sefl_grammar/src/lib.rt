@@ -1,9 +1,11 @@
-//! The grammar of job texts as an automaton, and where tokens leave it.
+//! The grammar of job texts, and where tokens leave it: a relation between words and jobs, decided by an
+//! automaton with a stack of one byte a symbol.
 #![tactic(auto)]
 
 mod behind;
 mod depth;
 mod examination;
+pub mod laws;
 mod stack;
 mod symbol;
 mod table;
