@@ -1,0 +1,11 @@
+pub mod Bodies
+pub mod Many
+pub mod Rooms
+pub mod Sums
+pub mod Taking
+pub mod LeavesRead
+pub mod TermsRead
+pub mod ConditionsRead
+pub mod InstructionsRead
+pub mod NetsRead
+pub mod Jobs

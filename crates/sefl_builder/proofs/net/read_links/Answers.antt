@@ -1,0 +1,9 @@
+use Rattle.std.proofs.Common.{rules}
+use Rattle.sefl_builder.specs.Nets.{goes_link, link}
+use Rattle.sefl_builder.proofs.Many.{many_next_same}
+use Rattle.sefl_builder.proofs.net.read_links.Goals as goal
+
+pub loop-preserved : goal.loop-preserved
+loop-preserved c =
+    many_next_same goes_link link c.loop.counter c.count-end.result c.loop.words c.read_link.new.words
+    c.loop.found.items c.push.new.self.items c.in_ok-item.item _ c.loop.invariant c.loop-test.true (search rules) (search rules) (search rules)

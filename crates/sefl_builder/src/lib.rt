@@ -1,0 +1,22 @@
+//! Makes a job of its words.
+#![tactic(auto)]
+
+mod ask;
+mod building;
+mod code;
+mod cond;
+mod cursor;
+mod expr;
+mod head;
+mod injection;
+mod job;
+pub mod laws;
+mod misread;
+mod net;
+mod reference;
+mod statement;
+#[cfg(test)]
+mod tests;
+mod version;
+
+pub use building::build;

@@ -1,0 +1,125 @@
+//! What texts are made into.
+
+use crate::build;
+use sefl_lex::tokens;
+use sefl_syntax::print_job;
+use std::test::Fail;
+
+/// A job in the first version of the text.
+const OLD: &str = "symnet 1; node in 1 -> 0x2 { in 0 { tag L3 = -5; untag L3; set head L3-4:8 = (1 +
+(global g:8)) - 2; if [not true] and $x:8 in {1..2, 3, 7..0} or [1 != 2 or true] { noop; { } } else {
+fork; fork 0, 1; } } out 0 { } } link in.0 -> in.1; inject in.0 { tag L3 = 5; field global g:8; field
+head 3:8 = 0x7; where true; } ask reach in in.0; ask invariant local l:1 at out a.1;";
+
+/// The same job in the second version.
+const OLD_AS_NEW: &str = "symnet 2;
+node in 1 -> 2 {
+  in 0 {
+    retag L3 = -5;
+    untag L3;
+    set head L3-4:8 = (1 + global g:8) - 2;
+    if not true and $x:8 in {1..2, 3, 7..0} or [1 != 2 or true] {
+      noop;
+      {
+      }
+    } else {
+      fork;
+      fork 0, 1;
+    }
+  }
+  out 0 {
+  }
+}
+link in.0 -> in.1;
+inject in.0 {
+  tag L3 = 5;
+  field global g:8;
+  field head 3:8 = 7;
+  where true;
+}
+ask reach in in.0;
+ask invariant local l:1 at out a.1;
+";
+
+/// A canonical text of the second version.
+const NEW: &str = "symnet 2;
+node set = mac \"set.mac\" egress;
+node f = fib \"f\" chain;
+node g = fib \"\" grouped;
+node b 0 -> 0 {
+  in 0 {
+    retag head = any+1;
+    tag not = 0;
+    allocate head -1:8;
+    deallocate local m:8;
+    set $v:8 = any;
+    set $v:8 = 1 - 2 + head true+0:128 - (3 + 4);
+    constrain 1 + 2 <= 3 and [$v:8 > 4 and 5 >= 6] and 7 < 8;
+    constrain not [not 1 == 2 or 3 != 4];
+    fail \"dead\";
+    for o in \"^opt\" {
+      forward 1;
+    }
+  }
+}
+inject b.0 {
+  field head L3+4:8;
+}
+ask visible head 0:8 at in b.0;
+ask reach out b.0 with 1 == 1;
+";
+
+fn printed(rt: &HostRuntime, text: &str) -> Result<String, Fail> {
+    let found = tokens(rt.alloc(), text).ok().ok_or("no tokens")?;
+    let job = build(rt.alloc(), text, &found)?.ok_or("no job")?;
+    Ok(print_job(rt.alloc(), &job)?)
+}
+
+#[test]
+fn jobs_are_made_of_their_texts(rt: HostRuntime) -> Result<(), Fail> {
+    for (text, canonical) in [(OLD, OLD_AS_NEW), (OLD_AS_NEW, OLD_AS_NEW), (NEW, NEW)] {
+        assert_eq!(rt; printed(&rt, text)?.as_str(), canonical);
+    }
+    Ok(())
+}
+
+/// Appends the text so many times.
+fn repeat(out: &mut String, text: &str, count: u32) -> Result<(), Fail> {
+    for _ in 0..count {
+        out.push_str(text)?;
+    }
+    Ok(())
+}
+
+/// A job with a test within so many parentheses.
+fn nested(rt: &HostRuntime, count: u32) -> Result<String, Fail> {
+    let mut text = String::from_str(rt.alloc(), "symnet 2; inject a.0 { where ")?;
+    repeat(&mut text, "(", count)?;
+    text.push_str("1")?;
+    repeat(&mut text, ")", count)?;
+    text.push_str(" == 1; }")?;
+    Ok(text)
+}
+
+#[test]
+fn parentheses_nest_to_64(rt: HostRuntime) -> Result<(), Fail> {
+    let text = nested(&rt, 64)?;
+    assert_eq!(rt;
+        printed(&rt, &text)?.as_str(),
+        "symnet 2;\ninject a.0 {\n  where 1 == 1;\n}\n"
+    );
+    let deeper = nested(&rt, 65)?;
+    let found = tokens(rt.alloc(), &deeper).ok().ok_or("no tokens")?;
+    assert!(rt; build(rt.alloc(), &deeper, &found)?.is_none());
+    Ok(())
+}
+
+#[test]
+fn a_long_job_is_made_in_one_pass(rt: HostRuntime) -> Result<(), Fail> {
+    let mut text = String::from_str(rt.alloc(), "symnet 2; inject a.0 { }")?;
+    repeat(&mut text, " ask reach in a.0 with 1 in {1, 2};", 20_000)?;
+    let found = tokens(rt.alloc(), &text).ok().ok_or("no tokens")?;
+    let job = build(rt.alloc(), &text, &found)?.ok_or("no job")?;
+    assert_eq!(rt; job.asks.len(), 20_000);
+    Ok(())
+}
