@@ -97,7 +97,7 @@ met_ranges vs s (r ∷ ranges) = ap₂ ◌||◌ (met_range vs s r) (met_ranges v
 fits_first : (x n : ℕ) (b : Bool) → x < n → (nat_lt x n && b) ≡ b
 fits_first x n b h = grind (arith, nat_tests)
 
-met_single : (vs : List ℕ) (s : SymId) (w : ℕ) (test : ℕ → Bool) → FitsWidth w (slice_index vs s.0) → is_one_met vs (single_cases s w test) ≡ test (slice_index vs s.0)
+pub met_single : (vs : List ℕ) (s : SymId) (w : ℕ) (test : ℕ → Bool) → FitsWidth w (slice_index vs s.0) → is_one_met vs (single_cases s w test) ≡ test (slice_index vs s.0)
 met_single vs s w test fits =
     met_ranges vs s (ranges_where w test) ∙ ranges_where-member w test (slice_index vs s.0) ∙ fits_first (slice_index vs s.0) (2 ^ w) (test (slice_index vs s.0)) fits
 

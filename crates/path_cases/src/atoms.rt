@@ -76,8 +76,12 @@ fn within(alloc: Global, symbol: SymId, range: (Num, Num)) -> Result<Vec<SymBoun
     Ok(case)
 }
 
-/// A case for each range of the set.
-fn each_range(alloc: Global, symbol: SymId, set: &Ranges) -> Result<Vec<Vec<SymBound>>, NoMemory>
+/// A case for each range of the set, whose values are of at most 64 bits: the symbol lies in it.
+pub fn range_cases(
+    alloc: Global,
+    symbol: SymId,
+    set: &Ranges,
+) -> Result<Vec<Vec<SymBound>>, NoMemory>
     requires { set.now.width ≤ 64 }
     ensures { IfOk result (λ cases. lists_of cases.items ≡ map (range_case symbol) set.now.pairs) }
 {
@@ -106,7 +110,7 @@ fn single(
         ≡ single_cases symbol width (λ x. agrees holds (truth_at (view atom.now) (alone symbol x)))) }
 {
     let set = atom.solutions(alloc, symbol, width, holds)?;
-    each_range(alloc, symbol, &set)
+    range_cases(alloc, symbol, &set)
 }
 
 /// The cases of the comparison that is this formula.

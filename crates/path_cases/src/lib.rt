@@ -12,6 +12,7 @@ mod splits;
 #[cfg(test)]
 mod tests;
 
+pub use atoms::range_cases;
 pub use bound::SymBound;
 pub use choices::cases;
 pub use count::case_count_of;

@@ -13,6 +13,6 @@ pub returns : goal.returns
 returns c =
     let test = λ (x : ℕ). agrees c.args.holds (truth_at (view c.args.atom.now) (alone c.args.symbol x)) in
     let is = ranges_where-set c.args.width test c.in_ok-set.set c.in_ok-set.ensures in
-    IfOk-weaker c.each_range.result (λ (cases : Vec (Vec SymBound Global) Global). lists_of cases.items ≡ map (range_case c.args.symbol) c.in_ok-set.set.pairs)
+    IfOk-weaker c.range_cases.result (λ (cases : Vec (Vec SymBound Global) Global). lists_of cases.items ≡ map (range_case c.args.symbol) c.in_ok-set.set.pairs)
     (λ (cases : Vec (Vec SymBound Global) Global). lists_of cases.items ≡ single_cases c.args.symbol c.args.width test)
-    (λ cases h. h ∙ ap (map (range_case c.args.symbol)) is) c.each_range.ensures
+    (λ cases h. h ∙ ap (map (range_case c.args.symbol)) is) c.range_cases.ensures

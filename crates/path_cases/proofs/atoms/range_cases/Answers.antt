@@ -3,7 +3,7 @@ use Rattle.std.proofs.lemmas.List.{map-append}
 use Rattle.path_cases.specs.Bounds.{lists_of, items_of}
 use Rattle.path_cases.specs.Cases.{range_case}
 use Rattle.path_cases.proofs.Sets.{ends_are_narrow, next_range}
-use Rattle.path_cases.proofs.atoms.each_range.Goals as goal
+use Rattle.path_cases.proofs.atoms.range_cases.Goals as goal
 
 pub within-requires-clause-first : goal.within-requires-clause-first
 within-requires-clause-first c =
