@@ -1,0 +1,4 @@
+pub mod Marking
+pub mod Counting
+pub mod Narrowing
+pub mod Narrowness

@@ -1,0 +1,4 @@
+pub mod Coupled
+pub mod Picks
+pub mod Counts
+pub mod Marks

@@ -1,0 +1,14 @@
+//! How many symbols the formulas of a condition couple, and how many choices of cases there are.
+#![tactic(auto)]
+
+mod count;
+mod coupled;
+pub mod laws;
+mod marks;
+mod picks;
+#[cfg(test)]
+mod tests;
+
+pub use count::{case_count, case_count_with};
+pub use coupled::{coupled_count, coupled_symbols, formula_count};
+pub use picks::{domain_of, values_meeting};
