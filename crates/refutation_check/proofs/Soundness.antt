@@ -1,0 +1,175 @@
+-- What is accepted refutes.
+use Rattle.std.proofs.Common.{◌≡◌, ℕ, zero, suc, ◌<◌, ◌^◌, ℤ, pos, ◌+ℤ◌, ◌-ℤ◌, ◌≤ℤ◌, Bool, true, false, cond, ◌&&◌, ◌||◌, List, [], ◌∷◌, ◌++◌, length, Option, Some, None, refl, sym, ap, ap₂, ◌∙◌, subst, arith}
+use Rattle.std.specs.Prelude.{slice_get, slice_index, int_le}
+use Rattle.std.specs.List.{list_all}
+use Rattle.std.proofs.lemmas.Bool.{eqb-true, lt-ltb}
+use Rattle.std.proofs.lemmas.Bool.Decides.{nat_tests}
+use Rattle.std.proofs.lemmas.Int.{ints}
+use Rattle.std.proofs.lemmas.List.Folds.{list_any-append}
+use Rattle.sn_width.specs.Width.{FitsWidth}
+use Rattle.sn_width.specs.declared.ids.SymId.{SymId}
+use Rattle.sn_ranges.specs.Ranges.{fits_width}
+use Rattle.path_formula.specs.Formulas.{FormulaTree, truth_at}
+use Rattle.path_formula.specs.Kinds.{kind_of}
+use Rattle.path_formula.specs.Solutions.{agrees, alone}
+use Rattle.path_formula.specs.Typed.{IsTyped}
+use Rattle.path_formula.specs.View.{view}
+use Rattle.path_formula.specs.declared.kinds.Kind.{Kind}
+use Rattle.path_formula.specs.declared.kinds.Kind.TheVariants.{Constant, Simple, Inside, Outside}
+use Rattle.path_cond.specs.Conditions.{Condition, Entry, AllTyped, entry_holds, holds_at, in_domain, is_entry_on, is_simple_on, meets}
+use Rattle.path_cases.specs.Bounds.{Case, AreValues, number, is_met, is_case_met, is_one_met}
+use Rattle.path_cases.specs.Cases.{cases_of, single_cases, with_bounds}
+use Rattle.path_cases.specs.Splits.{CanSplit}
+use Rattle.path_cases.specs.declared.bound.SymBound.{SymBound}
+use Rattle.case_counts.specs.Picks.{passes, is_simple_pick, pick_holds, are_simple_picks, meets_picks}
+use Rattle.refutation_check.specs.Accepted.{IsUnmeetable, Leaves, Refutes, IsAccepted}
+use Rattle.refutation_check.specs.Cycles.{IsWalk, at_most_of, total, IsNegativeCycle}
+use Rattle.refutation_check.specs.declared.steps.Refute.{Refute}
+use Rattle.refutation_check.specs.declared.steps.Refute.TheVariants.{Empty, Domain, Split, Cycle}
+use Rattle.refutation_check.proofs.Reducing.{reduced, reduced_fit, reduced_holds}
+
+-- the laws of lower crates, as they are handed on
+pub record Laws : Type 0 where
+  pub alone_is : (f : FormulaTree) (s : SymId) (values : List ℕ) → kind_of f ≡ Simple s → truth_at f values ≡ truth_at f (alone s (slice_index values s.0))
+  pub range_is : (s : SymId) (w : ℕ) (test : ℕ → Bool) (values : List ℕ) → FitsWidth w (slice_index values s.0) → is_one_met values (single_cases s w test) ≡ test (slice_index values s.0)
+  pub case_is : (f : FormulaTree) (holds : Bool) (widths values : List ℕ) → CanSplit f → IsTyped widths f → AreValues widths values → is_one_met values (cases_of f holds) ≡ agrees holds (truth_at f values)
+  pub more_is : (bounds : Case) (cases : List Case) (values : List ℕ) → is_one_met values (with_bounds cases bounds) ≡ (is_case_met values bounds && is_one_met values cases)
+  pub typed_is : (c : Condition) (pick : ℕ) (e : Entry) → AllTyped c.widths c.entries → slice_get c.entries pick ≡ Some e → IsTyped c.widths (view e.0)
+
+and_left : (a b : Bool) → (a && b) ≡ true → a ≡ true
+and_left true b h = refl
+and_left false b h = h
+
+and_right : (a b : Bool) → (a && b) ≡ true → b ≡ true
+and_right true b h = h
+and_right false b h = cc
+
+both : (a b : Bool) → a ≡ true → b ≡ true → (a && b) ≡ true
+both a b ha hb = ap₂ ◌&&◌ ha hb
+
+not_both : (b : Bool) → b ≡ true → b ≡ false → ⊥
+not_both b h k = cc
+
+-- the formula of a pick has the truth that it must have
+holds_pick : (values : List ℕ) (entries : List Entry) (i : ℕ) (e : Entry) → slice_get entries i ≡ Some e → list_all (entry_holds values) entries ≡ true → entry_holds values e ≡ true
+holds_pick values [] i e is h = cc
+holds_pick values (d ∷ entries) zero e is h = let same : d ≡ e = cc in subst (λ (x : Entry). entry_holds values x ≡ true) same (and_left (entry_holds values d) (list_all (entry_holds values) entries) h)
+holds_pick values (d ∷ entries) (suc i) e is h = holds_pick values entries i e is (and_right (entry_holds values d) (list_all (entry_holds values) entries) h)
+
+kind_simple : (s : SymId) (k : Kind) → is_simple_on s k ≡ true → k ≡ Simple s
+kind_simple s (Constant b) h = cc
+kind_simple s (Simple r) h = let same : r.0 ≡ s.0 = eqb-true r.0 s.0 h in λ i. Simple (record { 0 = same i })
+kind_simple s Inside h = cc
+kind_simple s Outside h = cc
+
+width_at : (widths : List ℕ) (i : ℕ) → i < length widths → slice_get widths i ≡ Some (slice_index widths i)
+width_at [] i lt = absurd (omega arith)
+width_at (w ∷ widths) zero lt = refl
+width_at (w ∷ widths) (suc i) lt = width_at widths i (omega arith)
+
+-- Walks
+
+met_at_most : (m n : ℤ) (b : ℤ) → int_le (m -ℤ n) b ≡ true → (m -ℤ n) ≤ℤ b
+met_at_most m n b h = grind (arith, ints, nat_tests)
+
+met_bound : (values : List ℕ) (g : Case) (i : ℕ) (b : SymBound) → slice_get g i ≡ Some b → is_case_met values g ≡ true → is_met values b ≡ true
+met_bound values [] i b is h = cc
+met_bound values (d ∷ g) zero b is h = let same : d ≡ b = cc in subst (λ (x : SymBound). is_met values x ≡ true) same (and_left (is_met values d) (is_case_met values g) h)
+met_bound values (d ∷ g) (suc i) b is h = met_bound values g i b is (and_right (is_met values d) (is_case_met values g) h)
+
+none_less : (x : ℤ) → (x -ℤ x) ≤ℤ pos 0
+none_less x = omega (arith, ints)
+
+add_up : (x y z a t : ℤ) → (x -ℤ y) ≤ℤ a → (y -ℤ z) ≤ℤ t → (x -ℤ z) ≤ℤ (a +ℤ t)
+add_up x y z a t h k = omega (arith, ints)
+
+-- the first number less the last is at most the sum of the bounds between them
+walk_sum : (values : List ℕ) (g : Case) → is_case_met values g ≡ true → (from : Option SymId) (numbers : List ℕ) (to : Option SymId) → IsWalk g from numbers to
+    → (number values from -ℤ number values to) ≤ℤ total g numbers
+walk_sum values g met from [] to w = subst (λ o. (number values from -ℤ number values o) ≤ℤ pos 0) w (none_less (number values from))
+walk_sum values g met from (i ∷ numbers) to w =
+    let b = w.0 in
+    let first : (number values b.plus -ℤ number values b.minus) ≤ℤ b.at_most = met_at_most (number values b.plus) (number values b.minus) b.at_most (met_bound values g i b w.1 met) in
+    let whole = add_up (number values b.plus) (number values b.minus) (number values to) b.at_most (total g numbers) first (walk_sum values g met b.minus numbers to w.3) in
+    let sum : b.at_most +ℤ total g numbers ≡ at_most_of (slice_get g i) +ℤ total g numbers = ap (λ o. at_most_of o +ℤ total g numbers) (sym w.1) in
+    subst (λ (z : ℤ). (number values from -ℤ number values to) ≤ℤ z) sum (subst (λ o. (number values o -ℤ number values to) ≤ℤ (b.at_most +ℤ total g numbers)) w.2 whole)
+
+no_cycle : (values : List ℕ) (g : Case) (numbers : List ℕ) → is_case_met values g ≡ true → IsNegativeCycle g numbers → ⊥
+no_cycle values g numbers met cycle =
+    let least = walk_sum values g met cycle.start numbers cycle.start cycle.closed in
+    omega (arith, ints, least, cycle.negative)
+
+pass_by : (a o r : Bool) → (a ≡ true → o ≡ true) → ((a && o) || r) ≡ false → (a || r) ≡ false
+pass_by true true r h e = e
+pass_by true false r h e = absurd (not_both false (h refl) refl)
+pass_by false o r h e = e
+
+is_false : (b : Bool) → (b ≡ true → ⊥) → b ≡ false
+is_false true h = absurd (h refl)
+is_false false h = refl
+
+module _ (laws : Laws) (c : Condition) (typed : AllTyped c.widths c.entries) (values : List ℕ) (fit : AreValues c.widths values) (holds : holds_at c values ≡ true) where
+  -- a simple formula that holds, holds of its symbol's value alone
+  alone_holds : (s : SymId) (e : Entry) → is_entry_on s e ≡ true → entry_holds values e ≡ true → entry_holds (alone s (slice_index values s.0)) e ≡ true
+  alone_holds s e on h = ap (agrees e.1) (sym (laws.alone_is (view e.0) s values (kind_simple s (kind_of (view e.0)) on))) ∙ h
+
+  pick_true : (s : SymId) (o : Option Entry) → ((e : Entry) → o ≡ Some e → entry_holds values e ≡ true) → passes (is_entry_on s) o ≡ true → passes (entry_holds (alone s (slice_index values s.0))) o ≡ true
+  pick_true s None all on = on
+  pick_true s (Some e) all on = alone_holds s e on (all e refl)
+
+  picks_true : (s : SymId) (picks : List ℕ) → are_simple_picks s c picks ≡ true → meets_picks s c picks (slice_index values s.0) ≡ true
+  picks_true s [] on = refl
+  picks_true s (pick ∷ picks) on =
+      both (pick_holds c (alone s (slice_index values s.0)) pick) (meets_picks s c picks (slice_index values s.0))
+      (pick_true s (slice_get c.entries pick) (λ e is. holds_pick values c.entries pick e is holds) (and_left (is_simple_pick s c pick) (are_simple_picks s c picks) on))
+      (picks_true s picks (and_right (is_simple_pick s c pick) (are_simple_picks s c picks) on))
+
+  value_fits : (s : SymId) → s.0 < length c.widths → FitsWidth (slice_index c.widths s.0) (slice_index values s.0)
+  value_fits s known = fit s.0 (slice_index c.widths s.0) (width_at c.widths s.0 known)
+
+  no_empty : (s : SymId) (picks : List ℕ) → IsUnmeetable c s picks → ⊥
+  no_empty s picks h =
+      let w = slice_index c.widths s.0 in
+      let x = slice_index values s.0 in
+      not_both (fits_width w x && meets_picks s c picks x) (both (fits_width w x) (meets_picks s c picks x) (lt-ltb x (2 ^ w) (value_fits s h.known)) (picks_true s picks h.simple)) (h.no_value x)
+
+  meets_by : (s : SymId) (e : Entry) (on : Bool) → is_entry_on s e ≡ on → entry_holds values e ≡ true → cond on (entry_holds (alone s (slice_index values s.0)) e) true ≡ true
+  meets_by s e true is h = alone_holds s e is h
+  meets_by s e false is h = refl
+
+  domain_by : (s : SymId) (entries : List Entry) → list_all (entry_holds values) entries ≡ true → list_all (meets s (alone s (slice_index values s.0))) entries ≡ true
+  domain_by s [] h = refl
+  domain_by s (e ∷ entries) h =
+      both (meets s (alone s (slice_index values s.0)) e) (list_all (meets s (alone s (slice_index values s.0))) entries)
+      (meets_by s e (is_entry_on s e) refl (and_left (entry_holds values e) (list_all (entry_holds values) entries) h))
+      (domain_by s entries (and_right (entry_holds values e) (list_all (entry_holds values) entries) h))
+
+  -- values that meet the gathered bounds meet those of a case that the step leaves
+  step_sound : (g : Case) (step : Refute) (cases : List Case) → Leaves c g step cases → is_case_met values g ≡ true → is_one_met values cases ≡ true
+  step_sound g (Empty s picks) cases h met = absurd (no_empty s picks h.0)
+  step_sound g (Domain s) cases h met =
+      ap (is_one_met values) h.1 ∙ laws.range_is s (slice_index c.widths s.0) (in_domain s c) values (value_fits s h.0.known) ∙ domain_by s c.entries holds
+  step_sound g (Split pick) cases h met =
+      ap (is_one_met values) h.cases_are ∙ laws.case_is (view h.entry.0) h.entry.1 c.widths values h.splits (laws.typed_is c pick h.entry typed h.at) fit
+      ∙ holds_pick values c.entries pick h.entry h.at holds
+  step_sound g (Cycle bounds) cases h met = absurd (no_cycle values g bounds met h.0)
+
+  refutes_sound : (steps : List Refute) (alternatives : List Case) → Refutes c alternatives steps → is_one_met values alternatives ≡ false
+  refutes_sound [] [] h = refl
+  refutes_sound [] (g ∷ alternatives) h = absurd h
+  refutes_sound (step ∷ steps) [] h = absurd h
+  refutes_sound (step ∷ steps) (g ∷ alternatives) h =
+      let cases = h.0 in
+      let later = refutes_sound steps (with_bounds cases g ++ alternatives) h.2 in
+      let split : is_one_met values (with_bounds cases g ++ alternatives) ≡ ((is_case_met values g && is_one_met values cases) || is_one_met values alternatives) =
+      list_any-append (is_case_met values) (with_bounds cases g) alternatives ∙ ap (λ b. b || is_one_met values alternatives) (laws.more_is g cases values) in
+      pass_by (is_case_met values g) (is_one_met values cases) (is_one_met values alternatives) (step_sound g step cases h.1) (sym split ∙ later)
+
+  accepted_never : (steps : List Refute) → IsAccepted c steps → ⊥
+  accepted_never steps h = not_both true refl (refutes_sound steps ([] ∷ []) h)
+
+-- no values make a condition true for which a refutation is accepted
+pub accepted_refutes : (laws : Laws) (c : Condition) (steps : List Refute) (values : List ℕ) → AllTyped c.widths c.entries → IsAccepted c steps → holds_at c values ≡ false
+accepted_refutes laws c steps values typed h =
+    is_false (holds_at c values)
+    (λ true_at. accepted_never laws c typed (reduced c.widths values) (reduced_fit c.widths values) (reduced_holds c values typed ∙ true_at) steps h)

@@ -1,0 +1,5 @@
+pub mod Cycles
+pub mod Accepted
+pub mod Least
+pub mod Decisions
+pub mod Agenda

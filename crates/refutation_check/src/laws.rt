@@ -1,0 +1,47 @@
+//! What holds of all refutations. Each is the contract of a function that has nothing to do.
+
+ghost use Rattle.std.specs.Prelude.{◌≡◌, ℕ, false, List, [], ◌∷◌, ◌++◌};
+ghost use Rattle.path_cond.specs.Conditions.{AllTyped, Condition, holds_at};
+ghost use Rattle.path_cases.specs.Bounds.{Case};
+ghost use Rattle.refutation_check.specs.Accepted.{Advances, IsAccepted, Reaches, Refutes};
+ghost use Rattle.refutation_check.specs.declared.steps.Refute.{Refute as Step};
+
+use path_cases::laws::{
+    bounds_before_cases_are_met_with_one_of_them,
+    one_case_is_met_exactly_where_the_formula_has_the_truth,
+    one_range_is_met_exactly_where_the_value_passes,
+};
+use path_cond::laws::each_formula_is_typed;
+use path_formula::laws::a_simple_formula_may_stand_alone;
+
+/// Where a refutation is accepted, no values make the condition true.
+pub fn an_accepted_refutation_refutes()
+    ensures { (cond : Condition) (steps : List Step) (values : List ℕ)
+        → AllTyped cond.widths cond.entries → IsAccepted cond steps → holds_at cond values ≡ false }
+{
+    a_simple_formula_may_stand_alone();
+    one_range_is_met_exactly_where_the_value_passes();
+    one_case_is_met_exactly_where_the_formula_has_the_truth();
+    bounds_before_cases_are_met_with_one_of_them();
+    each_formula_is_typed();
+}
+
+/// Steps may be read one after another: a step that is right where they lead to goes on from there.
+pub fn one_step_more_goes_on()
+    ensures { (cond : Condition) (before middle after : List Case) (steps : List Step) (step : Step)
+        → Reaches cond before steps middle → Advances cond middle step after
+        → Reaches cond before (steps ++ step ∷ []) after }
+{}
+
+/// Steps that leave no alternative refute those that they begin with.
+pub fn steps_that_leave_nothing_refute()
+    ensures { (cond : Condition) (before : List Case) (steps : List Step)
+        → Reaches cond before steps [] → Refutes cond before steps }
+{}
+
+/// Refutations of alternatives may be joined.
+pub fn refutations_join()
+    ensures { (cond : Condition) (firsts seconds : List Case) (steps more : List Step)
+        → Refutes cond firsts steps → Refutes cond seconds more
+        → Refutes cond (firsts ++ seconds) (steps ++ more) }
+{}

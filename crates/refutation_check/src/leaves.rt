@@ -1,0 +1,146 @@
+//! What a step of a refutation leaves to be refuted.
+
+ghost use Rattle.std.specs.Prelude.{◌≡◌, ◌↔◌, true, false, [], List, IsTrue, IfOk, MatchOption};
+ghost use Rattle.path_cases.specs.Bounds.{Case, lists_of};
+ghost use Rattle.case_counts.specs.Counts.{domain_cases};
+ghost use Rattle.case_counts.specs.Picks.{are_simple_picks, is_simple_pick};
+ghost use Rattle.path_cond.specs.Conditions.{is_simple_on};
+ghost use Rattle.refutation_check.specs.Accepted.{IsUnmeetable, IsDivisible, IsSplitInto, Leaves};
+ghost use Rattle.refutation_check.specs.Cycles.{IsNegativeCycle};
+
+use crate::cycle::is_negative_cycle;
+use crate::steps::Refute;
+use case_counts::{domain_of, values_meeting};
+use path_cases::laws::a_set_has_the_ranges_of_its_test;
+use path_cases::{SymBound, can_split, cases, range_cases};
+use path_cond::PathCond;
+use path_formula::Kind;
+use sn_width::{NoMemory, SymId};
+use std::alloc::Global;
+
+/// The widest symbol whose domain may be divided, in bits.
+const WIDEST: u8 = 64;
+
+/// Whether the kind is simple on the symbol.
+fn is_on(kind: Kind, symbol: SymId) -> bool
+    ensures { result ≡ is_simple_on symbol kind }
+{
+    match kind {
+        Kind::Simple { symbol: found } => found == symbol,
+        Kind::Constant(_) => false,
+        Kind::Inside => false,
+        Kind::Outside => false,
+    }
+}
+
+/// Whether the formula of the pick is simple on the symbol.
+fn is_simple(cond: &PathCond, symbol: SymId, pick: u32) -> bool
+    ensures { result ≡ is_simple_pick symbol cond.now pick }
+{
+    match cond.entry(pick) {
+        None => false,
+        Some((formula, _)) => is_on(formula.kind(), symbol),
+    }
+}
+
+fn are_simple(cond: &PathCond, symbol: SymId, picks: &[u32]) -> bool
+    ensures { result ≡ are_simple_picks symbol cond.now picks.now }
+{
+    for pick in picks {
+        if !is_simple(cond, symbol, *pick) {
+            return false;
+        }
+    }
+    true
+}
+
+/// Whether the picks are of simple formulas on the symbol that no value of its width meets together.
+fn is_unmeetable(
+    alloc: Global,
+    cond: &PathCond,
+    symbol: SymId,
+    picks: &[u32],
+) -> Result<bool, NoMemory>
+    ensures { IfOk result (λ yes. IsTrue yes ↔ IsUnmeetable cond.now symbol picks.now) }
+{
+    if symbol.0 >= cond.symbols() || !are_simple(cond, symbol, picks) {
+        return Ok(false);
+    }
+    let set = values_meeting(alloc, cond, symbol, picks)?;
+    Ok(set.least().is_none())
+}
+
+/// The cases of the symbol's domain; `None` where it may not be divided.
+fn cases_of_domain(
+    alloc: Global,
+    cond: &PathCond,
+    symbol: SymId,
+) -> Result<Option<Vec<Vec<SymBound>>>, NoMemory>
+    ensures { IfOk result (λ found. MatchOption found (IsDivisible cond.now symbol → ⊥)
+        (λ cases. IsDivisible cond.now symbol × (lists_of cases.items ≡ domain_cases cond.now symbol))) }
+{
+    a_set_has_the_ranges_of_its_test();
+    let Some(width) = cond.width(symbol) else {
+        return Ok(None);
+    };
+    if width.bits() > WIDEST {
+        return Ok(None);
+    }
+    let set = domain_of(alloc, cond, symbol)?;
+    let cases = range_cases(alloc, symbol, &set)?;
+    Ok(Some(cases))
+}
+
+/// The cases of the formula of the pick; `None` where there is no such formula, or it has no cases.
+fn cases_of_formula(
+    alloc: Global,
+    cond: &PathCond,
+    pick: u32,
+) -> Result<Option<Vec<Vec<SymBound>>>, NoMemory>
+    ensures { IfOk result (λ found. MatchOption found
+        ((cases : List Case) → IsSplitInto cond.now pick cases → ⊥)
+        (λ cases. IsSplitInto cond.now pick (lists_of cases.items))) }
+{
+    match cond.entry(pick) {
+        None => Ok(None),
+        Some((formula, holds)) => {
+            if !can_split(formula) {
+                return Ok(None);
+            }
+            let found = cases(alloc, formula, holds)?;
+            Ok(Some(found))
+        }
+    }
+}
+
+/// No cases, where the answer is yes.
+fn none_where(alloc: Global, yes: bool) -> Option<Vec<Vec<SymBound>>>
+    ensures { MatchOption result (yes ≡ false) (λ cases. (yes ≡ true) × (lists_of cases.items ≡ [])) }
+{
+    if yes { Some(Vec::new(alloc)) } else { None }
+}
+
+/// The cases that the step leaves where these bounds are gathered; `None` where it is not right there.
+pub(crate) fn cases_left(
+    alloc: Global,
+    cond: &PathCond,
+    gathered: &[SymBound],
+    step: &Refute,
+) -> Result<Option<Vec<Vec<SymBound>>>, NoMemory>
+    ensures { IfOk result (λ found. MatchOption found
+        ((cases : List Case) → Leaves cond.now gathered.now step.now cases → ⊥)
+        (λ cases. Leaves cond.now gathered.now step.now (lists_of cases.items))) }
+{
+    match step {
+        Refute::Empty { symbol, picks } => {
+            let yes = is_unmeetable(alloc, cond, *symbol, picks.as_slice())?;
+            Ok(none_where(alloc, yes))
+        }
+        Refute::Domain { symbol } => cases_of_domain(alloc, cond, *symbol),
+        Refute::Split { pick } => cases_of_formula(alloc, cond, *pick),
+        Refute::Cycle { bounds } => {
+            let yes = is_negative_cycle(gathered, bounds.as_slice())?;
+            Ok(none_where(alloc, yes))
+        }
+    }
+}

@@ -1,0 +1,22 @@
+//! Whether a refutation of a path condition is one, and whether a cause for leaving a condition undecided is
+//! one. Nothing here trusts the solver that found them, or shares its code.
+#![tactic(auto)]
+
+mod agenda;
+mod checker;
+mod cycle;
+pub mod laws;
+mod leaves;
+mod licence;
+mod list;
+mod outcome;
+mod steps;
+#[cfg(test)]
+mod tests;
+mod values;
+
+pub use checker::check;
+pub use licence::{MOST_CHOICES, MOST_COUPLED, lawful};
+pub use list::Listed;
+pub use outcome::{Cause, Verdict};
+pub use steps::{Refutation, Refute};

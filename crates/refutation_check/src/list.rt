@@ -1,0 +1,43 @@
+//! Lists whose contracts say nothing of the room that they have.
+
+ghost use Rattle.std.specs.Prelude.{◌≡◌};
+
+use std::marker::Model;
+
+/// A list, seen as the list of its members.
+#[derive(Debug, Drop)]
+pub struct Listed<T: Drop> {
+    members: Vec<T>,
+}
+
+impl<T: Drop> Model for Listed<T> {
+    ghost use Rattle.std.specs.Prelude.{List};
+
+    ghost Value = { List T };
+
+    ghost view = { λ list. list.members.items };
+}
+
+impl<T: Drop> Listed<T> {
+    /// The members of the vector. Takes no memory.
+    pub fn from_vec(members: Vec<T>) -> Listed<T>
+        ensures { result ≡ members.items }
+    {
+        Listed { members }
+    }
+
+    /// The members, as a vector. Takes no memory.
+    pub fn into_vec(self) -> Vec<T>
+        ensures { result.items ≡ self }
+    {
+        let Listed { members } = self;
+        members
+    }
+
+    /// The members.
+    pub fn as_slice(&self) -> &[T]
+        ensures { result.now ≡ self.now }
+    {
+        self.members.as_slice()
+    }
+}

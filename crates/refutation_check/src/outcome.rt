@@ -1,0 +1,23 @@
+//! Verdicts on conditions that are not refuted.
+
+use crate::list::Listed;
+use sn_width::Num;
+
+/// Why a condition is left undecided.
+#[derive(Debug, Drop)]
+pub enum Cause {
+    /// The least values that satisfy every formula that is not outside break the outside formula of this pick.
+    Outside { pick: u32, values: Listed<Num> },
+    /// There are so many choices of cases, which is too many.
+    Cases { count: u64 },
+    /// So many symbols are coupled, which is too many.
+    Coupled { count: u64 },
+}
+
+/// What is found of a condition that is not refuted.
+#[derive(Debug, Drop)]
+pub enum Verdict {
+    /// These values, one for each symbol, make the condition true.
+    Sat { values: Listed<Num> },
+    Undecided { cause: Cause },
+}

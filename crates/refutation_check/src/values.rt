@@ -1,0 +1,89 @@
+//! Values that satisfy every formula that is not outside.
+
+ghost use Rattle.std.specs.Prelude.{◌≡◌, ◌<◌, ◌↔◌, length, slice_get, IsTrue, IfOk, IfSome};
+ghost use Rattle.std.specs.List.{list_all};
+ghost use Rattle.path_formula.specs.Solutions.{agrees as agreement};
+ghost use Rattle.refutation_check.specs.Least.{AreFitting, AreCandidates, is_outside_kind, holds_unless_outside, FitsAt};
+
+use case_counts::formula_count;
+use path_cond::PathCond;
+use path_formula::Kind;
+use sn_width::{NoMemory, Num, SymId};
+
+pub(crate) fn is_outside(kind: Kind) -> bool
+    ensures { result ≡ is_outside_kind kind }
+{
+    match kind {
+        Kind::Constant(_) => false,
+        Kind::Simple { .. } => false,
+        Kind::Inside => false,
+        Kind::Outside => true,
+    }
+}
+
+/// Whether the truth is the one that it must be.
+pub(crate) fn agrees(holds: bool, truth: bool) -> bool
+    ensures { result ≡ agreement holds truth }
+{
+    if holds { truth } else { !truth }
+}
+
+/// Whether the number is a value of the width of the symbol of this place.
+fn fits_at(cond: &PathCond, place: usize, value: Num) -> bool
+    requires { place < length cond.now.widths }
+    ensures { IsTrue result ↔ FitsAt cond.now.widths place value }
+{
+    match cond.width(SymId(place as u64)) {
+        None => unreachable!(),
+        Some(width) => value <= width.max(),
+    }
+}
+
+/// Whether there is one number for each symbol, each a value of its symbol's width.
+fn are_fitting(cond: &PathCond, values: &[Num]) -> bool
+    ensures { IsTrue result ↔ AreFitting cond.now.widths values.now }
+{
+    if values.len() as u64 != cond.symbols() {
+        return false;
+    }
+    for (place, value) in values.iter().enumerate() {
+        if !fits_at(cond, place, *value) {
+            return false;
+        }
+    }
+    true
+}
+
+/// Whether the formula of the pick is outside, or has the truth that it must have.
+fn holds_at(cond: &PathCond, pick: u32, values: &[Num]) -> bool
+    requires { pick < length cond.now.entries }
+    ensures { IfSome (slice_get cond.now.entries pick) (λ entry. result ≡ holds_unless_outside values.now entry) }
+{
+    match cond.entry(pick) {
+        None => unreachable!(),
+        Some((formula, holds)) => is_outside(formula.kind())
+            || agrees(holds, formula.truth(values)),
+    }
+}
+
+/// Whether each formula is outside, or has the truth that it must have.
+fn all_hold(cond: &PathCond, values: &[Num]) -> Result<bool, NoMemory>
+    ensures { IfOk result (λ yes. yes ≡ list_all (holds_unless_outside values.now) cond.now.entries) }
+{
+    for pick in 0..formula_count(cond)? {
+        if !holds_at(cond, pick, values) {
+            return Ok(false);
+        }
+    }
+    Ok(true)
+}
+
+/// Whether there is one fitting number for each symbol, and they satisfy every formula that is not outside.
+pub(crate) fn are_candidates(cond: &PathCond, values: &[Num]) -> Result<bool, NoMemory>
+    ensures { IfOk result (λ yes. IsTrue yes ↔ AreCandidates cond.now values.now) }
+{
+    if !are_fitting(cond, values) {
+        return Ok(false);
+    }
+    all_hold(cond, values)
+}
