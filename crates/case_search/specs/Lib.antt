@@ -1,0 +1,6 @@
+pub mod Choices
+pub mod Outcomes
+pub mod Progress
+pub mod Steps
+pub mod Untried
+pub mod Words

@@ -1,0 +1,14 @@
+//! The least integers that meet one case of each of some choices, or a refutation.
+#![tactic(auto)]
+
+mod choice;
+pub mod laws;
+mod order;
+mod progress;
+mod search;
+#[cfg(test)]
+mod tests;
+mod walk;
+
+pub use choice::{Choice, Outcome, Step};
+pub use search::find_least;
