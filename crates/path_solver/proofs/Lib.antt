@@ -1,0 +1,13 @@
+pub mod Ascending
+pub mod Atoms
+pub mod Bridge
+pub mod Candidates
+pub mod Entries
+pub mod Exact
+pub mod Gathering
+pub mod Goodness
+pub mod Numbering
+pub mod Places
+pub mod Refuting
+pub mod Simple
+pub mod Solved

@@ -1,0 +1,12 @@
+use Rattle.std.proofs.Common.{map, take, ◌++◌}
+use Rattle.case_counts.specs.Coupled.{coupled_symbols}
+use Rattle.path_solver.specs.Origins.{formula_origins}
+use Rattle.path_solver.specs.Problems.{IsProblem}
+use Rattle.path_solver.specs.declared.origin.Origin.TheVariants.{Ranges}
+use Rattle.path_solver.proofs.problem.Problem.of.Given as goal
+
+abbrev pub invariant-loop-symbol : goal.invariant-loop-symbol
+invariant-loop-symbol l = IsProblem l.cond (map Ranges (take l.symbol-index l.symbols)) l.problem
+
+abbrev pub invariant-loop-pick : goal.invariant-loop-pick
+invariant-loop-pick l = IsProblem l.cond (map Ranges (coupled_symbols l.cond) ++ formula_origins 0 (take l.pick l.cond.entries)) l.problem

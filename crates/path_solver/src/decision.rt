@@ -1,0 +1,106 @@
+//! The decision of a condition.
+
+ghost use Rattle.std.specs.Prelude.{◌≡◌, ◌∷◌, [], None, IfOk};
+ghost use Rattle.path_cond.specs.Conditions.{first_broken};
+ghost use Rattle.interval_solver.specs.Domains.{AreDomainsOf};
+ghost use Rattle.interval_solver.specs.Verdicts.{AreLeastValues};
+ghost use Rattle.refutation_check.specs.Decisions.{IsWithinLimits};
+ghost use Rattle.refutation_check.specs.Least.{AreLeast};
+ghost use Rattle.path_solver.specs.Decisions.{IsDecisionOn};
+
+use crate::below::facts;
+use crate::outside::first_broken_outside;
+use crate::solve::{Solved, solve_cases};
+use case_counts::{case_count, coupled_symbols};
+use interval_solver::{Domains, SimpleVerdict, decide_simple};
+use path_cond::PathCond;
+use refutation_check::{Cause, Listed, MOST_CHOICES, MOST_COUPLED, Refutation, Refute};
+use sn_width::{NoMemory, Num};
+use std::alloc::{AllocError, Global};
+
+/// What is decided of a condition.
+#[derive(Debug, Drop)]
+pub enum Decided {
+    /// These values, one for each symbol, are the least that satisfy every formula that is not outside, and they make the
+    /// condition true.
+    Sat { values: Listed<Num> },
+    /// No values make the condition true.
+    Unsat { refutation: Refutation },
+    /// The condition is left undecided, by this cause.
+    Undecided { cause: Cause },
+}
+
+/// The decision of a condition that has these domains. The constant formulas come first, then the domains, the number of
+/// coupled symbols, the number of choices of cases, the cases, and last the formulas that are outside.
+pub fn decide(alloc: Global, cond: &PathCond, domains: &Domains) -> Result<Decided, NoMemory>
+    requires { AreDomainsOf cond.now domains.now }
+    ensures { IfOk result (IsDecisionOn cond.now) }
+{
+    facts();
+    cond.formulas_are_typed();
+    match decide_simple(alloc, cond, domains)? {
+        SimpleVerdict::False { pick } => Ok(Decided::Unsat {
+            refutation: one_step(alloc, Refute::Split { pick })?,
+        }),
+        SimpleVerdict::Empty { symbol, picks } => {
+            let picks = Listed::from_vec(picks);
+            Ok(Decided::Unsat {
+                refutation: one_step(alloc, Refute::Empty { symbol, picks })?,
+            })
+        }
+        SimpleVerdict::Values { values } => decide_open(alloc, cond, domains, values),
+    }
+}
+
+fn one_step(alloc: Global, step: Refute) -> Result<Refutation, AllocError>
+    ensures { IfOk result (λ refutation. refutation ≡ step ∷ []) }
+{
+    Ok(Listed::from_vec(vec![in alloc; step]?))
+}
+
+/// The decision of a condition that the constant and the simple formulas do not refute.
+fn decide_open(
+    alloc: Global,
+    cond: &PathCond,
+    domains: &Domains,
+    leasts: Vec<Num>,
+) -> Result<Decided, NoMemory>
+    requires domains { AreDomainsOf cond.now domains.now }
+    requires unbroken { first_broken cond.now ≡ None }
+    requires leasts { AreLeastValues cond.now leasts.items }
+    ensures { IfOk result (IsDecisionOn cond.now) }
+{
+    let symbols = coupled_symbols(alloc, cond)?;
+    let count = symbols.len() as u64;
+    if count > MOST_COUPLED {
+        return Ok(Decided::Undecided {
+            cause: Cause::Coupled { count },
+        });
+    }
+    let count = case_count(alloc, cond)?;
+    if count > MOST_CHOICES {
+        return Ok(Decided::Undecided {
+            cause: Cause::Cases { count },
+        });
+    }
+    match solve_cases(alloc, cond, domains, symbols.as_slice(), leasts)? {
+        Solved::Refuted { refutation } => Ok(Decided::Unsat { refutation }),
+        Solved::Values { values } => settle(cond, values),
+    }
+}
+
+/// The decision where these are the least values that satisfy every formula that is not outside.
+fn settle(cond: &PathCond, values: Vec<Num>) -> Result<Decided, NoMemory>
+    requires within { IsWithinLimits cond.now }
+    requires least { AreLeast cond.now values.items }
+    ensures { IfOk result (IsDecisionOn cond.now) }
+{
+    let broken = first_broken_outside(cond, values.as_slice())?;
+    let values = Listed::from_vec(values);
+    match broken {
+        None => Ok(Decided::Sat { values }),
+        Some(pick) => Ok(Decided::Undecided {
+            cause: Cause::Outside { pick, values },
+        }),
+    }
+}

@@ -1,0 +1,17 @@
+//! The whole decision of a path condition: whether values make it true, with the least such values or a refutation.
+#![tactic(auto)]
+
+mod below;
+mod decision;
+pub mod laws;
+mod origin;
+mod outside;
+mod problem;
+mod solve;
+mod steps;
+#[cfg(test)]
+mod tests;
+mod unknowns;
+mod values;
+
+pub use decision::{Decided, decide};
