@@ -1,0 +1,6 @@
+pub mod Coding
+pub mod LentLemmas
+pub mod Levels
+pub mod NodeLemmas
+pub mod Outcomes
+pub mod Texts

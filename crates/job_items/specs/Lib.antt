@@ -1,0 +1,11 @@
+pub mod AtomRules
+pub mod Atoms
+pub mod Gathered
+pub mod Items
+pub mod LentTags
+pub mod LentNodes
+pub mod Nodes
+pub mod Places
+pub mod Progress
+pub mod Rules
+pub mod Tags
