@@ -49,6 +49,8 @@ impl Patterns for MemPatterns {
 
     ghost refusals = { λ t. t.refusals };
 
+    ghost find_gives = { λ old pattern name answer new. IsFoundBy old pattern name answer × (new ≡ after_find old answer) };
+
     fn find(&mut self, _alloc: Global, pattern: &str, name: &str) -> Found
         ensures answer { IsFoundBy self.old pattern.now name.now result }
         ensures next { self.new ≡ after_find self.old result }

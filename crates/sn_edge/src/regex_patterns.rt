@@ -50,6 +50,8 @@ impl Patterns for RegexPatterns {
 
     ghost refusals = { λ p. p };
 
+    ghost find_gives = { λ old pattern name answer new. IsFoundByRegex pattern name answer × (new ≡ refusals_after old answer) };
+
     fn find(&mut self, alloc: Global, pattern: &str, name: &str) -> Found
         ensures answer { IsFoundByRegex pattern.now name.now result }
         ensures next { self.new ≡ refusals_after self.old result }
