@@ -23,7 +23,8 @@ listed_here : (test : SymId → Bool) (place count : ℕ) (s : SymId) (b : Bool)
 listed_here test place count s true e later low high = refl
 listed_here test place count s false e later low high = later (apart place s.0 e low) (omega arith)
 
-not_here : (test : SymId → Bool) (place : ℕ) (s : SymId) (b : Bool) → nat_eq place s.0 ≡ b → test (symbol_at place) ≡ false → test s ≡ true → place ≤ s.0 → suc place ≤ s.0
+not_here : (test : SymId → Bool) (place : ℕ) (s : SymId) (b : Bool) → nat_eq place s.0 ≡ b
+    → test (symbol_at place) ≡ false → test s ≡ true → place ≤ s.0 → suc place ≤ s.0
 not_here test place s true e is h low =
     let same : place ≡ s.0 = eqb-true place s.0 e in
     let yes : test (symbol_at place) ≡ true = subst (λ (n : ℕ). test (record { 0 = n }) ≡ true) (sym same) h in absurd (cc)
@@ -34,10 +35,12 @@ listed_by : (test : SymId → Bool) (place count : ℕ) (s : SymId) (b : Bool) �
     → place ≤ s.0 → s.0 < place + suc count
     → is_listed (cond b (symbol_at place ∷ symbols_from test (suc place) count) (symbols_from test (suc place) count)) s ≡ true
 listed_by test place count s true is h later low high = listed_here test place count s (nat_eq place s.0) refl later low high
-listed_by test place count s false is h later low high = later (not_here test place s (nat_eq place s.0) refl is h low) (omega arith)
+listed_by test place count s false is h later low high =
+    later (not_here test place s (nat_eq place s.0) refl is h low) (omega arith)
 
 -- a symbol that passes the test is listed
-pub listed_from : (test : SymId → Bool) (place count : ℕ) (s : SymId) → test s ≡ true → place ≤ s.0 → s.0 < place + count → is_listed (symbols_from test place count) s ≡ true
+pub listed_from : (test : SymId → Bool) (place count : ℕ) (s : SymId) → test s ≡ true → place ≤ s.0
+    → s.0 < place + count → is_listed (symbols_from test place count) s ≡ true
 listed_from test place zero s h low high = absurd (omega arith)
 listed_from test place (suc count) s h low high =
     listed_by test place count s (test (symbol_at place)) refl h (λ l g. listed_from test (suc place) count s h l g) low high
@@ -59,78 +62,102 @@ from_by test place count s true is later h =
           record { passes = subst (λ (n : ℕ). test (record { 0 = n }) ≡ true) same is; low = omega arith; high = omega arith }
       | inr more ↦ let f = later more in record { passes = f.passes; low = omega (arith, f.low); high = omega (arith, f.high) }
     ]
-from_by test place count s false is later h = let f = later h in record { passes = f.passes; low = omega (arith, f.low); high = omega (arith, f.high) }
+from_by test place count s false is later h =
+    let f = later h in record { passes = f.passes; low = omega (arith, f.low); high = omega (arith, f.high) }
 
-pub listed_is_from : (test : SymId → Bool) (place count : ℕ) (s : SymId) → is_listed (symbols_from test place count) s ≡ true → IsFrom test place count s
+pub listed_is_from : (test : SymId → Bool) (place count : ℕ) (s : SymId)
+    → is_listed (symbols_from test place count) s ≡ true → IsFrom test place count s
 listed_is_from test place zero s h = absurd (cc)
-listed_is_from test place (suc count) s h = from_by test place count s (test (symbol_at place)) refl (listed_is_from test (suc place) count s) h
+listed_is_from test place (suc count) s h =
+    from_by test place count s (test (symbol_at place)) refl (listed_is_from test (suc place) count s) h
 
 -- the integers are not below zero
 abbrev pub AreNatural : List ℤ → Type 0
 AreNatural [] = Unit {0}
 AreNatural (z ∷ integers) = (z ≡ pos (value_of z)) × AreNatural integers
 
-pub with_integers-length : (values : List ℕ) (symbols : List SymId) (integers : List ℤ) → length (with_integers values symbols integers) ≡ length values
+pub with_integers-length : (values : List ℕ) (symbols : List SymId) (integers : List ℤ)
+    → length (with_integers values symbols integers) ≡ length values
 with_integers-length values [] integers = refl
 with_integers-length values (s ∷ symbols) [] = refl
-with_integers-length values (s ∷ symbols) (z ∷ integers) = with_integers-length (slice_set values s.0 (value_of z)) symbols integers ∙ length-set values s.0 (value_of z)
+with_integers-length values (s ∷ symbols) (z ∷ integers) =
+    with_integers-length (slice_set values s.0 (value_of z)) symbols integers ∙ length-set values s.0 (value_of z)
 
-or_no_left : (a b : Bool) → (a || b) ≡ false → a ≡ false
+pub or_no_left : (a b : Bool) → (a || b) ≡ false → a ≡ false
 or_no_left true b h = absurd (cc)
 or_no_left false b h = refl
 
-or_no_right : (a b : Bool) → (a || b) ≡ false → b ≡ false
+pub or_no_right : (a b : Bool) → (a || b) ≡ false → b ≡ false
 or_no_right true b h = absurd (cc)
 or_no_right false b h = h
 
-other_place : (values : List ℕ) (i t v : ℕ) → nat_eq i t ≡ false → get_or (set values i v) t 0 ≡ get_or values t 0
+pub other_place : (values : List ℕ) (i t v : ℕ) → nat_eq i t ≡ false → get_or (set values i v) t 0 ≡ get_or values t 0
 other_place values i t v h = get_or-set_other values i t v 0 (λ (e : t ≡ i). differ i t h (sym e))
   where
     differ : (i t : ℕ) → nat_eq i t ≡ false → i ≡ t → ⊥
     differ i t h e = let yes : nat_eq i t ≡ true = eq-eqb i t e in cc
 
 -- the value of a symbol that is not listed stays
-pub with_integers-other : (values : List ℕ) (symbols : List SymId) (integers : List ℤ) (t : ℕ) → is_listed symbols (symbol_at t) ≡ false → slice_index (with_integers values symbols integers) t ≡ slice_index values t
+pub with_integers-other : (values : List ℕ) (symbols : List SymId) (integers : List ℤ) (t : ℕ)
+    → is_listed symbols (symbol_at t) ≡ false
+    → slice_index (with_integers values symbols integers) t ≡ slice_index values t
 with_integers-other values [] integers t h = refl
 with_integers-other values (s ∷ symbols) [] t h = refl
 with_integers-other values (s ∷ symbols) (z ∷ integers) t h =
-    with_integers-other (slice_set values s.0 (value_of z)) symbols integers t (or_no_right (nat_eq s.0 t) (is_listed symbols (symbol_at t)) h)
+    with_integers-other (slice_set values s.0 (value_of z)) symbols integers t
+    (or_no_right (nat_eq s.0 t) (is_listed symbols (symbol_at t)) h)
     ∙ other_place values s.0 t (value_of z) (or_no_left (nat_eq s.0 t) (is_listed symbols (symbol_at t)) h)
 
 -- no symbol from a later place on is the one of this place
-later_apart : (test : SymId → Bool) (place count : ℕ) (b : Bool) → is_listed (symbols_from test (suc place) count) (symbol_at place) ≡ b → b ≡ false
+later_apart : (test : SymId → Bool) (place count : ℕ) (b : Bool)
+    → is_listed (symbols_from test (suc place) count) (symbol_at place) ≡ b → b ≡ false
 later_apart test place count true h = absurd (omega (arith, (listed_is_from test (suc place) count (symbol_at place) h).low))
 later_apart test place count false h = refl
 
-back_by : (test : SymId → Bool) (place count : ℕ) (b : Bool) (values : List ℕ) (integers : List ℤ) → place + suc count ≤ length values → AreNatural integers
-    → ((values : List ℕ) (integers : List ℤ) → suc place + count ≤ length values → AreNatural integers → length integers ≡ length (symbols_from test (suc place) count)
-    → integers_of (with_integers values (symbols_from test (suc place) count) integers) (symbols_from test (suc place) count) ≡ integers)
-    → length integers ≡ length (cond b (symbol_at place ∷ symbols_from test (suc place) count) (symbols_from test (suc place) count))
-    → integers_of (with_integers values (cond b (symbol_at place ∷ symbols_from test (suc place) count) (symbols_from test (suc place) count)) integers) (cond b (symbol_at place ∷ symbols_from test (suc place) count) (symbols_from test (suc place) count)) ≡ integers
+back_by : (test : SymId → Bool) (place count : ℕ) (b : Bool) (values : List ℕ) (integers : List ℤ)
+    → place + suc count ≤ length values → AreNatural integers
+    → ((values : List ℕ) (integers : List ℤ) → suc place + count ≤ length values → AreNatural integers
+    → length integers ≡ length (symbols_from test (suc place) count)
+    → integers_of (with_integers values (symbols_from test (suc place) count) integers)
+    (symbols_from test (suc place) count) ≡ integers)
+    → length integers ≡ length (cond b (symbol_at place ∷ symbols_from test (suc place) count)
+    (symbols_from test (suc place) count))
+    → integers_of (with_integers values
+    (cond b (symbol_at place ∷ symbols_from test (suc place) count) (symbols_from test (suc place) count)) integers)
+    (cond b (symbol_at place ∷ symbols_from test (suc place) count) (symbols_from test (suc place) count))
+    ≡ integers
 back_by test place count true values [] within natural later e = absurd (omega arith)
 back_by test place count true values (z ∷ integers) within natural later e =
-    let rest = later (set values place (value_of z)) integers (omega (arith, length-set values place (value_of z))) natural.1 (omega arith) in
+    let rest =
+    later (set values place (value_of z)) integers (omega (arith, length-set values place (value_of z))) natural.1
+    (omega arith) in
     let stays = with_integers-other (set values place (value_of z)) (symbols_from test (suc place) count) integers place
     (later_apart test place count (is_listed (symbols_from test (suc place) count) (symbol_at place)) refl) in
-    let first : pos (slice_index (with_integers (set values place (value_of z)) (symbols_from test (suc place) count) integers) place) ≡ z =
+    let first : pos (slice_index (with_integers (set values place (value_of z)) (symbols_from test (suc place) count)
+    integers) place) ≡ z =
     ap pos (stays ∙ get_or-set_same values place (value_of z) 0 (omega arith)) ∙ sym natural.0 in
-    ap (λ (y : ℤ). y ∷ integers_of (with_integers (set values place (value_of z)) (symbols_from test (suc place) count) integers) (symbols_from test (suc place) count)) first
+    ap (λ (y : ℤ). y ∷ integers_of
+    (with_integers (set values place (value_of z)) (symbols_from test (suc place) count) integers)
+    (symbols_from test (suc place) count)) first
     ∙ ap (λ (zs : List ℤ). z ∷ zs) rest
 back_by test place count false values integers within natural later e = later values integers (omega arith) natural e
 
 -- the symbols are those that pass the test from a place on, and the integers are their values
-pub integers_back : (test : SymId → Bool) (place count : ℕ) (values : List ℕ) (integers : List ℤ) → place + count ≤ length values → AreNatural integers → length integers ≡ length (symbols_from test place count)
+pub integers_back : (test : SymId → Bool) (place count : ℕ) (values : List ℕ) (integers : List ℤ)
+    → place + count ≤ length values → AreNatural integers → length integers ≡ length (symbols_from test place count)
     → integers_of (with_integers values (symbols_from test place count) integers) (symbols_from test place count) ≡ integers
 integers_back test place zero values [] within natural e = refl
 integers_back test place zero values (z ∷ integers) within natural e = absurd (omega arith)
 integers_back test place (suc count) values integers within natural e =
-    back_by test place count (test (symbol_at place)) values integers within natural (λ vs zs w n l. integers_back test (suc place) count vs zs w n l) e
+    back_by test place count (test (symbol_at place)) values integers within natural
+    (λ vs zs w n l. integers_back test (suc place) count vs zs w n l) e
 
-lesser_first : (a b : ℕ) (vs ws : List ℕ) → a < b → is_at_most (a ∷ vs) (b ∷ ws) ≡ true
+pub lesser_first : (a b : ℕ) (vs ws : List ℕ) → a < b → is_at_most (a ∷ vs) (b ∷ ws) ≡ true
 lesser_first a b vs ws h = or_left (nat_lt a b) (nat_eq a b && is_at_most vs ws) (grind (arith, nat_tests))
 
-equal_first : (a b : ℕ) (vs ws : List ℕ) → a ≡ b → is_at_most vs ws ≡ true → is_at_most (a ∷ vs) (b ∷ ws) ≡ true
-equal_first a b vs ws e h = or_right (nat_lt a b) (nat_eq a b && is_at_most vs ws) (both_true (nat_eq a b) (is_at_most vs ws) (eq-eqb a b e) h)
+pub equal_first : (a b : ℕ) (vs ws : List ℕ) → a ≡ b → is_at_most vs ws ≡ true → is_at_most (a ∷ vs) (b ∷ ws) ≡ true
+equal_first a b vs ws e h =
+    or_right (nat_lt a b) (nat_eq a b && is_at_most vs ws) (both_true (nat_eq a b) (is_at_most vs ws) (eq-eqb a b e) h)
   where
     both_true : (a b : Bool) → a ≡ true → b ≡ true → (a && b) ≡ true
     both_true true b h g = g
@@ -138,25 +165,38 @@ equal_first a b vs ws e h = or_right (nat_lt a b) (nat_eq a b && is_at_most vs w
 
 unlisted_first : (a b : ℕ) (vs ws : List ℕ) → a ≤ b → is_at_most vs ws ≡ true → is_at_most (a ∷ vs) (b ∷ ws) ≡ true
 unlisted_first a b vs ws le h =
-    elim (cases_lt a b) [ inl lt ↦ lesser_first a b vs ws lt | inr ge ↦ let same : a ≡ b = omega arith in equal_first a b vs ws same h ]
+    elim (cases_lt a b) [
+      | inl lt ↦ lesser_first a b vs ws lt
+      | inr ge ↦ let same : a ≡ b = omega arith in
+          equal_first a b vs ws same h
+    ]
 
 order_by : (test : SymId → Bool) (place count : ℕ) (w x : List ℕ) (b : Bool) → test (symbol_at place) ≡ b
-    → IsUpTo (integers_of w (cond b (symbol_at place ∷ symbols_from test (suc place) count) (symbols_from test (suc place) count))) (integers_of x (cond b (symbol_at place ∷ symbols_from test (suc place) count) (symbols_from test (suc place) count)))
-    → (IsUpTo (integers_of w (symbols_from test (suc place) count)) (integers_of x (symbols_from test (suc place) count)) → is_at_most (drop (suc place) w) (drop (suc place) x) ≡ true)
+    → IsUpTo (integers_of w (cond b (symbol_at place ∷ symbols_from test (suc place) count)
+    (symbols_from test (suc place) count)))
+    (integers_of x (cond b (symbol_at place ∷ symbols_from test (suc place) count)
+    (symbols_from test (suc place) count)))
+    → (IsUpTo (integers_of w (symbols_from test (suc place) count))
+    (integers_of x (symbols_from test (suc place) count))
+    → is_at_most (drop (suc place) w) (drop (suc place) x) ≡ true)
     → (test (symbol_at place) ≡ false → slice_index w place ≤ slice_index x place)
     → is_at_most (slice_index w place ∷ drop (suc place) w) (slice_index x place ∷ drop (suc place) x) ≡ true
 order_by test place count w x true is h later other =
     elim h [
-      | inl lt ↦ lesser_first (slice_index w place) (slice_index x place) (drop (suc place) w) (drop (suc place) x) (omega (arith, ints, lt))
-      | inr e ↦ let first = e.0 in equal_first (slice_index w place) (slice_index x place) (drop (suc place) w) (drop (suc place) x) (omega (arith, ints, first)) (later e.1)
+      | inl lt ↦ lesser_first (slice_index w place) (slice_index x place) (drop (suc place) w) (drop (suc place) x)
+          (omega (arith, ints, lt))
+      | inr e ↦ let first = e.0 in equal_first (slice_index w place) (slice_index x place) (drop (suc place) w)
+          (drop (suc place) x) (omega (arith, ints, first)) (later e.1)
     ]
 order_by test place count w x false is h later other =
     unlisted_first (slice_index w place) (slice_index x place) (drop (suc place) w) (drop (suc place) x) (other is) (later h)
 
 ordered_from : (test : SymId → Bool) (place count n : ℕ) (w x : List ℕ) → place + count ≡ n → length w ≡ n → length x ≡ n
     → IsUpTo (integers_of w (symbols_from test place count)) (integers_of x (symbols_from test place count))
-    → ((s : SymId) → s.0 < n → test s ≡ false → slice_index w s.0 ≤ slice_index x s.0) → is_at_most (drop place w) (drop place x) ≡ true
-ordered_from test place zero n w x end lw lx h other = ap (λ (vs : List ℕ). is_at_most vs (drop place x)) (drop_all place w (omega arith))
+    → ((s : SymId) → s.0 < n → test s ≡ false → slice_index w s.0 ≤ slice_index x s.0)
+    → is_at_most (drop place w) (drop place x) ≡ true
+ordered_from test place zero n w x end lw lx h other =
+    ap (λ (vs : List ℕ). is_at_most vs (drop place x)) (drop_all place w (omega arith))
 ordered_from test place (suc count) n w x end lw lx h other =
     ap (λ (vs : List ℕ). is_at_most vs (drop place x)) (drop-cons w place 0 (omega arith))
     ∙ ap (λ (vs : List ℕ). is_at_most (slice_index w place ∷ drop (suc place) w) vs) (drop-cons x place 0 (omega arith))
@@ -174,5 +214,7 @@ with_integers-none values [] = refl
 with_integers-none values (s ∷ symbols) = refl
 
 -- there are no more integers
-pub with_integers-ended : (values : List ℕ) (symbols : List SymId) (integers : List ℤ) (n : ℕ) → length integers ≤ n → with_integers values symbols (drop n integers) ≡ values
-with_integers-ended values symbols integers n h = ap (with_integers values symbols) (drop_all n integers h) ∙ with_integers-none values symbols
+pub with_integers-ended : (values : List ℕ) (symbols : List SymId) (integers : List ℤ) (n : ℕ) → length integers ≤ n
+    → with_integers values symbols (drop n integers) ≡ values
+with_integers-ended values symbols integers n h =
+    ap (with_integers values symbols) (drop_all n integers h) ∙ with_integers-none values symbols

@@ -41,16 +41,23 @@ origins_append : (cond : Condition) (xs ys : List Origin) → AreOrigins cond xs
 origins_append cond [] ys h g = g
 origins_append cond (o ∷ xs) ys h g = (h.0, origins_append cond xs ys h.1 g)
 
-symbols_are : (cond : Condition) (symbols : List SymId) → ((s : SymId) → is_listed symbols s ≡ true → is_listed (coupled_symbols cond) s ≡ true) → AreOrigins cond (map Ranges symbols)
+symbols_are : (cond : Condition) (symbols : List SymId)
+    → ((s : SymId) → is_listed symbols s ≡ true → is_listed (coupled_symbols cond) s ≡ true)
+    → AreOrigins cond (map Ranges symbols)
 symbols_are cond [] h = tt
-symbols_are cond (s ∷ symbols) h =
-    (h s (ap (λ (b : Bool). b || is_listed symbols s) (eq-eqb s.0 s.0 refl)), symbols_are cond symbols (λ t g. h t (or_right (nat_eq s.0 t.0) (is_listed symbols t) g)))
+symbols_are cond (s ∷ symbols) h = (
+  h s (ap (λ (b : Bool). b || is_listed symbols s) (eq-eqb s.0 s.0 refl)),
+  symbols_are cond symbols (λ t g. h t (or_right (nat_eq s.0 t.0) (is_listed symbols t) g)),
+)
 
-formula_by : (c : Condition) (pick : ℕ) (e : Entry) (rest : List Origin) (b : Bool) → slice_get c.entries pick ≡ Some e → is_inside e ≡ b → AreOrigins c rest → AreOrigins c (cond b (Cases pick ∷ rest) rest)
+formula_by : (c : Condition) (pick : ℕ) (e : Entry) (rest : List Origin) (b : Bool) → slice_get c.entries pick ≡ Some e
+    → is_inside e ≡ b → AreOrigins c rest → AreOrigins c (cond b (Cases pick ∷ rest) rest)
 formula_by c pick e rest true is inside h = (record { entry = e; at = is; inside = inside }, h)
 formula_by c pick e rest false is inside h = h
 
-formulas_are : (cond : Condition) (pick : ℕ) (entries : List Entry) → ((i : ℕ) → slice_get cond.entries (pick + i) ≡ slice_get entries i) → AreOrigins cond (formula_origins pick entries)
+formulas_are : (cond : Condition) (pick : ℕ) (entries : List Entry)
+    → ((i : ℕ) → slice_get cond.entries (pick + i) ≡ slice_get entries i)
+    → AreOrigins cond (formula_origins pick entries)
 formulas_are cond pick [] h = tt
 formulas_are cond pick (e ∷ entries) h =
     formula_by cond pick e (formula_origins (suc pick) entries) (is_inside e)
@@ -65,21 +72,25 @@ formulas_are cond pick (e ∷ entries) h =
 
 pub origins_are : (cond : Condition) → AreOrigins cond (origins_of cond)
 origins_are cond =
-    origins_append cond (map Ranges (coupled_symbols cond)) (formula_origins 0 cond.entries) (symbols_are cond (coupled_symbols cond) (λ s h. h))
+    origins_append cond (map Ranges (coupled_symbols cond)) (formula_origins 0 cond.entries)
+    (symbols_are cond (coupled_symbols cond) (λ s h. h))
     (formulas_are cond 0 cond.entries (λ i. ap (slice_get cond.entries) (none i)))
   where
     none : (i : ℕ) → 0 + i ≡ i
     none i = omega arith
 
 -- the cases of a choice are between coupled symbols
-pub origin_between : Facts → (cond : Condition) (o : Origin) → AllTyped cond.widths cond.entries → IsOrigin cond o → EachAreBetween (is_listed (coupled_symbols cond)) (cases_from cond o)
+pub origin_between : Facts → (cond : Condition) (o : Origin) → AllTyped cond.widths cond.entries → IsOrigin cond o
+    → EachAreBetween (is_listed (coupled_symbols cond)) (cases_from cond o)
 origin_between facts cond (Ranges s) typed h =
     let narrow = listed_narrow facts cond s typed h in
-    let width : slice_index cond.widths s.0 ≤ 64 = omega (arith, index_at cond.widths s.0 narrow.width narrow.at, narrow.narrow) in
+    let width : slice_index cond.widths s.0 ≤ 64 =
+    omega (arith, index_at cond.widths s.0 narrow.width narrow.at, narrow.narrow) in
     single_between (is_listed (coupled_symbols cond)) s (slice_index cond.widths s.0) (in_domain s cond) width h
 origin_between facts cond (Cases pick) typed h =
     subst (λ (o : Option Entry). EachAreBetween (is_listed (coupled_symbols cond)) (entry_cases o)) (sym h.at)
-    (cases_between (is_listed (coupled_symbols cond)) (view h.entry.0) h.entry.1 (entry_splits facts cond pick h.entry typed h.at h.inside)
+    (cases_between (is_listed (coupled_symbols cond)) (view h.entry.0) h.entry.1
+    (entry_splits facts cond pick h.entry typed h.at h.inside)
     (λ s occurs. occurs_listed facts cond pick h.entry s typed h.at h.inside occurs))
 
 -- the values meet one of the cases of each choice
@@ -87,15 +98,23 @@ abbrev pub MeetCases : Condition → List ℕ → List Origin → Type 0
 MeetCases cond x [] = Unit {0}
 MeetCases cond x (o ∷ origins) = (is_one_met x (cases_from cond o) ≡ true) × MeetCases cond x origins
 
-pub each_from : Facts → (cond : Condition) (x : List ℕ) (origins : List Origin) → AllTyped cond.widths cond.entries → AreOrigins cond origins → MeetCases cond x origins → MeetsEach (pos 0 ∷ integers_of x (coupled_symbols cond)) (choices_from cond origins)
+pub each_from : Facts → (cond : Condition) (x : List ℕ) (origins : List Origin) → AllTyped cond.widths cond.entries
+    → AreOrigins cond origins → MeetCases cond x origins
+    → MeetsEach (pos 0 ∷ integers_of x (coupled_symbols cond)) (choices_from cond origins)
 each_from facts cond x [] typed are h = tt
-each_from facts cond x (o ∷ origins) typed are h =
-    (one_from x (coupled_symbols cond) (cases_from cond o) (origin_between facts cond o typed are.0) h.0, each_from facts cond x origins typed are.1 h.1)
+each_from facts cond x (o ∷ origins) typed are h = (
+  one_from x (coupled_symbols cond) (cases_from cond o) (origin_between facts cond o typed are.0) h.0,
+  each_from facts cond x origins typed are.1 h.1,
+)
 
-pub each_to : Facts → (cond : Condition) (x : List ℕ) (origins : List Origin) → AllTyped cond.widths cond.entries → AreOrigins cond origins → MeetsEach (pos 0 ∷ integers_of x (coupled_symbols cond)) (choices_from cond origins) → MeetCases cond x origins
+pub each_to : Facts → (cond : Condition) (x : List ℕ) (origins : List Origin) → AllTyped cond.widths cond.entries
+    → AreOrigins cond origins → MeetsEach (pos 0 ∷ integers_of x (coupled_symbols cond)) (choices_from cond origins)
+    → MeetCases cond x origins
 each_to facts cond x [] typed are h = tt
-each_to facts cond x (o ∷ origins) typed are h =
-    (one_to x (coupled_symbols cond) (cases_from cond o) (origin_between facts cond o typed are.0) h.0, each_to facts cond x origins typed are.1 h.1)
+each_to facts cond x (o ∷ origins) typed are h = (
+  one_to x (coupled_symbols cond) (cases_from cond o) (origin_between facts cond o typed are.0) h.0,
+  each_to facts cond x origins typed are.1 h.1,
+)
 
 -- Look-ups in what is met
 
@@ -103,23 +122,30 @@ meet_right : (cond : Condition) (x : List ℕ) (os ps : List Origin) → MeetCas
 meet_right cond x [] ps h = h
 meet_right cond x (o ∷ os) ps h = meet_right cond x os ps h.1
 
-range_met : (cond : Condition) (x : List ℕ) (symbols : List SymId) (rest : List Origin) (s : SymId) → MeetCases cond x (map Ranges symbols ++ rest) → is_listed symbols s ≡ true → is_one_met x (domain_cases cond s) ≡ true
+range_met : (cond : Condition) (x : List ℕ) (symbols : List SymId) (rest : List Origin) (s : SymId)
+    → MeetCases cond x (map Ranges symbols ++ rest) → is_listed symbols s ≡ true
+    → is_one_met x (domain_cases cond s) ≡ true
 range_met cond x [] rest s h listed = absurd (cc)
 range_met cond x (r ∷ symbols) rest s h listed =
     elim (or_cases (nat_eq r.0 s.0) (is_listed symbols s) listed) [
-      | inl here ↦ let same : r.0 ≡ s.0 = eqb-true r.0 s.0 here in subst (λ (n : ℕ). is_one_met x (domain_cases cond (record { 0 = n })) ≡ true) same h.0
+      | inl here ↦ let same : r.0 ≡ s.0 = eqb-true r.0 s.0 here in
+          subst (λ (n : ℕ). is_one_met x (domain_cases cond (record { 0 = n })) ≡ true) same h.0
       | inr later ↦ range_met cond x symbols rest s h.1 later
     ]
 
-chosen_met : (c : Condition) (x : List ℕ) (pick : ℕ) (rest : List Origin) (b : Bool) → MeetCases c x (cond b (Cases pick ∷ rest) rest) → MeetCases c x rest
+chosen_met : (c : Condition) (x : List ℕ) (pick : ℕ) (rest : List Origin) (b : Bool)
+    → MeetCases c x (cond b (Cases pick ∷ rest) rest) → MeetCases c x rest
 chosen_met c x pick rest true h = h.1
 chosen_met c x pick rest false h = h
 
-here_met : (c : Condition) (x : List ℕ) (pick : ℕ) (rest : List Origin) (b : Bool) → b ≡ true → MeetCases c x (cond b (Cases pick ∷ rest) rest) → is_one_met x (cases_from c (Cases pick)) ≡ true
+here_met : (c : Condition) (x : List ℕ) (pick : ℕ) (rest : List Origin) (b : Bool) → b ≡ true
+    → MeetCases c x (cond b (Cases pick ∷ rest) rest) → is_one_met x (cases_from c (Cases pick)) ≡ true
 here_met c x pick rest true e h = h.0
 here_met c x pick rest false e h = absurd (cc)
 
-formula_met : (cond : Condition) (x : List ℕ) (pick : ℕ) (entries : List Entry) (i : ℕ) (e : Entry) → MeetCases cond x (formula_origins pick entries) → slice_get entries i ≡ Some e → is_inside e ≡ true → is_one_met x (cases_from cond (Cases (pick + i))) ≡ true
+formula_met : (cond : Condition) (x : List ℕ) (pick : ℕ) (entries : List Entry) (i : ℕ) (e : Entry)
+    → MeetCases cond x (formula_origins pick entries) → slice_get entries i ≡ Some e → is_inside e ≡ true
+    → is_one_met x (cases_from cond (Cases (pick + i))) ≡ true
 formula_met cond x pick [] i e h is inside = absurd (cc)
 formula_met cond x pick (d ∷ entries) zero e h is inside =
     let same : d ≡ e = cc in
@@ -129,19 +155,25 @@ formula_met cond x pick (d ∷ entries) zero e h is inside =
 formula_met cond x pick (d ∷ entries) (suc i) e h is inside =
     let p : suc pick + i ≡ pick + suc i = omega arith in
     subst (λ (n : ℕ). is_one_met x (cases_from cond (Cases n)) ≡ true) p
-    (formula_met cond x (suc pick) entries i e (chosen_met cond x pick (formula_origins (suc pick) entries) (is_inside d) h) is inside)
+    (formula_met cond x (suc pick) entries i e
+    (chosen_met cond x pick (formula_origins (suc pick) entries) (is_inside d) h) is inside)
 
 -- the values meet one of the ranges of each coupled symbol's domain
-pub coupled_range_met : (cond : Condition) (x : List ℕ) (s : SymId) → MeetCases cond x (origins_of cond) → is_listed (coupled_symbols cond) s ≡ true → is_one_met x (domain_cases cond s) ≡ true
+pub coupled_range_met : (cond : Condition) (x : List ℕ) (s : SymId) → MeetCases cond x (origins_of cond)
+    → is_listed (coupled_symbols cond) s ≡ true → is_one_met x (domain_cases cond s) ≡ true
 coupled_range_met cond x s h listed = range_met cond x (coupled_symbols cond) (formula_origins 0 cond.entries) s h listed
 
 -- the values meet one of the cases of each inside formula
-pub inside_case_met : (cond : Condition) (x : List ℕ) (pick : ℕ) (e : Entry) → MeetCases cond x (origins_of cond) → slice_get cond.entries pick ≡ Some e → is_inside e ≡ true → is_one_met x (cases_of (view e.0) e.1) ≡ true
+pub inside_case_met : (cond : Condition) (x : List ℕ) (pick : ℕ) (e : Entry) → MeetCases cond x (origins_of cond)
+    → slice_get cond.entries pick ≡ Some e → is_inside e ≡ true → is_one_met x (cases_of (view e.0) e.1) ≡ true
 inside_case_met cond x pick e h is inside =
-    let met = formula_met cond x 0 cond.entries pick e (meet_right cond x (map Ranges (coupled_symbols cond)) (formula_origins 0 cond.entries) h) is inside in
+    let met =
+    formula_met cond x 0 cond.entries pick e
+    (meet_right cond x (map Ranges (coupled_symbols cond)) (formula_origins 0 cond.entries) h) is inside in
     let p : 0 + pick ≡ pick = omega arith in
     subst (λ (o : Option Entry). is_one_met x (entry_cases o) ≡ true) (ap (slice_get cond.entries) p ∙ is) met
 
-pub meet_all : (cond : Condition) (x : List ℕ) (origins : List Origin) → AreOrigins cond origins → ((o : Origin) → IsOrigin cond o → is_one_met x (cases_from cond o) ≡ true) → MeetCases cond x origins
+pub meet_all : (cond : Condition) (x : List ℕ) (origins : List Origin) → AreOrigins cond origins
+    → ((o : Origin) → IsOrigin cond o → is_one_met x (cases_from cond o) ≡ true) → MeetCases cond x origins
 meet_all cond x [] are h = tt
 meet_all cond x (o ∷ origins) are h = (h o are.0, meet_all cond x origins are.1 h)

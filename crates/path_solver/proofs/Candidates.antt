@@ -35,7 +35,8 @@ simple_kind s (Simple r) h = let same : r.0 ≡ s.0 = eqb-true r.0 s.0 h in ap (
 simple_kind s Inside h = absurd (cc)
 simple_kind s Outside h = absurd (cc)
 
-pub not_outside : (e : Entry) (values : List ℕ) (k : Kind) → kind_of (view e.0) ≡ k → is_outside_kind k ≡ false → holds_unless_outside values e ≡ true → entry_holds values e ≡ true
+pub not_outside : (e : Entry) (values : List ℕ) (k : Kind) → kind_of (view e.0) ≡ k → is_outside_kind k ≡ false
+    → holds_unless_outside values e ≡ true → entry_holds values e ≡ true
 not_outside e values k is inner h = drop_outside (is_outside e) (entry_holds values e) (ap is_outside_kind is ∙ inner) h
   where
     drop_outside : (a b : Bool) → a ≡ false → (a || b) ≡ true → b ≡ true
@@ -48,38 +49,47 @@ inside_is (Simple s) h = refl
 inside_is Inside h = refl
 inside_is Outside h = absurd (cc)
 
-meets_by : Facts → (s : SymId) (x : List ℕ) (e : Entry) (b : Bool) → is_entry_on s e ≡ b → holds_unless_outside x e ≡ true → cond b (entry_holds (alone s (slice_index x s.0)) e) true ≡ true
+meets_by : Facts → (s : SymId) (x : List ℕ) (e : Entry) (b : Bool) → is_entry_on s e ≡ b
+    → holds_unless_outside x e ≡ true → cond b (entry_holds (alone s (slice_index x s.0)) e) true ≡ true
 meets_by facts s x e true on h =
     let kind : kind_of (view e.0) ≡ Simple s = simple_kind s (kind_of (view e.0)) on in
     ap (agrees e.1) (sym (facts.simple_alone (view e.0) s x kind)) ∙ not_outside e x (Simple s) kind refl h
 meets_by facts s x e false on h = refl
 
 -- the value of a symbol meets its simple formulas
-pub candidate_in_domain : Facts → (cond : Condition) (x : List ℕ) (s : SymId) → AreCandidates cond x → in_domain s cond (slice_index x s.0) ≡ true
+pub candidate_in_domain : Facts → (cond : Condition) (x : List ℕ) (s : SymId) → AreCandidates cond x
+    → in_domain s cond (slice_index x s.0) ≡ true
 candidate_in_domain facts cond x s h =
     all_at (meets s (alone s (slice_index x s.0))) cond.entries
     (λ i e is. meets_by facts s x e (is_entry_on s e) refl (at_all (holds_unless_outside x) cond.entries i e h.satisfied is))
 
 -- the values meet one of the cases of each choice
-pub candidate_meets : Facts → (cond : Condition) (x : List ℕ) (o : Origin) → AllTyped cond.widths cond.entries → AreCandidates cond x → IsOrigin cond o → is_one_met x (cases_from cond o) ≡ true
+pub candidate_meets : Facts → (cond : Condition) (x : List ℕ) (o : Origin) → AllTyped cond.widths cond.entries
+    → AreCandidates cond x → IsOrigin cond o → is_one_met x (cases_from cond o) ≡ true
 candidate_meets facts cond x (Ranges s) typed h origin =
     let narrow = listed_narrow facts cond s typed origin in
     let fits : FitsWidth (slice_index cond.widths s.0) (slice_index x s.0) =
-    subst (λ (w : ℕ). FitsWidth w (slice_index x s.0)) (sym (index_at cond.widths s.0 narrow.width narrow.at)) (h.fitting.fit s.0 narrow.width narrow.at) in
+    subst (λ (w : ℕ). FitsWidth w (slice_index x s.0)) (sym (index_at cond.widths s.0 narrow.width narrow.at))
+    (h.fitting.fit s.0 narrow.width narrow.at) in
     facts.ranges_are_test s (slice_index cond.widths s.0) (in_domain s cond) x fits ∙ candidate_in_domain facts cond x s h
 candidate_meets facts cond x (Cases pick) typed h origin =
     let e = origin.entry in
     let holds : entry_holds x e ≡ true =
-    not_outside e x (kind_of (view e.0)) refl (inside_is (kind_of (view e.0)) origin.inside) (at_all (holds_unless_outside x) cond.entries pick e h.satisfied origin.at) in
+    not_outside e x (kind_of (view e.0)) refl (inside_is (kind_of (view e.0)) origin.inside)
+    (at_all (holds_unless_outside x) cond.entries pick e h.satisfied origin.at) in
     subst (λ (o : Option Entry). is_one_met x (entry_cases o) ≡ true) (sym origin.at)
-    (facts.cases_are_truth (view e.0) e.1 cond.widths x (entry_splits facts cond pick e typed origin.at origin.inside) (typed_at cond.widths cond.entries pick e typed origin.at) h.fitting.fit ∙ holds)
+    (facts.cases_are_truth (view e.0) e.1 cond.widths x (entry_splits facts cond pick e typed origin.at origin.inside)
+    (typed_at cond.widths cond.entries pick e typed origin.at) h.fitting.fit ∙ holds)
 
-value_under : (x : List ℕ) (s : SymId) (ranges : List Range) (limit : ℕ) → AreUnder limit ranges → is_one_met x (map (range_case s) ranges) ≡ true → slice_index x s.0 < limit
+value_under : (x : List ℕ) (s : SymId) (ranges : List Range) (limit : ℕ) → AreUnder limit ranges
+    → is_one_met x (map (range_case s) ranges) ≡ true → slice_index x s.0 < limit
 value_under x s [] limit under h = absurd (cc)
 value_under x s (r ∷ ranges) limit under h =
     elim (or_cases (is_case_met x (range_case s r)) (is_one_met x (map (range_case s) ranges)) h) [
       | inl here ↦
-          let rest = and_right (int_le (pos 0 -ℤ pos (slice_index x s.0)) (neg_ℤ (pos r.0))) (int_le (pos (slice_index x s.0) -ℤ pos 0) (pos r.1) && true) here in
+          let rest =
+          and_right (int_le (pos 0 -ℤ pos (slice_index x s.0)) (neg_ℤ (pos r.0)))
+          (int_le (pos (slice_index x s.0) -ℤ pos 0) (pos r.1) && true) here in
           let last = and_left (int_le (pos (slice_index x s.0) -ℤ pos 0) (pos r.1)) true rest in
           lt_moved (slice_index x s.0) r.1 limit last under.1
       | inr later ↦ value_under x s ranges limit under.2 later
@@ -93,21 +103,27 @@ pub record IsPossibleFor (cond : Condition) (s : SymId) (value : ℕ) : Type 0 w
   pub fits : FitsWidth (slice_index cond.widths s.0) value
   pub meets : in_domain s cond value ≡ true
 
-pub met_is_possible : Facts → (cond : Condition) (x : List ℕ) (s : SymId) → is_one_met x (domain_cases cond s) ≡ true → IsPossibleFor cond s (slice_index x s.0)
+pub met_is_possible : Facts → (cond : Condition) (x : List ℕ) (s : SymId) → is_one_met x (domain_cases cond s) ≡ true
+    → IsPossibleFor cond s (slice_index x s.0)
 met_is_possible facts cond x s h =
     let fits : FitsWidth (slice_index cond.widths s.0) (slice_index x s.0) =
-    value_under x s (ranges_where (slice_index cond.widths s.0) (in_domain s cond)) (2 ^ slice_index cond.widths s.0) (ranges_under (slice_index cond.widths s.0) (in_domain s cond)) h in
+    value_under x s (ranges_where (slice_index cond.widths s.0) (in_domain s cond)) (2 ^ slice_index cond.widths s.0)
+    (ranges_under (slice_index cond.widths s.0) (in_domain s cond)) h in
     record { fits = fits; meets = sym (facts.ranges_are_test s (slice_index cond.widths s.0) (in_domain s cond) x fits) ∙ h }
 
 -- no formula is a broken constant one
-pub unbroken_at : (i : ℕ) (entries : List Entry) (k : ℕ) (e : Entry) → position_from is_broken i entries ≡ None → slice_get entries k ≡ Some e → is_broken e ≡ false
+pub unbroken_at : (i : ℕ) (entries : List Entry) (k : ℕ) (e : Entry) → position_from is_broken i entries ≡ None
+    → slice_get entries k ≡ Some e → is_broken e ≡ false
 unbroken_at i [] k e h is = absurd (cc)
-unbroken_at i (d ∷ entries) zero e h is = let same : d ≡ e = cc in ap is_broken (sym same) ∙ first_unbroken (is_broken d) (position_from is_broken (i + 1) entries) i h
+unbroken_at i (d ∷ entries) zero e h is =
+    let same : d ≡ e = cc in ap is_broken (sym same)
+    ∙ first_unbroken (is_broken d) (position_from is_broken (i + 1) entries) i h
   where
     first_unbroken : (b : Bool) (rest : Option ℕ) (n : ℕ) → cond b (Some n) rest ≡ None → b ≡ false
     first_unbroken true rest n h = absurd (cc)
     first_unbroken false rest n h = refl
-unbroken_at i (d ∷ entries) (suc k) e h is = unbroken_at (i + 1) entries k e (rest_unbroken (is_broken d) (position_from is_broken (i + 1) entries) i h) is
+unbroken_at i (d ∷ entries) (suc k) e h is =
+    unbroken_at (i + 1) entries k e (rest_unbroken (is_broken d) (position_from is_broken (i + 1) entries) i h) is
   where
     rest_unbroken : (b : Bool) (rest : Option ℕ) (n : ℕ) → cond b (Some n) rest ≡ None → rest ≡ None
     rest_unbroken true rest n h = absurd (cc)
@@ -133,37 +149,50 @@ ArePossible cond x = (s : SymId) → s.0 < length cond.widths → IsPossibleFor 
 
 pub possible_fit : (cond : Condition) (x : List ℕ) → ArePossible cond x → AreValues cond.widths x
 possible_fit cond x h = λ symbol width is.
-    subst (λ (w : ℕ). FitsWidth w (slice_index x symbol)) (index_at cond.widths symbol width is) (h (record { 0 = symbol }) (known_at cond.widths symbol width is)).fits
+    subst (λ (w : ℕ). FitsWidth w (slice_index x symbol)) (index_at cond.widths symbol width is)
+    (h (record { 0 = symbol }) (known_at cond.widths symbol width is)).fits
 
-entry_satisfied : Facts → (cond : Condition) (x : List ℕ) (pick : ℕ) (e : Entry) (k : Kind) → AllTyped cond.widths cond.entries → first_broken cond ≡ None → ArePossible cond x → MeetCases cond x (origins_of cond)
+entry_satisfied : Facts → (cond : Condition) (x : List ℕ) (pick : ℕ) (e : Entry) (k : Kind)
+    → AllTyped cond.widths cond.entries → first_broken cond ≡ None → ArePossible cond x
+    → MeetCases cond x (origins_of cond)
     → slice_get cond.entries pick ≡ Some e → kind_of (view e.0) ≡ k → holds_unless_outside x e ≡ true
 entry_satisfied facts cond x pick e (Constant truth) typed none possible met is kind =
-    let unbroken : is_broken_kind e.1 (Constant truth) ≡ false = ap (is_broken_kind e.1) (sym kind) ∙ unbroken_at 0 cond.entries pick e none is in
-    or_true (is_outside e) (entry_holds x e) (ap (agrees e.1) (facts.constant_truth (view e.0) truth x kind) ∙ constant_holds e.1 truth unbroken)
+    let unbroken : is_broken_kind e.1 (Constant truth) ≡ false =
+    ap (is_broken_kind e.1) (sym kind) ∙ unbroken_at 0 cond.entries pick e none is in
+    or_true (is_outside e) (entry_holds x e)
+    (ap (agrees e.1) (facts.constant_truth (view e.0) truth x kind) ∙ constant_holds e.1 truth unbroken)
 entry_satisfied facts cond x pick e (Simple s) typed none possible met is kind =
     let known = facts.simple_known (view e.0) s cond.widths kind (typed_at cond.widths cond.entries pick e typed is) in
     let p = possible s (known_at cond.widths s.0 known.0 known.1) in
     let met' = at_all (λ (d : Entry). meets s (alone s (slice_index x s.0)) d) cond.entries pick e p.meets is in
     let on : is_entry_on s e ≡ true = ap (is_simple_on s) kind ∙ on_itself s.0 in
-    or_true (is_outside e) (entry_holds x e) (ap (agrees e.1) (facts.simple_alone (view e.0) s x kind) ∙ when_true (is_entry_on s e) (entry_holds (alone s (slice_index x s.0)) e) on met')
+    or_true (is_outside e) (entry_holds x e)
+    (ap (agrees e.1) (facts.simple_alone (view e.0) s x kind)
+    ∙ when_true (is_entry_on s e) (entry_holds (alone s (slice_index x s.0)) e) on met')
   where
     on_itself : (n : ℕ) → nat_eq n n ≡ true
     on_itself n = eq-eqb n n refl
 entry_satisfied facts cond x pick e Inside typed none possible met is kind =
     let inside : is_inside e ≡ true = ap is_inside_kind kind in
     or_true (is_outside e) (entry_holds x e)
-    (sym (facts.cases_are_truth (view e.0) e.1 cond.widths x (entry_splits facts cond pick e typed is inside) (typed_at cond.widths cond.entries pick e typed is) (possible_fit cond x possible))
+    (sym (facts.cases_are_truth (view e.0) e.1 cond.widths x (entry_splits facts cond pick e typed is inside)
+    (typed_at cond.widths cond.entries pick e typed is) (possible_fit cond x possible))
     ∙ inside_case_met cond x pick e met is inside)
-entry_satisfied facts cond x pick e Outside typed none possible met is kind = or_first (is_outside e) (entry_holds x e) (ap is_outside_kind kind)
+entry_satisfied facts cond x pick e Outside typed none possible met is kind =
+    or_first (is_outside e) (entry_holds x e) (ap is_outside_kind kind)
   where
     or_first : (a b : Bool) → a ≡ true → (a || b) ≡ true
     or_first true b h = refl
     or_first false b h = absurd (cc)
 
 -- possible values that meet one of the cases of each choice
-pub met_candidate : Facts → (cond : Condition) (x : List ℕ) → AllTyped cond.widths cond.entries → first_broken cond ≡ None → length x ≡ length cond.widths → ArePossible cond x → MeetCases cond x (origins_of cond) → AreCandidates cond x
+pub met_candidate : Facts → (cond : Condition) (x : List ℕ) → AllTyped cond.widths cond.entries
+    → first_broken cond ≡ None → length x ≡ length cond.widths → ArePossible cond x → MeetCases cond x (origins_of cond)
+    → AreCandidates cond x
 met_candidate facts cond x typed none one_each possible met =
     record {
       fitting = record { one_each = one_each; fit = possible_fit cond x possible };
-      satisfied = all_at (holds_unless_outside x) cond.entries (λ i e is. entry_satisfied facts cond x i e (kind_of (view e.0)) typed none possible met is refl);
+      satisfied =
+          all_at (holds_unless_outside x) cond.entries
+          (λ i e is. entry_satisfied facts cond x i e (kind_of (view e.0)) typed none possible met is refl);
     }

@@ -27,10 +27,13 @@ first_none : (b : Bool) (rest : Option ℕ) (n : ℕ) → cond b (Some n) rest �
 first_none true rest n h = absurd (cc)
 first_none false rest n h = (refl, h)
 
-none_at : (p : Entry → Bool) (first : ℕ) (entries : List Entry) (i : ℕ) (e : Entry) → position_from p first entries ≡ None → slice_get entries i ≡ Some e → p e ≡ false
+none_at : (p : Entry → Bool) (first : ℕ) (entries : List Entry) (i : ℕ) (e : Entry)
+    → position_from p first entries ≡ None → slice_get entries i ≡ Some e → p e ≡ false
 none_at p first [] i e h is = absurd (cc)
-none_at p first (d ∷ entries) zero e h is = let same : d ≡ e = cc in ap p (sym same) ∙ (first_none (p d) (position_from p (first + 1) entries) first h).0
-none_at p first (d ∷ entries) (suc i) e h is = none_at p (first + 1) entries i e (first_none (p d) (position_from p (first + 1) entries) first h).1 is
+none_at p first (d ∷ entries) zero e h is =
+    let same : d ≡ e = cc in ap p (sym same) ∙ (first_none (p d) (position_from p (first + 1) entries) first h).0
+none_at p first (d ∷ entries) (suc i) e h is =
+    none_at p (first + 1) entries i e (first_none (p d) (position_from p (first + 1) entries) first h).1 is
 
 holds_by : (outside holds : Bool) → (outside || holds) ≡ true → (outside && not holds) ≡ false → holds ≡ true
 holds_by true true h g = refl
@@ -43,7 +46,8 @@ met_true c values h =
     let candidates = h.least.candidates in (
       candidates.fitting,
       all_at (entry_holds values) c.entries (λ i e is.
-          holds_by (is_outside e) (entry_holds values e) (at_all (holds_unless_outside values) c.entries i e candidates.satisfied is)
+          holds_by (is_outside e) (entry_holds values e)
+          (at_all (holds_unless_outside values) c.entries i e candidates.satisfied is)
           (none_at (is_broken_outside values) 0 c.entries i e h.broken_is is)),
     )
 
@@ -55,12 +59,23 @@ record IsFoundAt (p : Entry → Bool) (entries : List Entry) (first pick : ℕ) 
   pub passes : p entry ≡ true
   pub is : pick ≡ first + place
 
-found_by : (p : Entry → Bool) (entries : List Entry) (d : Entry) (first pick : ℕ) (b : Bool) → p d ≡ b → cond b (Some first) (position_from p (first + 1) entries) ≡ Some pick
-    → (position_from p (first + 1) entries ≡ Some pick → IsFoundAt p entries (first + 1) pick) → IsFoundAt p (d ∷ entries) first pick
-found_by p entries d first pick true is e later = let same : first ≡ pick = cc in record { place = 0; entry = d; at = refl; passes = is; is = omega arith }
-found_by p entries d first pick false is e later = let r = later e in record { place = suc r.place; entry = r.entry; at = r.at; passes = r.passes; is = omega (arith, r.is) }
+found_by : (p : Entry → Bool) (entries : List Entry) (d : Entry) (first pick : ℕ) (b : Bool) → p d ≡ b
+    → cond b (Some first) (position_from p (first + 1) entries) ≡ Some pick
+    → (position_from p (first + 1) entries ≡ Some pick → IsFoundAt p entries (first + 1) pick)
+    → IsFoundAt p (d ∷ entries) first pick
+found_by p entries d first pick true is e later =
+    let same : first ≡ pick = cc in record { place = 0; entry = d; at = refl; passes = is; is = omega arith }
+found_by p entries d first pick false is e later =
+    let r = later e in record {
+      place = suc r.place;
+      entry = r.entry;
+      at = r.at;
+      passes = r.passes;
+      is = omega (arith, r.is);
+    }
 
-found_at : (p : Entry → Bool) (entries : List Entry) (first pick : ℕ) → position_from p first entries ≡ Some pick → IsFoundAt p entries first pick
+found_at : (p : Entry → Bool) (entries : List Entry) (first pick : ℕ) → position_from p first entries ≡ Some pick
+    → IsFoundAt p entries first pick
 found_at p [] first pick e = absurd (cc)
 found_at p (d ∷ entries) first pick e = found_by p entries d first pick (p d) refl e (λ g. found_at p entries (first + 1) pick g)
 
@@ -82,7 +97,8 @@ licensed c (OutsideCause pick values) h =
       broken = not_true (entry_holds values r.entry) (and_right (is_outside r.entry) (not (entry_holds values r.entry)) r.passes);
     }
 
-broken_constant : Facts → (values : List ℕ) (e : Entry) (k : Kind) → kind_of (view e.0) ≡ k → is_broken_kind e.1 k ≡ true → holds_unless_outside values e ≡ true → ⊥
+broken_constant : Facts → (values : List ℕ) (e : Entry) (k : Kind) → kind_of (view e.0) ≡ k
+    → is_broken_kind e.1 k ≡ true → holds_unless_outside values e ≡ true → ⊥
 broken_constant facts values e (Constant truth) kind h g =
     let no' = not_true (agrees e.1 truth) h in
     let holds = not_outside e values (Constant truth) kind refl g in
@@ -95,17 +111,22 @@ below_is : (v limit : ℕ) → v < limit → nat_lt v limit ≡ true
 below_is v limit h = grind (arith, nat_tests)
 
 -- a refuted condition has no candidates
-refuted_none : Facts → (c : Condition) (values : List ℕ) → IsRefuted c → AreCandidates c values → ⊥
+pub refuted_none : Facts → (c : Condition) (values : List ℕ) → IsRefuted c → AreCandidates c values → ⊥
 refuted_none facts c values h candidates =
     elim h [
       | inl simply ↦ elim simply [
         | inl broken ↦
             let r = broken_at c.entries 0 broken.pick broken.first in
-            broken_constant facts values r.entry (kind_of (view r.entry.0)) refl r.broken (at_all (holds_unless_outside values) c.entries r.place r.entry candidates.satisfied r.at)
+            broken_constant facts values r.entry (kind_of (view r.entry.0)) refl r.broken
+            (at_all (holds_unless_outside values) c.entries r.place r.entry candidates.satisfied r.at)
         | inr empty ↦
             let s = empty.symbol in
-            let yes = and_both (fits_width (slice_index c.widths s.0) (slice_index values s.0)) (in_domain s c (slice_index values s.0))
-            (below_is (slice_index values s.0) (2 ^ slice_index c.widths s.0) (candidates.fitting.fit s.0 (slice_index c.widths s.0) (get_at c.widths s.0 empty.known))) (candidate_in_domain facts c values s candidates) in
+            let yes =
+            and_both (fits_width (slice_index c.widths s.0) (slice_index values s.0))
+            (in_domain s c (slice_index values s.0))
+            (below_is (slice_index values s.0) (2 ^ slice_index c.widths s.0)
+            (candidates.fitting.fit s.0 (slice_index c.widths s.0) (get_at c.widths s.0 empty.known)))
+            (candidate_in_domain facts c values s candidates) in
             let none = empty.no_value (slice_index values s.0) in cc
       ]
       | inr by_cases ↦ by_cases.no_candidates values candidates
@@ -118,11 +139,19 @@ simply_apart c h open' =
       | inr empty ↦ let v = open'.possible empty.symbol empty.known in let none = empty.no_value v.0 in let some = v.1 in cc
     ]
 
-undecided_apart : Facts → (c : Condition) (cause : Cause) → IsUndecidedBy c cause → IsRefuted c → ⊥
+pub undecided_apart : Facts → (c : Condition) (cause : Cause) → IsUndecidedBy c cause → IsRefuted c → ⊥
 undecided_apart facts c (Coupled count) h r =
-    elim r [ inl simply ↦ simply_apart c simply h.simply_open | inr by_cases ↦ absurd (omega (arith, by_cases.within.coupled, h.is, h.many)) ]
+    elim r [
+      | inl simply ↦ simply_apart c simply h.simply_open
+      | inr by_cases ↦ absurd
+          (omega (arith, by_cases.within.coupled, h.is, h.many))
+    ]
 undecided_apart facts c (Cases count) h r =
-    elim r [ inl simply ↦ simply_apart c simply h.1.simply_open | inr by_cases ↦ absurd (omega (arith, by_cases.within.choices, h.1.is, h.1.many)) ]
+    elim r [
+      | inl simply ↦ simply_apart c simply h.1.simply_open
+      | inr by_cases ↦ absurd
+          (omega (arith, by_cases.within.choices, h.1.is, h.1.many))
+    ]
 undecided_apart facts c (OutsideCause pick values) h r = refuted_none facts c values r h.least.candidates
 
 pub unsat_exactly : Facts → (c : Condition) (d : Decided) → IsDecisionOn c d → IsUnsat d ↔ IsRefuted c

@@ -4,6 +4,7 @@ pub mod Bridge
 pub mod Candidates
 pub mod Entries
 pub mod Exact
+pub mod Fragment
 pub mod Gathering
 pub mod Goodness
 pub mod Numbering
@@ -11,3 +12,5 @@ pub mod Places
 pub mod Refuting
 pub mod Simple
 pub mod Solved
+pub mod Verdicts
+pub mod Words

@@ -53,14 +53,26 @@ pub record IsBrokenAt (entries : List Entry) (first pick : ℕ) : Type 0 where
   pub broken : is_broken entry ≡ true
   pub is : pick ≡ first + place
 
-broken_by : (entries : List Entry) (d : Entry) (first pick : ℕ) (b : Bool) → is_broken d ≡ b → cond b (Some first) (position_from is_broken (first + 1) entries) ≡ Some pick
-    → (position_from is_broken (first + 1) entries ≡ Some pick → IsBrokenAt entries (first + 1) pick) → IsBrokenAt (d ∷ entries) first pick
-broken_by entries d first pick true is e later = let same : first ≡ pick = cc in record { place = 0; entry = d; at = refl; broken = is; is = omega arith }
-broken_by entries d first pick false is e later = let r = later e in record { place = suc r.place; entry = r.entry; at = r.at; broken = r.broken; is = omega (arith, r.is) }
+broken_by : (entries : List Entry) (d : Entry) (first pick : ℕ) (b : Bool) → is_broken d ≡ b
+    → cond b (Some first) (position_from is_broken (first + 1) entries) ≡ Some pick
+    → (position_from is_broken (first + 1) entries ≡ Some pick → IsBrokenAt entries (first + 1) pick)
+    → IsBrokenAt (d ∷ entries) first pick
+broken_by entries d first pick true is e later =
+    let same : first ≡ pick = cc in record { place = 0; entry = d; at = refl; broken = is; is = omega arith }
+broken_by entries d first pick false is e later =
+    let r = later e in record {
+      place = suc r.place;
+      entry = r.entry;
+      at = r.at;
+      broken = r.broken;
+      is = omega (arith, r.is);
+    }
 
-pub broken_at : (entries : List Entry) (first pick : ℕ) → position_from is_broken first entries ≡ Some pick → IsBrokenAt entries first pick
+pub broken_at : (entries : List Entry) (first pick : ℕ) → position_from is_broken first entries ≡ Some pick
+    → IsBrokenAt entries first pick
 broken_at [] first pick e = absurd (cc)
-broken_at (d ∷ entries) first pick e = broken_by entries d first pick (is_broken d) refl e (λ g. broken_at entries (first + 1) pick g)
+broken_at (d ∷ entries) first pick e =
+    broken_by entries d first pick (is_broken d) refl e (λ g. broken_at entries (first + 1) pick g)
 
 atom_constant : (k : AtomKind) → (is_constant_kind k && true) ≡ true → is_constant_kind k ≡ true
 atom_constant OneTruth h = refl
@@ -82,8 +94,10 @@ mutual
   -- a formula of constant atoms has cases
   constants_split : (f : FormulaTree) → list_all is_constant (atoms_of f) ≡ true → CanSplit f
   constants_split (always truth) h = tt
-  constants_split (compared rel left right) h = atom_splits (comparison_kind left right) left.width right.width (atom_constant (comparison_kind left right) h)
-  constants_split (belongs term set) h = atom_splits (membership_kind term) term.width set.width (atom_constant (membership_kind term) h)
+  constants_split (compared rel left right) h =
+      atom_splits (comparison_kind left right) left.width right.width (atom_constant (comparison_kind left right) h)
+  constants_split (belongs term set) h =
+      atom_splits (membership_kind term) term.width set.width (atom_constant (membership_kind term) h)
   constants_split (all_of fs) h = each_splits fs h
   constants_split (any_of fs) h = each_splits fs h
   constants_split (opposite f) h = constants_split f h
@@ -91,7 +105,8 @@ mutual
   each_splits : (fs : Formulas) → list_all is_constant (atoms_among fs) ≡ true → EachCanSplit fs
   each_splits no_formulas h = tt
   each_splits (formula f fs) h =
-      let both : (list_all is_constant (atoms_of f) && list_all is_constant (atoms_among fs)) ≡ true = sym (list_all-append is_constant (atoms_of f) (atoms_among fs)) ∙ h in (
+      let both : (list_all is_constant (atoms_of f) && list_all is_constant (atoms_among fs)) ≡ true =
+      sym (list_all-append is_constant (atoms_of f) (atoms_among fs)) ∙ h in (
         constants_split f (and_left (list_all is_constant (atoms_of f)) (list_all is_constant (atoms_among fs)) both),
         each_splits fs (and_right (list_all is_constant (atoms_of f)) (list_all is_constant (atoms_among fs)) both),
       )
@@ -100,8 +115,12 @@ mutual
   -- and no symbol occurs in it
   constants_alone : (f : FormulaTree) (s : SymId) → list_all is_constant (atoms_of f) ≡ true → occurs_in s f ≡ true → ⊥
   constants_alone (always truth) s h o = cc
-  constants_alone (compared rel left right) s h o = none_there (is_constant_kind (comparison_kind left right)) (stands_in s left.parts || stands_in s right.parts) (atom_constant (comparison_kind left right) h) o
-  constants_alone (belongs term set) s h o = none_there (is_constant_kind (membership_kind term)) (stands_in s term.parts) (atom_constant (membership_kind term) h) o
+  constants_alone (compared rel left right) s h o =
+      none_there (is_constant_kind (comparison_kind left right)) (stands_in s left.parts || stands_in s right.parts)
+      (atom_constant (comparison_kind left right) h) o
+  constants_alone (belongs term set) s h o =
+      none_there (is_constant_kind (membership_kind term)) (stands_in s term.parts)
+      (atom_constant (membership_kind term) h) o
   constants_alone (all_of fs) s h o = among_alone fs s h o
   constants_alone (any_of fs) s h o = among_alone fs s h o
   constants_alone (opposite f) s h o = constants_alone f s h o
@@ -109,13 +128,17 @@ mutual
   among_alone : (fs : Formulas) (s : SymId) → list_all is_constant (atoms_among fs) ≡ true → occurs_among s fs ≡ true → ⊥
   among_alone no_formulas s h o = cc
   among_alone (formula f fs) s h o =
-      let both : (list_all is_constant (atoms_of f) && list_all is_constant (atoms_among fs)) ≡ true = sym (list_all-append is_constant (atoms_of f) (atoms_among fs)) ∙ h in
+      let both : (list_all is_constant (atoms_of f) && list_all is_constant (atoms_among fs)) ≡ true =
+      sym (list_all-append is_constant (atoms_of f) (atoms_among fs)) ∙ h in
       elim (or_cases (occurs_in s f) (occurs_among s fs) o) [
-        | inl here ↦ constants_alone f s (and_left (list_all is_constant (atoms_of f)) (list_all is_constant (atoms_among fs)) both) here
-        | inr later ↦ among_alone fs s (and_right (list_all is_constant (atoms_of f)) (list_all is_constant (atoms_among fs)) both) later
+        | inl here ↦ constants_alone f s
+            (and_left (list_all is_constant (atoms_of f)) (list_all is_constant (atoms_among fs)) both) here
+        | inr later ↦ among_alone fs s
+            (and_right (list_all is_constant (atoms_of f)) (list_all is_constant (atoms_among fs)) both) later
       ]
 
-no_bound : (b : SymBound) (plus minus : Option SymId) → Passes (λ _. false) plus → Passes (λ _. false) minus → HasSymbol plus minus → ⊥
+no_bound : (b : SymBound) (plus minus : Option SymId) → Passes (λ _. false) plus → Passes (λ _. false) minus
+    → HasSymbol plus minus → ⊥
 no_bound b (Some s) minus p m h = cc
 no_bound b None (Some s) p m h = cc
 no_bound b None None p m h = h
@@ -131,7 +154,9 @@ no_cases (case ∷ cases) h e = let yes = met_at_once case (is_one_met [] cases)
 zero_fits : (widths : List ℕ) → AreValues widths []
 zero_fits widths = λ symbol width is. pow_mono {i = 0} {j = width} (omega arith)
 
-broken_kind : (holds : Bool) (truth : Bool) (atoms : List Atom) (b : Bool) → list_all is_constant atoms ≡ b → is_broken_kind holds (cond b (Constant truth) (kind_unless_constant (only_symbol atoms) (list_any is_hard atoms))) ≡ true
+broken_kind : (holds : Bool) (truth : Bool) (atoms : List Atom) (b : Bool) → list_all is_constant atoms ≡ b
+    → is_broken_kind holds (cond b (Constant truth) (kind_unless_constant (only_symbol atoms) (list_any is_hard atoms)))
+    ≡ true
     → (list_all is_constant atoms ≡ true) × (agrees holds truth ≡ false)
 broken_kind holds truth atoms true is h = (is, was_true (agrees holds truth) h)
   where
@@ -146,9 +171,12 @@ broken_kind holds truth atoms false is h = absurd (never (only_symbol atoms) (li
     never None false h = cc
 
 -- a broken constant formula has no cases
-constant_cases_none : Facts → (widths : List ℕ) (e : Entry) → IsTyped widths (view e.0) → is_broken e ≡ true → CanSplit (view e.0) × (cases_of (view e.0) e.1 ≡ [])
+constant_cases_none : Facts → (widths : List ℕ) (e : Entry) → IsTyped widths (view e.0) → is_broken e ≡ true
+    → CanSplit (view e.0) × (cases_of (view e.0) e.1 ≡ [])
 constant_cases_none facts widths e typed h =
-    let both = broken_kind e.1 (truth_at (view e.0) []) (atoms_of (view e.0)) (list_all is_constant (atoms_of (view e.0))) refl h in
+    let both =
+    broken_kind e.1 (truth_at (view e.0) []) (atoms_of (view e.0)) (list_all is_constant (atoms_of (view e.0))) refl
+    h in
     let split = constants_split (view e.0) both.0 in (
       split,
       no_cases (cases_of (view e.0) e.1)
@@ -157,20 +185,28 @@ constant_cases_none facts widths e typed h =
     )
 
 -- the step that refutes a condition with a broken constant formula
-pub split_accepted : Facts → (cond : Condition) (pick : ℕ) → AllTyped cond.widths cond.entries → first_broken cond ≡ Some pick → IsAccepted cond (Split pick ∷ [])
+pub split_accepted : Facts → (cond : Condition) (pick : ℕ) → AllTyped cond.widths cond.entries
+    → first_broken cond ≡ Some pick → IsAccepted cond (Split pick ∷ [])
 split_accepted facts cond pick typed h =
     let r = broken_at cond.entries 0 pick h in
     let same : pick ≡ r.place = omega (arith, r.is) in
-    let none = constant_cases_none facts cond.widths r.entry (typed_at cond.widths cond.entries r.place r.entry typed r.at) r.broken in
+    let none =
+    constant_cases_none facts cond.widths r.entry (typed_at cond.widths cond.entries r.place r.entry typed r.at)
+    r.broken in
     ([], record { entry = r.entry; at = ap (slice_get cond.entries) same ∙ r.at; splits = none.0; cases_are = sym none.1 }, tt)
 
-picks_by : (c : Condition) (s : SymId) (n : ℕ) (e : Entry) (es : List Entry) (b : Bool) → slice_get c.entries n ≡ Some e → is_entry_on s e ≡ b → are_simple_picks s c (picks_from s (suc n) es) ≡ true
+picks_by : (c : Condition) (s : SymId) (n : ℕ) (e : Entry) (es : List Entry) (b : Bool) → slice_get c.entries n ≡ Some e
+    → is_entry_on s e ≡ b → are_simple_picks s c (picks_from s (suc n) es) ≡ true
     → are_simple_picks s c (cond b (n ∷ picks_from s (suc n) es) (picks_from s (suc n) es)) ≡ true
-picks_by c s n e es true is on h = and_both (is_simple_pick s c n) (are_simple_picks s c (picks_from s (suc n) es)) (ap (passes (is_entry_on s)) is ∙ on) h
+picks_by c s n e es true is on h =
+    and_both (is_simple_pick s c n) (are_simple_picks s c (picks_from s (suc n) es))
+    (ap (passes (is_entry_on s)) is ∙ on) h
 picks_by c s n e es false is on h = h
 
-meets_by : (c : Condition) (s : SymId) (v n : ℕ) (e : Entry) (es : List Entry) (b : Bool) → slice_get c.entries n ≡ Some e → meets_picks s c (picks_from s (suc n) es) v ≡ list_all (meets s (alone s v)) es
-    → meets_picks s c (cond b (n ∷ picks_from s (suc n) es) (picks_from s (suc n) es)) v ≡ (cond b (entry_holds (alone s v) e) true && list_all (meets s (alone s v)) es)
+meets_by : (c : Condition) (s : SymId) (v n : ℕ) (e : Entry) (es : List Entry) (b : Bool)
+    → slice_get c.entries n ≡ Some e → meets_picks s c (picks_from s (suc n) es) v ≡ list_all (meets s (alone s v)) es
+    → meets_picks s c (cond b (n ∷ picks_from s (suc n) es) (picks_from s (suc n) es)) v
+    ≡ (cond b (entry_holds (alone s v) e) true && list_all (meets s (alone s v)) es)
 meets_by c s v n e es true is h = ap₂ (λ x y. x && y) (ap (passes (entry_holds (alone s v))) is) h
 meets_by c s v n e es false is h = h
 
@@ -180,13 +216,16 @@ shift n i = omega arith
 none_added : (n : ℕ) → n ≡ n + 0
 none_added n = omega arith
 
-simple_from : (c : Condition) (s : SymId) (n : ℕ) (es : List Entry) → ((i : ℕ) → slice_get c.entries (n + i) ≡ slice_get es i) → are_simple_picks s c (picks_from s n es) ≡ true
+simple_from : (c : Condition) (s : SymId) (n : ℕ) (es : List Entry)
+    → ((i : ℕ) → slice_get c.entries (n + i) ≡ slice_get es i) → are_simple_picks s c (picks_from s n es) ≡ true
 simple_from c s n [] h = refl
 simple_from c s n (e ∷ es) h =
     picks_by c s n e es (is_entry_on s e) (ap (slice_get c.entries) (none_added n) ∙ h 0) refl
     (simple_from c s (suc n) es (λ i. ap (slice_get c.entries) (shift n i) ∙ h (suc i)))
 
-meets_from : (c : Condition) (s : SymId) (v n : ℕ) (es : List Entry) → ((i : ℕ) → slice_get c.entries (n + i) ≡ slice_get es i) → meets_picks s c (picks_from s n es) v ≡ list_all (meets s (alone s v)) es
+meets_from : (c : Condition) (s : SymId) (v n : ℕ) (es : List Entry)
+    → ((i : ℕ) → slice_get c.entries (n + i) ≡ slice_get es i)
+    → meets_picks s c (picks_from s n es) v ≡ list_all (meets s (alone s v)) es
 meets_from c s v n [] h = refl
 meets_from c s v n (e ∷ es) h =
     meets_by c s v n e es (is_entry_on s e) (ap (slice_get c.entries) (none_added n) ∙ h 0)
@@ -196,25 +235,35 @@ never_both : (b : Bool) → (b ≡ true → ⊥) → b ≡ false
 never_both true h = absurd (h refl)
 never_both false h = refl
 
-possible_of : (cond : Condition) (s : SymId) (v : ℕ) → (fits_width (slice_index cond.widths s.0) v && in_domain s cond v) ≡ true → IsPossible cond s v
+possible_of : (cond : Condition) (s : SymId) (v : ℕ)
+    → (fits_width (slice_index cond.widths s.0) v && in_domain s cond v) ≡ true → IsPossible cond s v
 possible_of cond s v h =
-    record { fits = fits (and_left (fits_width (slice_index cond.widths s.0) v) (in_domain s cond v) h); meets = and_right (fits_width (slice_index cond.widths s.0) v) (in_domain s cond v) h }
+    record {
+      fits = fits (and_left (fits_width (slice_index cond.widths s.0) v) (in_domain s cond v) h);
+      meets = and_right (fits_width (slice_index cond.widths s.0) v) (in_domain s cond v) h;
+    }
   where
     fits : nat_lt v (2 ^ slice_index cond.widths s.0) ≡ true → v < 2 ^ slice_index cond.widths s.0
     fits h = grind (arith, nat_tests)
 
-no_possible : (cond : Condition) (s : SymId) → ((v : ℕ) → IsPossible cond s v → ⊥) → (v : ℕ) → (fits_width (slice_index cond.widths s.0) v && in_domain s cond v) ≡ false
-no_possible cond s h v = never_both (fits_width (slice_index cond.widths s.0) v && in_domain s cond v) (λ e. h v (possible_of cond s v e))
+no_possible : (cond : Condition) (s : SymId) → ((v : ℕ) → IsPossible cond s v → ⊥) → (v : ℕ)
+    → (fits_width (slice_index cond.widths s.0) v && in_domain s cond v) ≡ false
+no_possible cond s h v =
+    never_both (fits_width (slice_index cond.widths s.0) v && in_domain s cond v) (λ e. h v (possible_of cond s v e))
 
 -- the step that refutes a condition with a symbol that has no possible value
-pub empty_accepted : (cond : Condition) (s : SymId) → IsFirstWithoutValue cond s → IsAccepted cond (Empty s (simple_picks s cond) ∷ [])
+pub empty_accepted : (cond : Condition) (s : SymId) → IsFirstWithoutValue cond s
+    → IsAccepted cond (Empty s (simple_picks s cond) ∷ [])
 empty_accepted cond s h = (
   [],
   (
     record {
       known = h.known;
       simple = simple_from cond s 0 cond.entries (λ i. ap (slice_get cond.entries) (zero_first i));
-      no_value = λ v. ap (λ (b : Bool). fits_width (slice_index cond.widths s.0) v && b) (meets_from cond s v 0 cond.entries (λ i. ap (slice_get cond.entries) (zero_first i))) ∙ no_possible cond s h.no_value v;
+      no_value =
+          λ v. ap (λ (b : Bool). fits_width (slice_index cond.widths s.0) v && b)
+          (meets_from cond s v 0 cond.entries (λ i. ap (slice_get cond.entries) (zero_first i)))
+          ∙ no_possible cond s h.no_value v;
     },
     refl,
   ),
@@ -235,7 +284,12 @@ pub simply_open : (cond : Condition) (leasts : List ℕ) → first_broken cond �
 simply_open cond leasts none h =
     record {
       unbroken = none;
-      possible = λ s known. let p = (h.each s known).possible in (slice_index leasts s.0, and_both (fits_width (slice_index cond.widths s.0) (slice_index leasts s.0)) (in_domain s cond (slice_index leasts s.0)) (fits s (slice_index leasts s.0) p.fits) p.meets);
+      possible =
+          λ s known. let p = (h.each s known).possible in (
+            slice_index leasts s.0,
+            and_both (fits_width (slice_index cond.widths s.0) (slice_index leasts s.0))
+                (in_domain s cond (slice_index leasts s.0)) (fits s (slice_index leasts s.0) p.fits) p.meets,
+          );
     }
   where
     fits : (s : SymId) (v : ℕ) → v < 2 ^ slice_index cond.widths s.0 → nat_lt v (2 ^ slice_index cond.widths s.0) ≡ true

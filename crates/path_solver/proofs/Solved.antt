@@ -30,15 +30,20 @@ use Rattle.path_solver.proofs.Entries.{get_at}
 use Rattle.path_solver.proofs.Numbering.{unknown_high}
 use Rattle.path_solver.proofs.Places.{unknown_at, place_of}
 
-range_choice_met : (cond : Condition) (v : List ℤ) (symbols : List SymId) (rest : List Origin) (i : ℕ) (s : SymId) → MeetsEach v (choices_from cond (map Ranges symbols ++ rest)) → slice_get symbols i ≡ Some s → MeetsOne v (choice_of (coupled_symbols cond) (domain_cases cond s))
+range_choice_met : (cond : Condition) (v : List ℤ) (symbols : List SymId) (rest : List Origin) (i : ℕ) (s : SymId)
+    → MeetsEach v (choices_from cond (map Ranges symbols ++ rest)) → slice_get symbols i ≡ Some s
+    → MeetsOne v (choice_of (coupled_symbols cond) (domain_cases cond s))
 range_choice_met cond v [] rest i s h e = absurd (cc)
-range_choice_met cond v (r ∷ symbols) rest zero s h e = let same : r ≡ s = cc in subst (λ (q : SymId). MeetsOne v (choice_of (coupled_symbols cond) (domain_cases cond q))) same h.0
+range_choice_met cond v (r ∷ symbols) rest zero s h e =
+    let same : r ≡ s = cc in subst (λ (q : SymId). MeetsOne v (choice_of (coupled_symbols cond) (domain_cases cond q)))
+    same h.0
 range_choice_met cond v (r ∷ symbols) rest (suc i) s h e = range_choice_met cond v symbols rest i s h.1 e
 
 not_negative : (z n : ℤ) (r : ℕ) → n ≡ pos 0 → n ≤ℤ (z +ℤ neg_ℤ (pos r)) → pos 0 ≤ℤ z
 not_negative z n r first h = omega (arith, ints)
 
-natural_met : (v : List ℤ) (symbols : List SymId) (s : SymId) (ranges : List Range) → number v 0 ≡ pos 0 → MeetsOne v (choice_of symbols (map (range_case s) ranges)) → pos 0 ≤ℤ number v (unknown_of symbols (Some s))
+natural_met : (v : List ℤ) (symbols : List SymId) (s : SymId) (ranges : List Range) → number v 0 ≡ pos 0
+    → MeetsOne v (choice_of symbols (map (range_case s) ranges)) → pos 0 ≤ℤ number v (unknown_of symbols (Some s))
 natural_met v symbols s [] first h = absurd h
 natural_met v symbols s (r ∷ ranges) first h =
     elim h [
@@ -66,17 +71,21 @@ place_within [] i x e = absurd (cc)
 place_within (y ∷ xs) zero x e = omega arith
 place_within (y ∷ xs) (suc i) x e = omega (arith, place_within xs i x e)
 
-natural_at : (cond : Condition) (z0 : ℤ) (vs : List ℤ) (i : ℕ) (z : ℤ) → length vs ≡ length (coupled_symbols cond) → z0 ≡ pos 0 → MeetsEach (z0 ∷ vs) (choices_from cond (origins_of cond)) → slice_get vs i ≡ Some z → pos 0 ≤ℤ z
+natural_at : (cond : Condition) (z0 : ℤ) (vs : List ℤ) (i : ℕ) (z : ℤ) → length vs ≡ length (coupled_symbols cond)
+    → z0 ≡ pos 0 → MeetsEach (z0 ∷ vs) (choices_from cond (origins_of cond)) → slice_get vs i ≡ Some z → pos 0 ≤ℤ z
 natural_at cond z0 vs i z same first met is =
     let (s, at) = place_of (coupled_symbols cond) i (omega (arith, same, place_within vs i z is)) in
     let choice = range_choice_met cond (z0 ∷ vs) (coupled_symbols cond) (formula_origins 0 cond.entries) i s met at in
-    let up = natural_met (z0 ∷ vs) (coupled_symbols cond) s (ranges_where (slice_index cond.widths s.0) (in_domain s cond)) first choice in
+    let up =
+    natural_met (z0 ∷ vs) (coupled_symbols cond) s (ranges_where (slice_index cond.widths s.0) (in_domain s cond))
+    first choice in
     let unknown : unknown_of (coupled_symbols cond) (Some s) ≡ 1 + i = unknown_at (is_coupled cond) (length cond.widths) i s at in
     let next : 1 + i ≡ suc i = omega arith in
     subst (λ (y : ℤ). pos 0 ≤ℤ y) (ap (number (z0 ∷ vs)) (unknown ∙ next) ∙ number_there vs i z is) up
 
 -- the integers are the values of the coupled symbols
-pub are_values : (cond : Condition) (leasts : List ℕ) (v : List ℤ) → length leasts ≡ length cond.widths → IsMet (length (coupled_symbols cond)) (choices_from cond (origins_of cond)) v
+pub are_values : (cond : Condition) (leasts : List ℕ) (v : List ℤ) → length leasts ≡ length cond.widths
+    → IsMet (length (coupled_symbols cond)) (choices_from cond (origins_of cond)) v
     → v ≡ pos 0 ∷ integers_of (with_integers leasts (coupled_symbols cond) (drop 1 v)) (coupled_symbols cond)
 are_values cond leasts [] one_each h = let l = h.one_each in absurd (omega arith)
 are_values cond leasts (z0 ∷ vs) one_each h =
@@ -84,7 +93,8 @@ are_values cond leasts (z0 ∷ vs) one_each h =
     let same : length vs ≡ length (coupled_symbols cond) = omega arith in
     let natural = natural_all vs (λ i z e. natural_at cond z0 vs i z same h.first h.met e) in
     ap (λ (z : ℤ). z ∷ vs) h.first
-    ∙ ap (λ (zs : List ℤ). pos 0 ∷ zs) (sym (integers_back (is_coupled cond) 0 (length cond.widths) leasts vs (omega arith) natural same))
+    ∙ ap (λ (zs : List ℤ). pos 0 ∷ zs)
+    (sym (integers_back (is_coupled cond) 0 (length cond.widths) leasts vs (omega arith) natural same))
 
 -- the least possible value of each symbol
 pub record AreLeasts (cond : Condition) (leasts : List ℕ) : Type 0 where
@@ -92,93 +102,140 @@ pub record AreLeasts (cond : Condition) (leasts : List ℕ) : Type 0 where
   pub possible : ArePossible cond leasts
   pub least : (s : SymId) (value : ℕ) → s.0 < length cond.widths → IsPossibleFor cond s value → slice_index leasts s.0 ≤ value
 
-possible_by : Facts → (cond : Condition) (leasts : List ℕ) (zs : List ℤ) (s : SymId) (b : Bool) → is_listed (coupled_symbols cond) s ≡ b → s.0 < length cond.widths → AreLeasts cond leasts
-    → MeetCases cond (with_integers leasts (coupled_symbols cond) zs) (origins_of cond) → IsPossibleFor cond s (slice_index (with_integers leasts (coupled_symbols cond) zs) s.0)
+possible_by : Facts → (cond : Condition) (leasts : List ℕ) (zs : List ℤ) (s : SymId) (b : Bool)
+    → is_listed (coupled_symbols cond) s ≡ b → s.0 < length cond.widths → AreLeasts cond leasts
+    → MeetCases cond (with_integers leasts (coupled_symbols cond) zs) (origins_of cond)
+    → IsPossibleFor cond s (slice_index (with_integers leasts (coupled_symbols cond) zs) s.0)
 possible_by facts cond leasts zs s true is known h met =
-    met_is_possible facts cond (with_integers leasts (coupled_symbols cond) zs) s (coupled_range_met cond (with_integers leasts (coupled_symbols cond) zs) s met is)
+    met_is_possible facts cond (with_integers leasts (coupled_symbols cond) zs) s
+    (coupled_range_met cond (with_integers leasts (coupled_symbols cond) zs) s met is)
 possible_by facts cond leasts zs s false is known h met =
-    subst (λ (n : ℕ). IsPossibleFor cond s n) (sym (with_integers-other leasts (coupled_symbols cond) zs s.0 is)) (h.possible s known)
+    subst (λ (n : ℕ). IsPossibleFor cond s n) (sym (with_integers-other leasts (coupled_symbols cond) zs s.0 is))
+    (h.possible s known)
 
-uncoupled : (cond : Condition) (s : SymId) (b : Bool) → is_listed (coupled_symbols cond) s ≡ b → is_coupled cond s ≡ false → b ≡ false
+uncoupled : (cond : Condition) (s : SymId) (b : Bool) → is_listed (coupled_symbols cond) s ≡ b
+    → is_coupled cond s ≡ false → b ≡ false
 uncoupled cond s true h not = let yes = (listed_is_from (is_coupled cond) 0 (length cond.widths) s h).passes in absurd (cc)
 uncoupled cond s false h not = refl
 
-pub candidate_is_met : Facts → (cond : Condition) (x : List ℕ) → AllTyped cond.widths cond.entries → AreCandidates cond x → IsMet (length (coupled_symbols cond)) (choices_from cond (origins_of cond)) (pos 0 ∷ integers_of x (coupled_symbols cond))
+pub candidate_is_met : Facts → (cond : Condition) (x : List ℕ) → AllTyped cond.widths cond.entries
+    → AreCandidates cond x → IsMet (length (coupled_symbols cond)) (choices_from cond (origins_of cond))
+    (pos 0 ∷ integers_of x (coupled_symbols cond))
 candidate_is_met facts cond x typed h =
     record {
       one_each = omega (arith, length-map (coupled_symbols cond) (λ (s : SymId). pos (slice_index x s.0)));
       first = refl;
-      met = each_from facts cond x (origins_of cond) typed (origins_are cond) (meet_all cond x (origins_of cond) (origins_are cond) (λ o is. candidate_meets facts cond x o typed h is));
+      met =
+          each_from facts cond x (origins_of cond) typed (origins_are cond)
+          (meet_all cond x (origins_of cond) (origins_are cond) (λ o is. candidate_meets facts cond x o typed h is));
     }
 
 up_to_rest : (vs ws : List ℤ) → IsUpTo (pos 0 ∷ vs) (pos 0 ∷ ws) → IsUpTo vs ws
 up_to_rest vs ws h = elim h [ inl lt ↦ absurd (omega (arith, ints, lt)) | inr e ↦ e.1 ]
 
 -- the first integers that meet one case of each choice give the first values that satisfy every formula that is not outside
-pub solved_least : Facts → (cond : Condition) (leasts : List ℕ) (v : List ℤ) → AllTyped cond.widths cond.entries → first_broken cond ≡ None → AreLeasts cond leasts
-    → Search.IsLeast (length (coupled_symbols cond)) (choices_from cond (origins_of cond)) v → AreLeast cond (with_integers leasts (coupled_symbols cond) (drop 1 v))
+pub solved_least : Facts → (cond : Condition) (leasts : List ℕ) (v : List ℤ) → AllTyped cond.widths cond.entries
+    → first_broken cond ≡ None → AreLeasts cond leasts
+    → Search.IsLeast (length (coupled_symbols cond)) (choices_from cond (origins_of cond)) v
+    → AreLeast cond (with_integers leasts (coupled_symbols cond) (drop 1 v))
 solved_least facts cond leasts v typed none h is =
     let w : List ℕ = with_integers leasts (coupled_symbols cond) (drop 1 v) in
     let same : v ≡ pos 0 ∷ integers_of w (coupled_symbols cond) = are_values cond leasts v h.one_each is.met in
     let met : MeetCases cond w (origins_of cond) =
-    each_to facts cond w (origins_of cond) typed (origins_are cond) (subst (λ (zs : List ℤ). MeetsEach zs (choices_from cond (origins_of cond))) same is.met.met) in
+    each_to facts cond w (origins_of cond) typed (origins_are cond)
+    (subst (λ (zs : List ℤ). MeetsEach zs (choices_from cond (origins_of cond))) same is.met.met) in
     let one_each : length w ≡ length cond.widths = with_integers-length leasts (coupled_symbols cond) (drop 1 v) ∙ h.one_each in
     record {
-      candidates = met_candidate facts cond w typed none one_each (λ s known. possible_by facts cond leasts (drop 1 v) s (is_listed (coupled_symbols cond) s) refl known h met) met;
+      candidates =
+          met_candidate facts cond w typed none one_each
+          (λ s known. possible_by facts cond leasts (drop 1 v) s (is_listed (coupled_symbols cond) s) refl known h met)
+          met;
       first = λ x candidate.
           ordered (is_coupled cond) (length cond.widths) w x one_each candidate.fitting.one_each
           (up_to_rest (integers_of w (coupled_symbols cond)) (integers_of x (coupled_symbols cond))
-          (subst (λ (zs : List ℤ). IsUpTo zs (pos 0 ∷ integers_of x (coupled_symbols cond))) same (is.least (pos 0 ∷ integers_of x (coupled_symbols cond)) (candidate_is_met facts cond x typed candidate))))
+          (subst (λ (zs : List ℤ). IsUpTo zs (pos 0 ∷ integers_of x (coupled_symbols cond))) same
+          (is.least (pos 0 ∷ integers_of x (coupled_symbols cond))
+          (candidate_is_met facts cond x typed candidate))))
           (λ s known not.
-          subst (λ (n : ℕ). n ≤ slice_index x s.0) (sym (with_integers-other leasts (coupled_symbols cond) (drop 1 v) s.0 (uncoupled_listed cond s not)))
+          subst (λ (n : ℕ). n ≤ slice_index x s.0)
+          (sym (with_integers-other leasts (coupled_symbols cond) (drop 1 v) s.0 (uncoupled_listed cond s not)))
           (h.least s (slice_index x s.0) known
-          (record { fits = candidate.fitting.fit s.0 (slice_index cond.widths s.0) (get_at cond.widths s.0 known); meets = candidate_in_domain facts cond x s candidate })));
+          (record {
+            fits = candidate.fitting.fit s.0 (slice_index cond.widths s.0) (get_at cond.widths s.0 known);
+            meets = candidate_in_domain facts cond x s candidate;
+          })));
     }
   where
     uncoupled_listed : (cond : Condition) (s : SymId) → is_coupled cond s ≡ false → is_listed (coupled_symbols cond) s ≡ false
     uncoupled_listed cond s not = uncoupled cond s (is_listed (coupled_symbols cond) s) refl not
 
-pub unmet_none : Facts → (cond : Condition) → AllTyped cond.widths cond.entries → IsUnmet (length (coupled_symbols cond)) (choices_from cond (origins_of cond)) → HasNoCandidates cond
-unmet_none facts cond typed h = λ x candidate. h (pos 0 ∷ integers_of x (coupled_symbols cond)) (candidate_is_met facts cond x typed candidate)
+pub unmet_none : Facts → (cond : Condition) → AllTyped cond.widths cond.entries
+    → IsUnmet (length (coupled_symbols cond)) (choices_from cond (origins_of cond)) → HasNoCandidates cond
+unmet_none facts cond typed h =
+    λ x candidate. h (pos 0 ∷ integers_of x (coupled_symbols cond)) (candidate_is_met facts cond x typed candidate)
 
-case_in_range : (symbols : List SymId) (case : Case) → AreBetween (is_listed symbols) case → All (IsInRange (length symbols)) (case_of symbols case)
+case_in_range : (symbols : List SymId) (case : Case) → AreBetween (is_listed symbols) case
+    → All (IsInRange (length symbols)) (case_of symbols case)
 case_in_range symbols [] h = All-nil (IsInRange (length symbols))
 case_in_range symbols (b ∷ case) h =
     All-cons (IsInRange (length symbols)) (bound_of symbols b) (case_of symbols case)
-    (record { plus = unknown_high symbols b.plus; minus = unknown_high symbols b.minus; at_least = h.0.at_least; at_most = h.0.at_most })
+    (record {
+      plus = unknown_high symbols b.plus;
+      minus = unknown_high symbols b.minus;
+      at_least = h.0.at_least;
+      at_most = h.0.at_most;
+    })
     (case_in_range symbols case h.1)
 
-choice_in_range : (symbols : List SymId) (cases : List Case) → EachAreBetween (is_listed symbols) cases → All (All (IsInRange (length symbols))) (choice_of symbols cases)
+choice_in_range : (symbols : List SymId) (cases : List Case) → EachAreBetween (is_listed symbols) cases
+    → All (All (IsInRange (length symbols))) (choice_of symbols cases)
 choice_in_range symbols [] h = All-nil (All (IsInRange (length symbols)))
 choice_in_range symbols (case ∷ cases) h =
-    All-cons (All (IsInRange (length symbols))) (case_of symbols case) (choice_of symbols cases) (case_in_range symbols case h.0) (choice_in_range symbols cases h.1)
+    All-cons (All (IsInRange (length symbols))) (case_of symbols case) (choice_of symbols cases)
+    (case_in_range symbols case h.0) (choice_in_range symbols cases h.1)
 
-choices_in_range : Facts → (cond : Condition) (origins : List Origin) → AllTyped cond.widths cond.entries → AreOrigins cond origins → AreInRange (length (coupled_symbols cond)) (choices_from cond origins)
+choices_in_range : Facts → (cond : Condition) (origins : List Origin) → AllTyped cond.widths cond.entries
+    → AreOrigins cond origins → AreInRange (length (coupled_symbols cond)) (choices_from cond origins)
 choices_in_range facts cond [] typed are = All-nil (All (All (IsInRange (length (coupled_symbols cond)))))
 choices_in_range facts cond (o ∷ origins) typed are =
-    All-cons (All (All (IsInRange (length (coupled_symbols cond))))) (choice_of (coupled_symbols cond) (cases_from cond o)) (choices_from cond origins)
+    All-cons (All (All (IsInRange (length (coupled_symbols cond)))))
+    (choice_of (coupled_symbols cond) (cases_from cond o)) (choices_from cond origins)
     (choice_in_range (coupled_symbols cond) (cases_from cond o) (origin_between facts cond o typed are.0))
     (choices_in_range facts cond origins typed are.1)
 
-pub are_in_range : Facts → (cond : Condition) → AllTyped cond.widths cond.entries → AreInRange (length (coupled_symbols cond)) (choices_from cond (origins_of cond))
+pub are_in_range : Facts → (cond : Condition) → AllTyped cond.widths cond.entries
+    → AreInRange (length (coupled_symbols cond)) (choices_from cond (origins_of cond))
 are_in_range facts cond typed = choices_in_range facts cond (origins_of cond) typed (origins_are cond)
 
-each_below : (symbols : List SymId) (s : SymId) (u : ℕ) (ranges : List Range) → unknown_of symbols (Some s) ≡ u → EachHasBelow u (choice_of symbols (map (range_case s) ranges))
+each_below : (symbols : List SymId) (s : SymId) (u : ℕ) (ranges : List Range) → unknown_of symbols (Some s) ≡ u
+    → EachHasBelow u (choice_of symbols (map (range_case s) ranges))
 each_below symbols s u [] e = tt
-each_below symbols s u (r ∷ ranges) e =
-    ((record { plus = 0; minus = unknown_of symbols (Some s); at_most = neg_ℤ (pos r.0) }, (0, omega arith, refl), refl, e), each_below symbols s u ranges e)
+each_below symbols s u (r ∷ ranges) e = (
+  (
+    record { plus = 0; minus = unknown_of symbols (Some s); at_most = neg_ℤ (pos r.0) },
+    (0, omega arith, refl),
+    refl,
+    e,
+  ),
+  each_below symbols s u ranges e,
+)
 
-one_below : (cond : Condition) (symbols : List SymId) (rest : List Origin) (i : ℕ) (s : SymId) (u : ℕ) → slice_get symbols i ≡ Some s → unknown_of (coupled_symbols cond) (Some s) ≡ u → OneHasBelow u (choices_from cond (map Ranges symbols ++ rest))
+one_below : (cond : Condition) (symbols : List SymId) (rest : List Origin) (i : ℕ) (s : SymId) (u : ℕ)
+    → slice_get symbols i ≡ Some s → unknown_of (coupled_symbols cond) (Some s) ≡ u
+    → OneHasBelow u (choices_from cond (map Ranges symbols ++ rest))
 one_below cond [] rest i s u e is = absurd (cc)
 one_below cond (r ∷ symbols) rest zero s u e is =
     let same : r ≡ s = cc in
-    inl (each_below (coupled_symbols cond) r u (ranges_where (slice_index cond.widths r.0) (in_domain r cond)) (ap (λ (q : SymId). unknown_of (coupled_symbols cond) (Some q)) same ∙ is))
+    inl (each_below (coupled_symbols cond) r u (ranges_where (slice_index cond.widths r.0) (in_domain r cond))
+    (ap (λ (q : SymId). unknown_of (coupled_symbols cond) (Some q)) same ∙ is))
 one_below cond (r ∷ symbols) rest (suc i) s u e is = inr (one_below cond symbols rest i s u e is)
 
-below_at : (cond : Condition) (i : ℕ) → i < length (coupled_symbols cond) → OneHasBelow (1 + i) (choices_from cond (origins_of cond))
+below_at : (cond : Condition) (i : ℕ) → i < length (coupled_symbols cond)
+    → OneHasBelow (1 + i) (choices_from cond (origins_of cond))
 below_at cond i within =
     let (s, at) = place_of (coupled_symbols cond) i within in
-    one_below cond (coupled_symbols cond) (formula_origins 0 cond.entries) i s (1 + i) at (unknown_at (is_coupled cond) (length cond.widths) i s at)
+    one_below cond (coupled_symbols cond) (formula_origins 0 cond.entries) i s (1 + i) at
+    (unknown_at (is_coupled cond) (length cond.widths) i s at)
 
 pub are_below : (cond : Condition) → AreBelow (length (coupled_symbols cond)) (choices_from cond (origins_of cond))
 are_below cond = λ u above within.

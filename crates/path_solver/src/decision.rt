@@ -1,14 +1,19 @@
 //! The decision of a condition.
 
-ghost use Rattle.std.specs.Prelude.{◌≡◌, ◌∷◌, [], None, IfOk};
+ghost use Rattle.std.specs.Prelude.{◌≡◌, ◌↔◌, ◌∷◌, [], ℕ, List, None, IfOk};
 ghost use Rattle.path_cond.specs.Conditions.{first_broken};
 ghost use Rattle.interval_solver.specs.Domains.{AreDomainsOf};
 ghost use Rattle.interval_solver.specs.Verdicts.{AreLeastValues};
-ghost use Rattle.refutation_check.specs.Decisions.{IsWithinLimits};
+ghost use Rattle.refutation_check.specs.Decisions.{IsMetBy, IsRefuted, IsUndecidedBy, IsWithinLimits};
 ghost use Rattle.refutation_check.specs.Least.{AreLeast};
-ghost use Rattle.path_solver.specs.Decisions.{IsDecisionOn};
+ghost use Rattle.refutation_check.specs.declared.outcome.Cause.{Cause as CauseOf};
+ghost use Rattle.path_solver.specs.Decisions.{IsDecisionOn, IsSat, IsUnsat, IsUndecided, IsSettled, IsInFragment, HasNoInside, HasLeastValues};
 
 use crate::below::facts;
+use crate::laws::{
+    sat_exactly_where_met, settled_in_the_fragment, simple_conditions_have_the_least_values,
+    undecided_exactly_where_undecided, unsat_exactly_where_refuted,
+};
 use crate::outside::first_broken_outside;
 use crate::solve::{Solved, solve_cases};
 use case_counts::{case_count, coupled_symbols};
@@ -32,7 +37,30 @@ pub enum Decided {
 
 /// The decision of a condition that has these domains. The constant formulas come first, then the domains, the number of
 /// coupled symbols, the number of choices of cases, the cases, and last the formulas that are outside.
+///
+/// It is Sat or Unsat where each formula is constant or simple, and where each is constant, simple or inside, at most
+/// `MOST_COUPLED` symbols are coupled and there are at most `MOST_CHOICES` choices of cases.
 pub fn decide(alloc: Global, cond: &PathCond, domains: &Domains) -> Result<Decided, NoMemory>
+    requires { AreDomainsOf cond.now domains.now }
+
+    ensures decision { IfOk result (IsDecisionOn cond.now) }
+    ensures sat { IfOk result (λ decided. (values : List ℕ) → IsSat values decided ↔ IsMetBy cond.now values) }
+    ensures unsat { IfOk result (λ decided. IsUnsat decided ↔ IsRefuted cond.now) }
+    ensures undecided { IfOk result (λ decided. (cause : CauseOf) → IsUndecided cause decided ↔ IsUndecidedBy cond.now cause) }
+    ensures settled { IfOk result (λ decided. IsInFragment cond.now → IsSettled decided) }
+    ensures least { IfOk result (λ decided. HasNoInside cond.now → HasLeastValues cond.now decided) }
+{
+    sat_exactly_where_met();
+    unsat_exactly_where_refuted();
+    undecided_exactly_where_undecided();
+    settled_in_the_fragment();
+    simple_conditions_have_the_least_values();
+    cond.formulas_are_typed();
+    decide_in_order(alloc, cond, domains)
+}
+
+/// The decision of a condition that has these domains, step by step.
+fn decide_in_order(alloc: Global, cond: &PathCond, domains: &Domains) -> Result<Decided, NoMemory>
     requires { AreDomainsOf cond.now domains.now }
     ensures { IfOk result (IsDecisionOn cond.now) }
 {

@@ -1,11 +1,11 @@
 //! What holds of all decisions. Each is the contract of a function that has nothing to do.
 
-ghost use Rattle.std.specs.Prelude.{◌≡◌, ◌↔◌, ℕ, true, List};
+ghost use Rattle.std.specs.Prelude.{◌≡◌, ◌↔◌, ◌⊎◌, ℕ, true, List};
 ghost use Rattle.path_cond.specs.Conditions.{AllTyped, Condition, holds_at};
 ghost use Rattle.refutation_check.specs.Decisions.{IsMetBy, IsUndecidedBy, IsLicensed, IsRefuted};
 ghost use Rattle.refutation_check.specs.Least.{AreFitting};
 ghost use Rattle.refutation_check.specs.declared.outcome.Cause.{Cause as CauseOf};
-ghost use Rattle.path_solver.specs.Decisions.{IsDecisionOn, IsUnsat};
+ghost use Rattle.path_solver.specs.Decisions.{IsDecisionOn, IsSat, IsUnsat, IsUndecided, IsSettled, IsInFragment, HasNoInside, HasLeastValues};
 ghost use Rattle.path_solver.specs.declared.decision.Decided.{Decided as Decision};
 
 use crate::below::facts;
@@ -21,10 +21,58 @@ pub fn the_cause_of_an_undecided_condition_may_be_given()
     ensures { (cond : Condition) (cause : CauseOf) → IsUndecidedBy cond cause → IsLicensed cond cause }
 {}
 
+/// Each condition is refuted, undecided or met.
+pub fn each_condition_is_refuted_undecided_or_met()
+    ensures { (cond : Condition) → IsRefuted cond
+        ⊎ (((cause : CauseOf) × IsUndecidedBy cond cause) ⊎ ((values : List ℕ) × IsMetBy cond values)) }
+{}
+
+/// No condition is two of refuted, undecided and met.
+pub fn no_condition_is_two_of_refuted_undecided_and_met()
+    ensures undecided { (cond : Condition) (cause : CauseOf)
+        → IsRefuted cond → IsUndecidedBy cond cause → ⊥ }
+    ensures met { (cond : Condition) (values : List ℕ) → IsRefuted cond → IsMetBy cond values → ⊥ }
+    ensures either { (cond : Condition) (cause : CauseOf) (values : List ℕ)
+        → IsUndecidedBy cond cause → IsMetBy cond values → ⊥ }
+{
+    facts();
+}
+
+/// A decision is Sat with some values exactly where the condition is met by these.
+pub fn sat_exactly_where_met()
+    ensures { (cond : Condition) (decision : Decision) (values : List ℕ)
+        → IsDecisionOn cond decision → IsSat values decision ↔ IsMetBy cond values }
+{
+    facts();
+}
+
 /// A decision is Unsat exactly where the condition is refuted.
 pub fn unsat_exactly_where_refuted()
     ensures { (cond : Condition) (decision : Decision) → AllTyped cond.widths cond.entries
         → IsDecisionOn cond decision → IsUnsat decision ↔ IsRefuted cond }
+{
+    facts();
+}
+
+/// A decision is Undecided by some cause exactly where the condition is undecided by this.
+pub fn undecided_exactly_where_undecided()
+    ensures { (cond : Condition) (decision : Decision) (cause : CauseOf)
+        → IsDecisionOn cond decision → IsUndecided cause decision ↔ IsUndecidedBy cond cause }
+{
+    facts();
+}
+
+/// A decision is Sat or Unsat where each formula is constant, simple or inside and the limits are kept, and where each is
+/// constant or simple.
+pub fn settled_in_the_fragment()
+    ensures { (cond : Condition) (decision : Decision)
+        → IsDecisionOn cond decision → IsInFragment cond → IsSettled decision }
+{}
+
+/// Where no formula is inside, a decision has the least possible value of each symbol, or is Unsat.
+pub fn simple_conditions_have_the_least_values()
+    ensures { (cond : Condition) (decision : Decision) → AllTyped cond.widths cond.entries
+        → IsDecisionOn cond decision → HasNoInside cond → HasLeastValues cond decision }
 {
     facts();
 }

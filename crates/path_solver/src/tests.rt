@@ -1,6 +1,8 @@
-ghost use Rattle.std.specs.Prelude.{◌≡◌, ℕ, List, [], Some, slice_get, IfOk};
-ghost use Rattle.path_formula.specs.Typed.{IsTyped};
+ghost use Rattle.std.specs.Prelude.{◌≡◌, ℕ, List, [], Some, slice_get, IfOk, IsTrue};
+ghost use Rattle.path_formula.specs.Typed.{IsTyped, TermIsTyped};
 ghost use Rattle.path_formula.specs.View.{view as tree_of};
+
+mod small;
 
 use crate::{Decided, decide};
 use interval_solver::Domains;
@@ -45,6 +47,45 @@ fn pair(
     let left = Term::of_symbol(alloc, width, first)?;
     let right = Term::of_symbol(alloc, width, second)?;
     Ok(Formula::Compare { rel, left, right })
+}
+
+/// A symbol plus a constant.
+fn symbol(alloc: Global, width: Width, id: u64, plus: Num) -> Result<Term, NoMemory>
+    ensures { IfOk result (λ term. term.width ≡ width) }
+{
+    let symbol = Term::of_symbol(alloc, width, SymId(id))?;
+    symbol.plus(alloc, &number(alloc, width, plus)?)
+}
+
+/// Whether each symbol of the term, of which there are at most two, is one of the condition's, of the term's width.
+fn is_term_of(cond: &PathCond, term: &Term) -> bool
+    ensures { IsTrue result → TermIsTyped cond.now.widths term.now }
+{
+    for index in 0..3 {
+        match term.part(index) {
+            None => return true,
+            Some((symbol, _)) => {
+                if cond.width(symbol) != Some(term.width()) {
+                    return false;
+                }
+            }
+        }
+    }
+    false
+}
+
+/// The condition with the relation of two terms.
+fn compared(
+    alloc: Global,
+    cond: &PathCond,
+    rel: Rel,
+    left: Term,
+    right: Term,
+) -> Result<PathCond, Fail> {
+    if left.width() != right.width() || !is_term_of(cond, &left) || !is_term_of(cond, &right) {
+        return Err(Fail::from("not terms of the condition"));
+    }
+    Ok(cond.with(alloc, Formula::Compare { rel, left, right }, true)?)
 }
 
 /// The condition with the relation of two symbols.
@@ -145,15 +186,32 @@ fn orders_of_two_symbols(rt: HostRuntime) -> Result<(), Fail> {
     Ok(())
 }
 
+/// `x < 5`, at 8 bits, and a second symbol.
+fn below_five(alloc: Global) -> Result<PathCond, Fail> {
+    bounded(alloc, &free(alloc, 8, 2)?, Rel::Lt, 5)
+}
+
+/// `x < 5` and `x > 9`.
+fn without_value(alloc: Global) -> Result<PathCond, Fail> {
+    bounded(alloc, &below_five(alloc)?, Rel::Gt, 9)
+}
+
+/// `x < 5` and `x != y`.
+fn below_five_and_apart(alloc: Global) -> Result<PathCond, Fail> {
+    related(alloc, &below_five(alloc)?, Rel::Ne, 0, 1)
+}
+
+/// `x < 5`, `x != y` and `x > 2`.
+fn above_two_and_apart(alloc: Global) -> Result<PathCond, Fail> {
+    bounded(alloc, &below_five_and_apart(alloc)?, Rel::Gt, 2)
+}
+
 #[test]
 fn simple_formulas_come_first(rt: HostRuntime) -> Result<(), Fail> {
     let alloc = rt.alloc();
-    let below = bounded(alloc, &free(alloc, 8, 2)?, Rel::Lt, 5)?;
-    assert!(rt; is_refuted(alloc, &bounded(alloc, &below, Rel::Gt, 9)?)?);
-    let apart = related(alloc, &below, Rel::Ne, 0, 1)?;
-    assert!(rt; is_met_by(alloc, &apart, &[0, 1])?);
-    let high = bounded(alloc, &apart, Rel::Gt, 2)?;
-    assert!(rt; is_met_by(alloc, &high, &[3, 0])?);
+    assert!(rt; is_refuted(alloc, &without_value(alloc)?)?);
+    assert!(rt; is_met_by(alloc, &below_five_and_apart(alloc)?, &[0, 1])?);
+    assert!(rt; is_met_by(alloc, &above_two_and_apart(alloc)?, &[3, 0])?);
     Ok(())
 }
 
@@ -183,12 +241,112 @@ fn too_many_choices_and_symbols(rt: HostRuntime) -> Result<(), Fail> {
     Ok(())
 }
 
+/// `x + 1 < x`, at 8 bits.
+fn next_is_less(alloc: Global) -> Result<PathCond, Fail> {
+    let byte = Width::new(8).ok_or("no such width")?;
+    let next = symbol(alloc, byte, 0, 1)?;
+    let alone = symbol(alloc, byte, 0, 0)?;
+    compared(alloc, &free(alloc, 8, 1)?, Rel::Lt, next, alone)
+}
+
+/// The condition with `x + y == total`, at 8 bits.
+fn with_total(alloc: Global, cond: &PathCond, total: Num) -> Result<PathCond, Fail> {
+    let byte = Width::new(8).ok_or("no such width")?;
+    let sum = symbol(alloc, byte, 0, 0)?.plus(alloc, &symbol(alloc, byte, 1, 0)?)?;
+    let right = number(alloc, byte, total)?;
+    compared(alloc, cond, Rel::Eq, sum, right)
+}
+
+#[test]
+fn sums_wrap_and_sums_of_two_are_outside(rt: HostRuntime) -> Result<(), Fail> {
+    let alloc = rt.alloc();
+    assert!(rt; is_met_by(alloc, &next_is_less(alloc)?, &[255])?);
+    let five = with_total(alloc, &free(alloc, 8, 2)?, 5)?;
+    assert!(rt; is_outside_at(alloc, &five, 0, &[0, 0])?);
+    assert!(rt; is_outside_at(alloc, &with_total(alloc, &five, 6)?, 0, &[0, 0])?);
+    Ok(())
+}
+
+/// Two symbols of 128 bits that are equal.
+fn wide_pair(alloc: Global) -> Result<PathCond, Fail> {
+    related(alloc, &free(alloc, 128, 2)?, Rel::Eq, 0, 1)
+}
+
+/// The same, the first symbol at least 7.
+fn wide_pair_from_seven(alloc: Global) -> Result<PathCond, Fail> {
+    let first = bounded(alloc, &free(alloc, 128, 2)?, Rel::Ge, 7)?;
+    related(alloc, &first, Rel::Eq, 0, 1)
+}
+
 #[test]
 fn wide_pairs_are_outside(rt: HostRuntime) -> Result<(), Fail> {
     let alloc = rt.alloc();
-    let wide = free(alloc, 128, 2)?;
-    assert!(rt; is_met_by(alloc, &related(alloc, &wide, Rel::Eq, 0, 1)?, &[0, 0])?);
-    let first = bounded(alloc, &wide, Rel::Ge, 7)?;
-    assert!(rt; is_outside_at(alloc, &related(alloc, &first, Rel::Eq, 0, 1)?, 1, &[7, 0])?);
+    assert!(rt; is_met_by(alloc, &wide_pair(alloc)?, &[0, 0])?);
+    assert!(rt; is_outside_at(alloc, &wide_pair_from_seven(alloc)?, 1, &[7, 0])?);
+    Ok(())
+}
+
+/// Two symbols of 128 bits that are each equal to the number.
+fn fixed(alloc: Global, value: Num) -> Result<PathCond, Fail> {
+    let width = Width::new(128).ok_or("no such width")?;
+    let mut cond = free(alloc, 128, 2)?;
+    for id in 0..2u64 {
+        let left = symbol(alloc, width, id, 0)?;
+        let right = number(alloc, width, value)?;
+        cond = compared(alloc, &cond, Rel::Eq, left, right)?;
+    }
+    Ok(cond)
+}
+
+#[test]
+fn fixed_wide_pairs_are_decided(rt: HostRuntime) -> Result<(), Fail> {
+    let alloc = rt.alloc();
+    let high: Num = 1 << 127;
+    let both = fixed(alloc, high)?;
+    assert!(rt; is_met_by(alloc, &related(alloc, &both, Rel::Eq, 0, 1)?, &[high, high])?);
+    assert!(rt;
+        is_outside_at(
+            alloc,
+            &related(alloc, &both, Rel::Ne, 0, 1)?,
+            2,
+            &[high, high]
+        )?
+    );
+    Ok(())
+}
+
+/// Twelve formulas that two of so many symbols of 8 bits are unequal, the first of them in a circle.
+fn circles(alloc: Global, symbols: usize) -> Result<PathCond, Fail> {
+    let mut cond = free(alloc, 8, symbols)?;
+    for step in 0..12u64 {
+        let first = step % symbols.max(1) as u64;
+        cond = related(
+            alloc,
+            &cond,
+            Rel::Ne,
+            first,
+            (first + 1) % symbols.max(1) as u64,
+        )?;
+    }
+    Ok(cond)
+}
+
+/// The condition, with each symbol at most 1.
+fn of_bits(alloc: Global, cond: &PathCond) -> Result<PathCond, Fail> {
+    let width = Width::new(8).ok_or("no such width")?;
+    let mut next = cond.fork()?;
+    for id in 0..cond.symbols() {
+        let left = symbol(alloc, width, id, 0)?;
+        next = compared(alloc, &next, Rel::Le, left, number(alloc, width, 1)?)?;
+    }
+    Ok(next)
+}
+
+#[test]
+fn choices_over_ten_symbols_by_the_thousand(rt: HostRuntime) -> Result<(), Fail> {
+    let alloc = rt.alloc();
+    let ten = circles(alloc, 10)?;
+    assert!(rt; is_met_by(alloc, &ten, &[0, 1, 0, 1, 0, 1, 0, 1, 0, 1])?);
+    assert!(rt; is_refuted(alloc, &of_bits(alloc, &circles(alloc, 9)?)?)?);
     Ok(())
 }

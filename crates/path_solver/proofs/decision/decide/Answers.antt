@@ -1,26 +1,28 @@
-use Rattle.std.proofs.Common.{◌≡◌, ℕ, List, [], ◌∷◌, sym, ap, subst, ◌∙◌}
-use Rattle.path_cond.specs.Conditions.{simple_picks}
-use Rattle.interval_solver.specs.Verdicts.{IsVerdictOn}
-use Rattle.interval_solver.specs.declared.decide.SimpleVerdict.{SimpleVerdict}
-use Rattle.refutation_check.specs.Accepted.{IsAccepted}
-use Rattle.refutation_check.specs.declared.steps.Refute.{Refute}
-use Rattle.refutation_check.specs.declared.steps.Refute.TheVariants.{Empty}
-use Rattle.path_solver.proofs.Simple.{split_accepted, empty_accepted, broken_refuted, empty_refuted}
+use Rattle.std.proofs.lemmas.Result.{IfOk-weaker}
+use Rattle.path_solver.specs.Decisions.{IsDecisionOn}
 use Rattle.path_solver.proofs.decision.decide.Goals as goal
 
-pub returns-in_ok-one_step-in-False : goal.returns-in_ok-one_step-in-False
-returns-in_ok-one_step-in-False c =
-    let first = subst (λ (v : SimpleVerdict). IsVerdictOn c.args.cond.now v) c.in-False.is c.in_ok-pick.ensures.verdict in (
-      broken_refuted c.args.cond.now c.in-False.pick first,
-      subst (λ (r : List Refute). IsAccepted c.args.cond.now r) (sym c.in_ok-one_step-in-False.ensures)
-          (split_accepted c.facts.ensures c.args.cond.now c.in-False.pick c.formulas_are_typed.ensures first),
-    )
+pub returns-clause-sat : goal.returns-clause-sat
+returns-clause-sat c =
+    IfOk-weaker c.decide_in_order.result (IsDecisionOn c.args.cond.now) _
+    (λ decided h values. c.sat_exactly_where_met.ensures c.args.cond.now decided values h) c.decide_in_order.ensures
 
-pub returns-in_ok-one_step-in-Empty : goal.returns-in_ok-one_step-in-Empty
-returns-in_ok-one_step-in-Empty c =
-    let verdict = subst (λ (v : SimpleVerdict). IsVerdictOn c.args.cond.now v) c.in-Empty.is c.in_ok-pick.ensures.verdict in
-    let picks : c.from_vec-picks.result ≡ simple_picks c.in-Empty.symbol c.args.cond.now = c.from_vec-picks.ensures ∙ verdict.2 in
-    let steps = c.in_ok-one_step-in-Empty.ensures ∙ ap (λ (ps : List ℕ). Empty c.in-Empty.symbol ps ∷ []) picks in (
-      empty_refuted c.args.cond.now c.in-Empty.symbol verdict.1,
-      subst (λ (r : List Refute). IsAccepted c.args.cond.now r) (sym steps) (empty_accepted c.args.cond.now c.in-Empty.symbol verdict.1),
-    )
+pub returns-clause-unsat : goal.returns-clause-unsat
+returns-clause-unsat c =
+    IfOk-weaker c.decide_in_order.result (IsDecisionOn c.args.cond.now) _
+    (λ decided h. c.unsat_exactly_where_refuted.ensures c.args.cond.now decided c.formulas_are_typed.ensures h) c.decide_in_order.ensures
+
+pub returns-clause-undecided : goal.returns-clause-undecided
+returns-clause-undecided c =
+    IfOk-weaker c.decide_in_order.result (IsDecisionOn c.args.cond.now) _
+    (λ decided h cause. c.undecided_exactly_where_undecided.ensures c.args.cond.now decided cause h) c.decide_in_order.ensures
+
+pub returns-clause-settled : goal.returns-clause-settled
+returns-clause-settled c =
+    IfOk-weaker c.decide_in_order.result (IsDecisionOn c.args.cond.now) _
+    (λ decided h. c.settled_in_the_fragment.ensures c.args.cond.now decided h) c.decide_in_order.ensures
+
+pub returns-clause-least : goal.returns-clause-least
+returns-clause-least c =
+    IfOk-weaker c.decide_in_order.result (IsDecisionOn c.args.cond.now) _
+    (λ decided h. c.simple_conditions_have_the_least_values.ensures c.args.cond.now decided c.formulas_are_typed.ensures h) c.decide_in_order.ensures

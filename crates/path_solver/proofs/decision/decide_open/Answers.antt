@@ -12,7 +12,13 @@ returns-then-count-gt-MOST_COUPLED c =
 
 pub returns-then-count-gt-MOST_CHOICES : goal.returns-then-count-gt-MOST_CHOICES
 returns-then-count-gt-MOST_CHOICES c = (
-  omega (arith, ap length c.in_ok-symbols.ensures, c.in_ok-symbols.symbols.ok.0, c.len-count.ensures, c.if-count-gt-MOST_COUPLED.false),
+  omega (
+    arith,
+    ap length c.in_ok-symbols.ensures,
+    c.in_ok-symbols.symbols.ok.0,
+    c.len-count.ensures,
+    c.if-count-gt-MOST_COUPLED.false,
+  ),
   record {
     simply_open = simply_open c.args.cond.now c.args.leasts.items c.requires.unbroken c.requires.leasts;
     is = c.in_ok-count.ensures;

@@ -9,4 +9,5 @@ abbrev pub invariant-loop-symbol : goal.invariant-loop-symbol
 invariant-loop-symbol l = IsProblem l.cond (map Ranges (take l.symbol-index l.symbols)) l.problem
 
 abbrev pub invariant-loop-pick : goal.invariant-loop-pick
-invariant-loop-pick l = IsProblem l.cond (map Ranges (coupled_symbols l.cond) ++ formula_origins 0 (take l.pick l.cond.entries)) l.problem
+invariant-loop-pick l =
+    IsProblem l.cond (map Ranges (coupled_symbols l.cond) ++ formula_origins 0 (take l.pick l.cond.entries)) l.problem

@@ -7,6 +7,8 @@ use Rattle.path_solver.proofs.problem.Problem.push.Goals as goal
 
 pub returns : goal.returns
 returns c = λ cond origins same from h.
-    problem_push cond origins c.args.origin c.args.self.now (record { origins = c.push-2.new.self; choices = c.push.new.self }) c.in_ok-choice.choice (lists_of c.args.cases.now)
+    problem_push cond origins c.args.origin c.args.self.now
+    (record { origins = c.push-2.new.self; choices = c.push.new.self }) c.in_ok-choice.choice
+    (lists_of c.args.cases.now)
     (c.in_ok-choice.ensures ∙ ap (λ (ss : List SymId). choice_of ss (lists_of c.args.cases.now)) same) from
     c.in_ok-push-2.ensures.items c.in_ok-push.ensures.items h
