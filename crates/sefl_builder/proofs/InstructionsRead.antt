@@ -17,7 +17,7 @@ use Rattle.sefl_builder.specs.declared.head.Head.TheVariants as head
 use Rattle.sefl_builder.specs.Reading.{Reader, then', known, begins_with, begins_number}
 use Rattle.sefl_builder.specs.Leaves.{key, skip, name, port, text, word}
 use Rattle.sefl_builder.specs.Conditions.{cond, goes_comma, goes_expr}
-use Rattle.sefl_builder.specs.Instructions.{head_ahead, target_line, allocate_rest, deallocate_rest, any_rest, assign_rest, set_rest, tag_line, tag_of, tag_rest, retag_rest, untag_rest, constrain_rest, fail_rest, forward_rest, next_port, ports_from, ports, fork_rest, no_op_rest, goes_instr, blocks, if_rest, for_rest, block_here, instr, instrs}
+use Rattle.sefl_builder.specs.Instructions.{head_ahead, way_ahead, target_line, allocate_rest, deallocate_rest, any_rest, assign_rest, set_rest, tag_line, tag_of, tag_rest, retag_rest, untag_rest, constrain_rest, fail_rest, forward_rest, next_port, ports_from, ports, fork_rest, no_op_rest, goes_instr, blocks, if_rest, for_rest, block_here, instr, instrs}
 use Rattle.sefl_builder.proofs.Rooms.{rest_is, instr_is, blocks_suc}
 use Rattle.sefl_builder.proofs.Taking.{Fine, Takes, Steps, TakesMany, done, next, if_so, if_not, as_read, takes_key, steps_key, key_less, key_depth, begins, at_key, takes_skip, takes_known, many_none, many_one, takes_all, takes_added}
 use Rattle.sefl_builder.proofs.LeavesRead.{takes_name, takes_text, takes_port, takes_addr, takes_target, begins_as_number, key_is_no_number}
@@ -161,7 +161,7 @@ unfolding no_op_rest
 takes_no_op d b a semi l = next _ _ tt tree.no_op b a a (takes_key (codes ";") d b a semi l) (λ f. done tree.no_op a a refl f)
 
 takes_statement : (v : grammar.Version) (i : InstrTree) (d room : ℕ) (b a : List Placed) → grammar.statement v i d b a → d + room ≡ 64 → Fine b → Begun (version_of v) room i b a
-unfolding head_ahead
+unfolding head_ahead way_ahead
 takes_statement v (tree.allocate t) d room b a (m, is, others) h l = by_head (codes "allocate") head.Allocate _ room _ d b m a is (λ k. refl) refl refl l (λ f. takes_allocate t d m a others f)
 takes_statement v (tree.deallocate t) d room b a (m, is, others) h l = by_head (codes "deallocate") head.Deallocate _ room _ d b m a is (λ k. refl) refl refl l (λ f. takes_deallocate t d m a others f)
 takes_statement v (tree.assign t e) d room b a (m, is, others) h l = by_head (codes "set") head.Set _ room _ d b m a is (λ k. refl) refl refl l (λ f. takes_assign t e room d m a others h f)
@@ -219,7 +219,7 @@ takes_block_here v code d room b m a open' f = record {
 takes_if : (v : Version) (c : CondTree) (first other : CodeTree) (d room : ℕ) (b m at' else' no' a : List Placed) → grammar.key (codes "if") d b m
     → (Fine m → Takes (cond room) c m at') → (Fine at' → Takes (blocks v room) first at' else') → grammar.key (codes "else") d else' no' → (Fine no' → Takes (blocks v room) other no' a)
     → Fine b → Begun v room (tree.branch c first other) b a
-unfolding head_ahead if_rest
+unfolding head_ahead way_ahead if_rest
 takes_if v c first other d room b m at' else' no' a is test yeses other' nos l =
     by_head (codes "if") head.If v room (tree.branch c first other) d b m a is (λ k. refl) refl refl l (λ f.
     next (cond room) _ c (tree.branch c first other) m at' a (test f) (λ f.
@@ -229,7 +229,7 @@ takes_if v c first other d room b m at' else' no' a is test yeses other' nos l =
 
 takes_for : (v : Version) (var pattern : List ℕ) (code : CodeTree) (d room : ℕ) (b m a : List Placed) → (grammar.key (codes "for") ⨾ grammar.name var ⨾ grammar.key (codes "in") ⨾ grammar.text pattern) d b m
     → (Fine m → Takes (blocks v room) code m a) → Fine b → Begun v room (tree.each var pattern code) b a
-unfolding head_ahead for_rest
+unfolding head_ahead way_ahead for_rest
 takes_for v var pattern code d room b m a (m1, is, (m2, nm, (m3, word, tx))) inside l =
     by_head (codes "for") head.For v room (tree.each var pattern code) d b m1 a is (λ k. refl) refl refl l (λ f.
     next name _ var (tree.each var pattern code) m1 m2 a (takes_name var d m1 m2 nm f) (λ f.

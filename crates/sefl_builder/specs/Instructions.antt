@@ -14,6 +14,16 @@ use Rattle.sefl_builder.specs.declared.version.Version.TheVariants.{Old, New}
 use Rattle.sefl_builder.specs.declared.head.Head.{Head}
 use Rattle.sefl_builder.specs.declared.head.Head.TheVariants as head
 
+-- the word that comes, of those that tell where a packet goes on
+unfoldable pub way_ahead : List Word → Option Head
+way_ahead ws =
+    if begins_with (codes "if") ws then Some head.If
+    else (if begins_with (codes "for") ws then Some head.For
+    else (if begins_with (codes "forward") ws then Some head.Forward
+    else (if begins_with (codes "fork") ws then Some head.Fork
+    else (if begins_with (codes "fail") ws then Some head.Fail
+    else None))))
+
 -- the word that comes, of those that begin an instruction
 unfoldable pub head_ahead : List Word → Option Head
 head_ahead ws =
@@ -24,13 +34,8 @@ head_ahead ws =
     else (if begins_with (codes "retag") ws then Some head.Retag
     else (if begins_with (codes "untag") ws then Some head.Untag
     else (if begins_with (codes "constrain") ws then Some head.Constrain
-    else (if begins_with (codes "fail") ws then Some head.Fail
-    else (if begins_with (codes "if") ws then Some head.If
-    else (if begins_with (codes "for") ws then Some head.For
-    else (if begins_with (codes "forward") ws then Some head.Forward
-    else (if begins_with (codes "fork") ws then Some head.Fork
     else (if begins_with (codes "noop") ws then Some head.NoOp
-    else None))))))))))))
+    else way_ahead ws)))))))
 
 -- a target and its semicolon
 unfoldable pub target_line : Reader Target

@@ -1,7 +1,7 @@
 //! The words that begin instructions.
 
 ghost use Rattle.std.specs.Prelude.{◌≡◌};
-ghost use Rattle.sefl_builder.specs.Instructions.{head_ahead};
+ghost use Rattle.sefl_builder.specs.Instructions.{head_ahead, way_ahead};
 
 use crate::cursor::Cursor;
 
@@ -49,9 +49,17 @@ pub(crate) fn head_ahead(words: &Cursor) -> Option<Head>
     if words.begins_with("constrain") {
         return Some(Head::Constrain);
     }
-    if words.begins_with("fail") {
-        return Some(Head::Fail);
+    if words.begins_with("noop") {
+        return Some(Head::NoOp);
     }
+    way_ahead(words)
+}
+
+/// The same for the words that tell where a packet goes on.
+#[tactic(auto, unfolding(crate::specs::Instructions::way_ahead))]
+fn way_ahead(words: &Cursor) -> Option<Head>
+    ensures { result ≡ way_ahead words.now }
+{
     if words.begins_with("if") {
         return Some(Head::If);
     }
@@ -64,8 +72,8 @@ pub(crate) fn head_ahead(words: &Cursor) -> Option<Head>
     if words.begins_with("fork") {
         return Some(Head::Fork);
     }
-    if words.begins_with("noop") {
-        return Some(Head::NoOp);
+    if words.begins_with("fail") {
+        return Some(Head::Fail);
     }
     None
 }
