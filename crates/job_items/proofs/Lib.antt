@@ -1,4 +1,5 @@
 pub mod Coding
+pub mod Counting
 pub mod LentLemmas
 pub mod Levels
 pub mod NodeLemmas

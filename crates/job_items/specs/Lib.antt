@@ -7,5 +7,7 @@ pub mod LentNodes
 pub mod Nodes
 pub mod Places
 pub mod Progress
+pub mod Refusals
 pub mod Rules
 pub mod Tags
+pub mod Totals

@@ -27,7 +27,7 @@ use std::collections::BTreeMap;
 
 /// The number of the first item of a job that breaks a rule, and the first rule that it breaks;
 /// None exactly where there is no such item.
-pub fn first_breach_of(alloc: Global, job: &Job) -> Result<Option<(u64, Breach)>, NoMemory>
+pub(crate) fn first_breach_of(alloc: Global, job: &Job) -> Result<Option<(u64, Breach)>, NoMemory>
     ensures { IfOk result (Answers (outcome 0 no_counts (job_items (job_tree job.now)))) }
 {
     let mut tally = Tally::new(alloc);

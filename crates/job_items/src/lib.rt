@@ -13,12 +13,14 @@ mod links;
 mod nodes;
 mod place;
 mod ports;
+mod refusal;
 mod rule;
 mod tags;
 mod tally;
 #[cfg(test)]
 mod tests;
+mod totals;
 
-pub use job::first_breach_of;
 pub use ports::Ports;
+pub use refusal::{Refusal, refusal_of};
 pub use rule::{Breach, Rule, Which};

@@ -252,7 +252,7 @@ fn ask_breach(ask: &Ask, atoms: &[Atom<'_>]) -> Option<Breach>
 }
 
 /// The atoms of an ask.
-fn ask_atoms(alloc: Global, ask: &Ask) -> Result<Vec<Atom<'_>>, NoMemory>
+pub(crate) fn ask_atoms(alloc: Global, ask: &Ask) -> Result<Vec<Atom<'_>>, NoMemory>
     ensures { IfOk result (λ atoms. atoms.items ≡ ask_atoms (ask_tree ask.now)) }
 {
     match ask {

@@ -5,7 +5,7 @@ ghost use Rattle.job_items.specs.declared.halt.Halt.TheVariants.{NoMemory as Out
 ghost use Rattle.sefl_syntax.specs.Views.{instr_tree};
 ghost use Rattle.job_items.specs.AtomRules.{ranges_in, meta_name};
 ghost use Rattle.job_items.specs.Gathered.{lent};
-ghost use Rattle.job_items.specs.Rules.{with_names, with_text, names_in, with_atoms, with_instr, limit_rows, first_breach, or_else, no_counts};
+ghost use Rattle.job_items.specs.Rules.{with_names, with_text, names_in, with_atoms, with_instr, count_of, limit_rows, first_breach, or_else, no_counts};
 ghost use Rattle.job_items.specs.Progress.{Progress, progress_of, lent_texts, IsNoMemory, Weighs};
 ghost use Rattle.std.specs.List.{flat_map};
 
@@ -113,6 +113,17 @@ impl<'a> Tally<'a> {
         Ok(())
     }
 
+    /// Counts what these atoms have.
+    pub(crate) fn add_atoms(&mut self, atoms: &[Atom<'a>]) -> Result<(), NoMemory>
+        ensures { OnOk result (progress_of self.new ≡ record (progress_of self.old) {
+          counts = with_atoms (progress_of self.old).counts atoms.now;
+        }) }
+    {
+        note_names(&mut self.names, atoms)?;
+        self.ranges = add_ranges(self.ranges, atoms)?;
+        Ok(())
+    }
+
     /// Counts what these atoms have. Then the breach that was found before, or that of the first
     /// limit that is passed; `ports` and `copies` are the item's own counts.
     pub(crate) fn weigh(
@@ -127,11 +138,28 @@ impl<'a> Tally<'a> {
         if let Some(breach) = early {
             return Err(Halt::Broken(breach));
         }
-        note_names(&mut self.names, atoms)?;
-        self.ranges = add_ranges(self.ranges, atoms)?;
+        self.add_atoms(atoms)?;
         match self.limit_breach(ports, copies) {
             Some(breach) => Err(Halt::Broken(breach)),
             None => Ok(()),
+        }
+    }
+
+    /// The count that a limit is on; 0 for those on one node or one Fork.
+    pub(crate) fn count_of(&self, which: Which) -> u64
+        ensures { result ≡ count_of which (progress_of self.now).counts }
+    {
+        match which {
+            Which::Nodes => self.nodes,
+            Which::Ports => 0,
+            Which::Names => self.names.len() as u64,
+            Which::Patterns => self.patterns.len() as u64,
+            Which::Instructions => self.instructions,
+            Which::Ranges => self.ranges,
+            Which::Copies => 0,
+            Which::Fields => self.fields,
+            Which::Tests => self.tests,
+            Which::Asks => self.asks,
         }
     }
 
