@@ -1,0 +1,4 @@
+pub mod Ascending
+pub mod Counting
+pub mod Sets
+pub mod Surveys

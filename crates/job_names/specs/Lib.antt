@@ -1,0 +1,5 @@
+pub mod Lent
+pub mod Names
+pub mod Noted
+pub mod Occurrences
+pub mod Surveyed

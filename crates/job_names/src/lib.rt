@@ -1,0 +1,12 @@
+//! What occurs in a job by name: metadata names, tag names and patterns.
+#![tactic(auto)]
+
+pub mod laws;
+mod mentions;
+mod names;
+mod survey;
+mod table;
+#[cfg(test)]
+mod tests;
+
+pub use names::{JobNames, names_of};

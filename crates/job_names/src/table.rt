@@ -1,0 +1,77 @@
+//! Lists of names whose members are found by name.
+
+ghost use Rattle.std.specs.Prelude.{◌≡◌, ◌<◌, length, position, slice_get, Some, IfOk, bytes_eq};
+ghost use Rattle.job_names.specs.Lent.{lent_names};
+
+use indexmap::IndexSet;
+use sefl_syntax::Name;
+use sn_width::NoMemory;
+use std::alloc::Global;
+use std::collections::BTreeSet;
+use std::marker::Model;
+
+/// At most 2^32 - 1 names, each once, in order. Contracts see the list.
+#[derive(Drop)]
+pub(crate) struct NameTable {
+    names: IndexSet<Name>,
+}
+
+impl Model for NameTable {
+    ghost use Rattle.std.specs.Prelude.{ℕ, ◌^◌, ◌<◌, List, length};
+
+    ghost Value = { List (List ℕ) };
+
+    ghost view = { λ t. t.names.keys };
+
+    ghost invariant = { λ t. length t.names.keys < 2 ^ 32 };
+}
+
+impl NameTable {
+    /// Copies of the names of a set, ascending; more than a table holds answer NoMemory.
+    pub(crate) fn of(alloc: Global, names: &BTreeSet<&Name>) -> Result<NameTable, NoMemory>
+        ensures { IfOk result (λ table. table ≡ lent_names names.now.keys) }
+    {
+        if names.len() > u32::MAX as usize {
+            return Err(NoMemory);
+        }
+        let names = owned(alloc, names)?;
+        Ok(NameTable { names })
+    }
+
+    /// How many names there are.
+    pub(crate) fn len(&self) -> u32
+        ensures { result ≡ length self.now }
+    {
+        self.names.len() as u32
+    }
+
+    /// The name at an index.
+    pub(crate) fn name(&self, index: u32) -> &Name
+        requires { index < length self.now }
+        ensures { slice_get self.now index ≡ Some result.now }
+    {
+        self.names.get_index(index as usize).unwrap()
+    }
+
+    /// The index of a name; None exactly where the table has no such name.
+    pub(crate) fn index_of(&self, name: &Name) -> Option<u32>
+        ensures { result ≡ position (bytes_eq name.now) self.now }
+    {
+        match self.names.get_index_of(name) {
+            None => None,
+            Some(index) => Some(index as u32),
+        }
+    }
+}
+
+/// Copies of the names of a set, ascending.
+fn owned(alloc: Global, names: &BTreeSet<&Name>) -> Result<IndexSet<Name>, NoMemory>
+    ensures { IfOk result (λ copies. copies.keys ≡ lent_names names.now.keys) }
+{
+    let mut copies = IndexSet::new(alloc);
+    for name in names.iter() {
+        let copy = (*name).clone()?;
+        copies.insert(copy)?;
+    }
+    Ok(copies)
+}
