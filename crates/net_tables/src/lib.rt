@@ -1,0 +1,16 @@
+//! Tables of a net: nodes by name, codes and links by port.
+#![tactic(auto)]
+
+mod codes;
+pub mod laws;
+mod links;
+mod names;
+mod place;
+mod ports;
+mod sizes;
+mod tables;
+#[cfg(test)]
+mod tests;
+
+pub use place::CodePlace;
+pub use tables::NetTables;
