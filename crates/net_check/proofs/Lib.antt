@@ -1,0 +1,4 @@
+pub mod AskedLemmas
+pub mod CodeLemmas
+pub mod RuleLemmas
+pub mod SoundLemmas

@@ -1,0 +1,3 @@
+pub mod Network
+pub mod Sound
+pub mod Acceptance

@@ -1,0 +1,15 @@
+//! Acceptance of jobs, and what an accepted job is made of.
+#![tactic(auto)]
+
+mod acceptance;
+mod fault;
+mod injection;
+mod net;
+#[cfg(test)]
+mod tests;
+
+pub use acceptance::{Accepted, accept};
+pub use fault::AcceptFault;
+pub use injection::Injection;
+pub use job_items::{Rule, Which};
+pub use net::Net;
