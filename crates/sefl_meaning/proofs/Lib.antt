@@ -1,0 +1,11 @@
+pub mod Ways
+pub mod Fitting
+pub mod Tracks
+pub mod CourseTracks
+pub mod Itself
+pub mod AllLemmas
+pub mod FaultLemmas
+pub mod Numbers
+pub mod Ascending
+pub mod Associating
+pub mod RouteLemmas

@@ -1,0 +1,8 @@
+use Rattle.sefl_meaning.proofs.RouteLemmas.{walks_are_ways, ways_are_walks}
+use Rattle.sefl_meaning.proofs.laws.walks_are_routes.Goals as goal
+
+pub returns-clause-ways : goal.returns-clause-ways
+returns-clause-ways c = λ t. walks_are_ways t
+
+pub returns-clause-walks : goal.returns-clause-walks
+returns-clause-walks c = λ t w h. ways_are_walks t w h

@@ -1,0 +1,29 @@
+-- What the run of a packet finds in an accepted net.
+use Rattle.std.specs.Prelude.{ℕ, bytes_eq, List, Option, option_map, position, unwrap_or}
+use Rattle.sn_width.specs.declared.ids.TagId.{TagId}
+use Rattle.sn_width.specs.declared.ids.NameId.{NameId}
+use Rattle.sn_width.specs.declared.ids.NodeId.{NodeId}
+use Rattle.sefl_syntax.specs.declared.net.Side.{Side}
+use Rattle.sefl_syntax.specs.Trees.{CodeTree}
+use Rattle.net_tables.specs.Places.{Port, code_site, link_from}
+use Rattle.net_check.specs.Network.{code_at}
+pub use Rattle.net_check.specs.Network.{Network, Entry, names_found}
+pub use Rattle.net_tables.specs.Places.{code_size, inner_size}
+
+-- the ids of names are their indices among the names of the job
+abbrev pub tag_id : Network → List ℕ → TagId
+tag_id net name = record { 0 = unwrap_or (position (bytes_eq name) net.names.tags) 0 }
+
+abbrev pub name_id : Network → List ℕ → NameId
+name_id net name = record { 0 = unwrap_or (position (bytes_eq name) net.names.metas) 0 }
+
+-- the code of a port, with its site; a port without code has an empty one
+abbrev pub code_of : Network → NodeId → Side → ℕ → ℕ × CodeTree
+code_of net node side port = (unwrap_or (code_site net.own node.0 side port) 0, code_at net node side port)
+
+abbrev pub port_at : Port → NodeId × ℕ
+port_at p = (record { 0 = p.0 }, p.1)
+
+-- the node and the input port that the link of an output port leads to
+abbrev pub link_of : Network → NodeId → ℕ → Option (NodeId × ℕ)
+link_of net node port = option_map port_at (link_from net.own node.0 port)

@@ -1,0 +1,12 @@
+-- What the values of a program are seen as.
+use Rattle.std.specs.Prelude.{ℕ}
+use Rattle.sefl_meaning.specs.declared.walk.State.{State}
+use Rattle.sefl_meaning.specs.declared.walk.Walk.{Walk}
+use Rattle.sefl_meaning.specs.Carried.{Carried}
+use Rattle.sefl_meaning.specs.Walks.{Trail}
+
+abbrev pub carried_of : State → Carried ℕ
+carried_of s = record { layers = s.layers; scopes = s.scopes }
+
+abbrev pub trail_of : Walk → Trail
+trail_of w = record { decisions = w.decisions.items; places = w.places.items; end' = w.end; state = carried_of w.state }

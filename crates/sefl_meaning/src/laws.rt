@@ -1,0 +1,135 @@
+//! Laws of the meaning. Each is the contract of a function that does nothing.
+
+ghost use Rattle.std.specs.Prelude.{◌≡◌, ◌+◌, ℕ, Bool, List, IfOk, length, option_map};
+ghost use Rattle.sn_width.specs.declared.ids.NodeId.{NodeId};
+ghost use Rattle.sefl_syntax.specs.Trees.{CodeTree, CondTree, ExprTree, InjectionTree};
+ghost use Rattle.cell_stacks.specs.Outcome as outcome;
+ghost use Rattle.job_items.specs.Atoms.{expr_reads, cond_atoms};
+ghost use Rattle.sefl_meaning.specs.Values.{Values, numbers, number_fits};
+ghost use Rattle.sefl_meaning.specs.Faults.{fault_of, reads_fault, atoms_fault};
+ghost use Rattle.sefl_meaning.specs.Order.{WalksAscend};
+ghost use Rattle.std.specs.List.{AllByRecursion};
+ghost use Rattle.sefl_meaning.specs.Network.{Network};
+ghost use Rattle.sefl_meaning.specs.Carried.{Carried, Scene, carried_valued};
+ghost use Rattle.sefl_meaning.specs.Terms.{value_in, truth_in};
+ghost use Rattle.sefl_meaning.specs.Runs.{Ran, run_code, then_run};
+ghost use Rattle.sefl_meaning.specs.Walks as walks;
+ghost use Rattle.sefl_meaning.specs.Injected.{injected};
+ghost use Rattle.sefl_meaning.specs.Courses.{Progress, Course, after, course_code};
+ghost use Rattle.sefl_meaning.specs.Trees as trees;
+ghost use Rattle.sefl_meaning.specs.Trees.{Tree};
+ghost use Rattle.sefl_meaning.specs.Walks.{Trail};
+ghost use Rattle.sefl_meaning.specs.declared.walk.Decision.{Decision};
+ghost use Rattle.sefl_meaning.specs.Routes.{IsWay, Has, route, route_valued};
+ghost use Rattle.sefl_meaning.specs.Laws.{StateLaws};
+ghost use Rattle.sefl_meaning.specs.Taken.{taken, walks_of};
+ghost use Rattle.sefl_meaning.specs.Valued.{Fits, CarriedFits, CourseFits, Keeps, Respects, course_valued, progress_valued, tree_valued};
+
+use header_layers::laws::valuing_commutes as headers_commute;
+use metadata_scopes::laws::valuing_commutes as metadata_commute;
+use sn_width::Num;
+
+/// The run of one packet is the way through the course that goes by the truths of its tests, and its
+/// walks are the ways through the tree.
+pub fn runs_are_ways()
+    ensures code { (v : List ℕ) (unknowns site : ℕ) (at : Scene) (code : CodeTree) (p : Progress ℕ)
+        → taken (course_code (numbers v unknowns) at site code p) ≡ run_code v unknowns at site code p.state (length p.choices) }
+    ensures walks { (net : Network) (v : List ℕ) (unknowns hops port : ℕ) (node : NodeId) (p : Progress ℕ)
+        → walks_of (trees.enter (numbers v unknowns) net hops node port p)
+        ≡ walks.enter net v unknowns hops node port p.state (length p.choices) }
+{}
+
+/// Functions that respect the operations commute with the values of expressions, the truths of
+/// conditions, the state of an injection, the courses of code and the trees of whole runs.
+pub fn valuing_commutes<V: Drop, F: Drop, W: Drop, G: Drop>()
+    ensures values { (fits : ℕ → V → Bool) (o : Values V F) (p : Values W G) (f : V → W) (g : F → G) → Respects fits o p f g
+        → (at : Scene) (width : ℕ) (e : ExprTree) (s : Carried V) → CarriedFits fits s
+        → value_in p at width e (carried_valued f s) ≡ outcome.on_ok f (value_in o at width e s) }
+    ensures truths { (fits : ℕ → V → Bool) (o : Values V F) (p : Values W G) (f : V → W) (g : F → G) → Respects fits o p f g
+        → (at : Scene) (test : CondTree) (s : Carried V) → CarriedFits fits s
+        → truth_in p at test (carried_valued f s) ≡ outcome.on_ok g (truth_in o at test s) }
+    ensures injection { (fits : ℕ → V → Bool) (o : Values V F) (p : Values W G) (f : V → W) (g : F → G) → Respects fits o p f g
+        → (at : Scene) (i : InjectionTree)
+        → injected p at i ≡ outcome.on_ok (carried_valued f) (injected o at i) }
+    ensures courses { (fits : ℕ → V → Bool) (o : Values V F) (p : Values W G) (f : V → W) (g : F → G) → Respects fits o p f g
+        → (at : Scene) (site : ℕ) (code : CodeTree) (from : Progress V) → CarriedFits fits from.state
+        → course_code p at site code (progress_valued f from) ≡ course_valued f g (course_code o at site code from) }
+    ensures trees { (fits : ℕ → V → Bool) (o : Values V F) (p : Values W G) (f : V → W) (g : F → G) → Respects fits o p f g
+        → (net : Network) (hops port : ℕ) (node : NodeId) (from : Progress V) → CarriedFits fits from.state
+        → trees.enter p net hops node port (progress_valued f from) ≡ tree_valued f g (trees.enter o net hops node port from) }
+{
+    state_laws::<V, W>();
+}
+
+// What the steps of header cells and of metadata make of a function of values.
+fn state_laws<V: Drop, W: Drop>()
+    ensures { (f : V → W) → StateLaws f }
+{
+    headers_commute::<V, W>();
+    metadata_commute::<V, W>();
+}
+
+/// Where the operations give values that fit their widths, so do expressions, injections and code.
+pub fn widths_are_kept<V: Drop, F: Drop>()
+    ensures values { (fits : ℕ → V → Bool) (o : Values V F) → Keeps fits o
+        → (at : Scene) (width : ℕ) (e : ExprTree) (s : Carried V) → CarriedFits fits s
+        → IfOk (value_in o at width e s) (Fits fits width) }
+    ensures injection { (fits : ℕ → V → Bool) (o : Values V F) → Keeps fits o
+        → (at : Scene) (i : InjectionTree) → IfOk (injected o at i) (CarriedFits fits) }
+    ensures courses { (fits : ℕ → V → Bool) (o : Values V F) → Keeps fits o
+        → (at : Scene) (site : ℕ) (code : CodeTree) (from : Progress V) → CarriedFits fits from.state
+        → CourseFits fits (course_code o at site code from) }
+{
+    state_laws::<V, V>();
+}
+
+/// The faults of expressions and conditions are those of reading their references, the first in the
+/// order of the text: no atom is left out, whatever the truth of those before it.
+pub fn faults_are_in_text_order<V: Drop, F: Drop>()
+    ensures values { (o : Values V F) (at : Scene) (width : ℕ) (e : ExprTree) (s : Carried V)
+        → fault_of (value_in o at width e s) ≡ reads_fault at width (expr_reads e) s }
+    ensures conditions { (o : Values V F) (at : Scene) (test : CondTree) (s : Carried V)
+        → fault_of (truth_in o at test s) ≡ atoms_fault at (cond_atoms test) s }
+{}
+
+/// The numbers of a packet fit the widths that they are taken at, and its choices stand behind its
+/// unknown fields. Runs and walks keep this of what is carried.
+pub fn numbers_fit()
+    ensures operations { (v : List ℕ) (unknowns : ℕ) → Keeps number_fits (numbers v unknowns) }
+    ensures choices { (v : List ℕ) (unknowns width number : ℕ)
+        → (numbers v unknowns).choice width number ≡ (numbers v unknowns).unknown width (unknowns + number) }
+    ensures runs { (v : List ℕ) (unknowns site choices : ℕ) (at : Scene) (code : CodeTree) (s : Carried ℕ) → CarriedFits number_fits s
+        → CarriedFits number_fits (run_code v unknowns at site code s choices).state }
+    ensures walks { (net : Network) (v : List ℕ) (unknowns hops port choices : ℕ) (node : NodeId) (s : Carried ℕ)
+        → CarriedFits number_fits s
+        → AllByRecursion (λ t. CarriedFits number_fits t.state) (walks.enter net v unknowns hops node port s choices) }
+{
+    widths_are_kept::<Num, bool>();
+}
+
+/// The walks of a packet ascend by their decisions, and none has decisions that another one's begin with.
+pub fn walks_ascend()
+    ensures { (net : Network) (v : List ℕ) (unknowns hops port choices : ℕ) (node : NodeId) (s : Carried ℕ)
+        → WalksAscend (walks.enter net v unknowns hops node port s choices) }
+{}
+
+/// Of three runs or courses one after another the first two or the last two may be taken together.
+pub fn sequences_associate<V: Drop, F: Drop>()
+    ensures runs { (r : Ran) (first second : Carried ℕ → ℕ → Ran)
+        → then_run (then_run r first) second ≡ then_run r (λ s k. then_run (first s k) second) }
+    ensures courses { (c : Course V F) (first second : Progress V → Course V F)
+        → after (after c first) second ≡ after c (λ p. after (first p) second) }
+{}
+
+/// The walks of a packet are the ways through its tree at which each test has the truth that is taken,
+/// from the start to an end, and no more.
+pub fn walks_are_routes()
+    ensures ways { (t : Tree ℕ Bool) → AllByRecursion (IsWay (route t)) (walks_of t) }
+    ensures walks { (t : Tree ℕ Bool) (w : Trail) → IsWay (route t) w → Has (walks_of t) w }
+{}
+
+/// Functions of values and truths commute with routes.
+pub fn routes_commute<V: Drop, F: Drop, W: Drop, G: Drop>()
+    ensures { (f : V → W) (g : F → G) (t : Tree V F) (decisions : List Decision)
+        → route (tree_valued f g t) decisions ≡ option_map (route_valued f g) (route t decisions) }
+{}

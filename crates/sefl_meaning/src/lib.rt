@@ -1,0 +1,8 @@
+//! What a net does with one packet.
+#![tactic(auto)]
+
+pub mod examples;
+pub mod laws;
+mod walk;
+
+pub use walk::{Decision, End, Failure, Place, State, Turn, Walk};

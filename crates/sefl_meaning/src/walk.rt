@@ -1,0 +1,74 @@
+//! Walks of a packet through a net.
+
+use header_layers::Layers;
+use metadata_scopes::Scopes;
+use sefl_syntax::{Name, Side, Text};
+use sn_width::{LayoutFault, NameId, NodeId, Num, Site};
+
+/// What a packet carries.
+#[derive(Drop)]
+pub struct State {
+    pub layers: Layers<Num>,
+    pub scopes: Scopes<Num>,
+}
+
+/// What is decided on a walk: the block of an If, the truth of a Constrain, or the copy of a Fork, by
+/// the place of its port in the list, from 0. Decisions stand in this order.
+#[derive(Clone, Copy, Debug, PartialEq, Eq, PartialOrd, Ord)]
+pub enum Decision {
+    Then,
+    Else,
+    Pass,
+    Broken,
+    Copy(u32),
+}
+
+/// A port of a node.
+#[derive(Clone, Copy, Debug, PartialEq, Eq)]
+pub struct Place {
+    pub node: NodeId,
+    pub side: Side,
+    pub port: u32,
+}
+
+/// Why an instruction ends a walk.
+#[derive(Debug, PartialEq, Eq, Drop)]
+pub enum Failure {
+    Layout(LayoutFault),
+    /// A Constrain whose condition is false.
+    Constraint,
+    /// A Fail, with its text.
+    Message { text: Text },
+}
+
+/// How a walk ends.
+#[derive(Debug, PartialEq, Eq, Drop)]
+pub enum End {
+    /// The code of an input port ran off its end.
+    Stopped,
+    /// The code of an output port without a link ran off its end.
+    Delivered,
+    /// The instruction at the site ended it.
+    Failed { failure: Failure, site: Site },
+    /// An input port was reached with no hop left.
+    Cut,
+}
+
+/// A walk from the injection's port to its end.
+#[derive(Drop)]
+pub struct Walk {
+    pub decisions: Vec<Decision>,
+    /// The ports that it arrives at, in order.
+    pub places: Vec<Place>,
+    pub end: End,
+    pub state: State,
+}
+
+/// One turn of a For: its variable stands for the metadata of that owner, or none for a global, and
+/// name. A list of the turns round an instruction has the innermost last.
+#[derive(Debug, PartialEq, Eq, Drop)]
+pub struct Turn {
+    pub var: Name,
+    pub owner: Option<NodeId>,
+    pub name: NameId,
+}
