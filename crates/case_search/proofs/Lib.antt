@@ -1,7 +1,11 @@
 pub mod Meeting
+pub mod Parting
+pub mod Passing
+pub mod Placing
 pub mod WordLemmas
 pub mod Reading
 pub mod Solving
 pub mod Steps
 pub mod Testing
 pub mod Trying
+pub mod MadeZero

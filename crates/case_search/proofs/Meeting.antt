@@ -33,7 +33,7 @@ one_at v [] i lt h = absurd (omega arith)
 one_at v (c ∷ cases) zero lt h = inl h
 one_at v (c ∷ cases) (suc i) lt h = inr (one_at v cases i (omega arith) h)
 
-each_push : (v : List ℤ) (choices : List (List Case)) (cases : List Case) → MeetsEach v choices → MeetsOne v cases → MeetsEach v (choices ++ cases ∷ [])
+pub each_push : (v : List ℤ) (choices : List (List Case)) (cases : List Case) → MeetsEach v choices → MeetsOne v cases → MeetsEach v (choices ++ cases ∷ [])
 each_push v [] cases h g = (g, tt)
 each_push v (c ∷ choices) cases h g = (h.0, each_push v choices cases h.1 g)
 

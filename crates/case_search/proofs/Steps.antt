@@ -5,7 +5,7 @@ use Rattle.std.specs.Global.{Vec}
 use Rattle.difference_solver.specs.Bound.{Meets, IsSolution, IsUnsolvable}
 use Rattle.difference_solver.specs.Bound as Bounds
 use Rattle.difference_solver.specs.Cycle.{IsNegativeCycle}
-use Rattle.case_search.specs.Choices.{Case, MeetsOne, MeetsEach, with_each, cases_at, IsMet, IsUpTo}
+use Rattle.case_search.specs.Choices.{Case, MeetsOne, MeetsEach, with_each, cases_at, AreBelow, IsMet, IsUpTo}
 use Rattle.case_search.specs.Progress.{RefutesAllBut, IsLeastAllBut}
 use Rattle.case_search.specs.Steps.{Refutes}
 use Rattle.case_search.specs.declared.choice.Step.{Step}
@@ -34,7 +34,7 @@ pub split_least : (count : ℕ) (choices : List (List Case)) (g : Case) (left : 
 split_least count choices g left choice v lt h =
     record {
       met = h.met;
-      others = λ w met. elim (h.others w met) [ inl up ↦ inl up | inr one ↦ inr (split_others choices g left choice w lt met.met one) ];
+      others = λ below w met. elim (h.others below w met) [ inl up ↦ inl up | inr one ↦ inr (split_others choices g left choice w lt met.met one) ];
     }
 
 cycle_others : (count : ℕ) (choices : List (List Case)) (g : Case) (left : List Case) (w : List ℤ) → IsUnsolvable count g → IsMet count choices w → MeetsOne w (g ∷ left) → MeetsOne w left
@@ -51,7 +51,7 @@ pub cycle_least : (count : ℕ) (choices : List (List Case)) (g : Case) (left : 
 cycle_least count choices g left v none h =
     record {
       met = h.met;
-      others = λ w met. elim (h.others w met) [ inl up ↦ inl up | inr one ↦ inr (cycle_others count choices g left w none met one) ];
+      others = λ below w met. elim (h.others below w met) [ inl up ↦ inl up | inr one ↦ inr (cycle_others count choices g left w none met one) ];
     }
 
 -- integers that are least at each unknown come first
@@ -60,29 +60,32 @@ solved_first count choices g v w is least met all =
     up_to_pointwise v w (is.one_each ∙ sym met.one_each)
     (λ u lt. least w record { one_each = met.one_each; first = met.first; met = all } u (omega (arith, is.one_each)))
 
-pub values_first : (count : ℕ) (choices : List (List Case)) (g : Case) (left : List Case) (steps : List Step) (v : List ℤ) → IsMet count choices v → Bounds.IsLeast count g v → RefutesAllBut count choices (g ∷ left) steps → IsLeastAllBut count choices left v
+pub values_first : (count : ℕ) (choices : List (List Case)) (g : Case) (left : List Case) (steps : List Step) (v : List ℤ) → IsMet count choices v → (AreBelow count choices → Bounds.IsLeast count g v) → RefutesAllBut count choices (g ∷ left) steps → IsLeastAllBut count choices left v
 values_first count choices g left steps v is least h =
     record {
       met = is;
-      others = λ w met. elim (h.others w met) [ inl all ↦ inl (solved_first count choices g v w is least met all) | inr other ↦ inr other ];
-    }
-
-pub values_before : (count : ℕ) (choices : List (List Case)) (g : Case) (left : List Case) (old v : List ℤ) → IsUpTo v old → IsMet count choices v → Bounds.IsLeast count g v → IsLeastAllBut count choices (g ∷ left) old → IsLeastAllBut count choices left v
-values_before count choices g left old v up is least h =
-    record {
-      met = is;
-      others = λ w met. elim (h.others w met) [
-        | inl after ↦ inl (up_to_trans v old w up after)
-        | inr one ↦ elim one [ inl all ↦ inl (solved_first count choices g v w is least met all) | inr other ↦ inr other ]
+      others = λ below w met. elim (h.others w met) [
+        | inl all ↦ inl (solved_first count choices g v w is (least below) met all)
+        | inr other ↦ inr other
       ];
     }
 
-pub values_after : (count : ℕ) (choices : List (List Case)) (g : Case) (left : List Case) (old v : List ℤ) → IsUpTo old v → IsMet count choices v → Bounds.IsLeast count g v → IsLeastAllBut count choices (g ∷ left) old → IsLeastAllBut count choices left old
+pub values_before : (count : ℕ) (choices : List (List Case)) (g : Case) (left : List Case) (old v : List ℤ) → IsUpTo v old → IsMet count choices v → (AreBelow count choices → Bounds.IsLeast count g v) → IsLeastAllBut count choices (g ∷ left) old → IsLeastAllBut count choices left v
+values_before count choices g left old v up is least h =
+    record {
+      met = is;
+      others = λ below w met. elim (h.others below w met) [
+        | inl after ↦ inl (up_to_trans v old w up after)
+        | inr one ↦ elim one [ inl all ↦ inl (solved_first count choices g v w is (least below) met all) | inr other ↦ inr other ]
+      ];
+    }
+
+pub values_after : (count : ℕ) (choices : List (List Case)) (g : Case) (left : List Case) (old v : List ℤ) → IsUpTo old v → IsMet count choices v → (AreBelow count choices → Bounds.IsLeast count g v) → IsLeastAllBut count choices (g ∷ left) old → IsLeastAllBut count choices left old
 values_after count choices g left old v up is least h =
     record {
       met = h.met;
-      others = λ w met. elim (h.others w met) [
+      others = λ below w met. elim (h.others below w met) [
         | inl after ↦ inl after
-        | inr one ↦ elim one [ inl all ↦ inl (up_to_trans old v w up (solved_first count choices g v w is least met all)) | inr other ↦ inr other ]
+        | inr one ↦ elim one [ inl all ↦ inl (up_to_trans old v w up (solved_first count choices g v w is (least below) met all)) | inr other ↦ inr other ]
       ];
     }

@@ -25,7 +25,7 @@ chosen_start count choices =
       below = λ u h. absurd h;
     }
 
-all_left : {X : Type 0} (P : X → Type 0) (xs ys : List X) → All P (xs ++ ys) → All P xs
+pub all_left : {X : Type 0} (P : X → Type 0) (xs ys : List X) → All P (xs ++ ys) → All P xs
 all_left P xs ys h = λ k d lt. subst P (get_or_append_left xs ys d k lt) (h k d (omega (arith, length-append xs ys)))
 
 all_right : {X : Type 0} (P : X → Type 0) (xs ys : List X) → All P (xs ++ ys) → All P ys
@@ -173,11 +173,17 @@ pub popped : (all rest : List Untried) (next : Untried) → all ≡ rest ++ next
 popped all rest next e = ap reverse e ∙ reverse-append rest (next ∷ [])
 
 -- nothing is untried
-pub done_least : (count : ℕ) (choices : List (List Case)) (g : Case) (us : List Untried) (found : Outcome) → us ≡ [] → IsPast count choices g us found → IfLeast found (IsLeast count choices)
-done_least count choices g us (Least values) none h =
+pub done_met : (count : ℕ) (choices : List (List Case)) (g : Case) (us : List Untried) (found : Outcome) → us ≡ [] → IsPast count choices g us found → IfLeast found (IsMet count choices)
+done_met count choices g us (Least values) none h =
     let so : IsLeastAllBut count choices (pending choices g []) values.items = (subst (λ (ns : List Untried). IsPast count choices g ns (Least values)) none h).so_far in
-    record { met = so.met; least = λ w met. elim (so.others w met) [ inl up ↦ up | inr one ↦ absurd one ] }
-done_least count choices g us (Refuted steps) none h = tt
+    so.met
+done_met count choices g us (Refuted steps) none h = tt
+
+pub done_least : (count : ℕ) (choices : List (List Case)) (g : Case) (us : List Untried) (found : Outcome) → us ≡ [] → IsPast count choices g us found → AreBelow count choices → IfLeast found (IsLeast count choices)
+done_least count choices g us (Least values) none h below =
+    let so : IsLeastAllBut count choices (pending choices g []) values.items = (subst (λ (ns : List Untried). IsPast count choices g ns (Least values)) none h).so_far in
+    record { met = so.met; least = λ w met. elim (so.others below w met) [ inl up ↦ up | inr one ↦ absurd one ] }
+done_least count choices g us (Refuted steps) none h below = tt
 
 pub done_refuted : (count : ℕ) (choices : List (List Case)) (g : Case) (us : List Untried) (found : Outcome) → us ≡ [] → IsPast count choices g us found → IfRefuted found (Refutes choices ([] ∷ []))
 done_refuted count choices g us (Least values) none h = tt

@@ -83,3 +83,32 @@ ended (x ∷ v) [] zero h = refl
 ended (x ∷ v) (y ∷ w) zero h = absurd (omega arith)
 ended (x ∷ v) [] (suc n) h = nothing_before (drop n v)
 ended (x ∷ v) (y ∷ w) (suc n) h = ended v w n (omega arith)
+
+-- where all numbers before a place are the same, the number there is not greater
+pub up_to_at : (v w : List ℤ) (u : ℕ) → length v ≡ length w → IsUpTo v w → u < length v → ((t : ℕ) → t < u → number v t ≡ number w t) → number v u ≤ℤ number w u
+up_to_at [] w u l h lt same = absurd (omega arith)
+up_to_at (x ∷ v) [] u l h lt same = absurd (omega arith)
+up_to_at (x ∷ v) (y ∷ w) zero l h lt same = elim h [ inl less ↦ omega (arith, ints) | inr e ↦ let is : x ≡ y = e.0 in omega (arith, ints) ]
+up_to_at (x ∷ v) (y ∷ w) (suc u) l h lt same =
+    let first : x ≡ y = same 0 (omega arith) in
+    elim h [
+      | inl less ↦ absurd (omega (arith, ints))
+      | inr e ↦ up_to_at v w u (omega arith) e.1 (omega arith) (λ t before. same (suc t) (omega arith))
+    ]
+
+before_both : (x y : ℤ) (v w : List ℤ) (u : ℕ) → x ≡ y → ((t : ℕ) → t < u → number v t ≡ number w t) → (t : ℕ) → t < suc u → number (x ∷ v) t ≡ number (y ∷ w) t
+before_both x y v w u e same zero before = e
+before_both x y v w u e same (suc t) before = same t (omega arith)
+
+pub up_to_from : (v w : List ℤ) → length v ≡ length w → ((u : ℕ) → u < length v → ((t : ℕ) → t < u → number v t ≡ number w t) → number v u ≤ℤ number w u) → IsUpTo v w
+up_to_from [] w l h = tt
+up_to_from (x ∷ v) [] l h = absurd (omega arith)
+up_to_from (x ∷ v) (y ∷ w) l h =
+    let first : x ≤ℤ y = h 0 (omega arith) (λ t before. absurd (omega arith)) in
+    elim (cases_int x y) [
+      | inl le ↦ elim le [
+        | inl less ↦ inl less
+        | inr e ↦ inr (e, up_to_from v w (omega arith) (λ u lt same. h (suc u) (omega arith) (before_both x y v w u e same)))
+      ]
+      | inr gt ↦ absurd (omega (arith, ints))
+    ]

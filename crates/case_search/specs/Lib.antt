@@ -1,5 +1,6 @@
 pub mod Choices
 pub mod Outcomes
+pub mod Parts
 pub mod Progress
 pub mod Steps
 pub mod Untried

@@ -1,6 +1,6 @@
 -- How far a search has come.
 use Rattle.std.specs.Prelude.{◌⊎◌, ℕ, ℤ, List, [], ◌∷◌, ◌++◌}
-use Rattle.case_search.specs.Choices.{Case, MeetsOne, IsMet, IsUpTo}
+use Rattle.case_search.specs.Choices.{Case, MeetsOne, AreBelow, IsMet, IsUpTo}
 use Rattle.case_search.specs.Steps.{Refutes}
 use Rattle.case_search.specs.Untried.{AreUntried, IsChosen, pending}
 use Rattle.case_search.specs.declared.walk.Untried.{Untried}
@@ -13,10 +13,11 @@ pub record RefutesAllBut (count : ℕ) (choices : List (List Case)) (left : List
   pub refutes : (rest : List Step) → Refutes choices left rest → Refutes choices ([] ∷ []) (steps ++ rest)
   pub others : (w : List ℤ) → IsMet count choices w → MeetsOne w left
 
--- no integers come before these but those that meet one of the lists of bounds that are left
+-- no integers come before these, where each unknown is bounded from below, but those that meet one of the lists of
+-- bounds that are left
 pub record IsLeastAllBut (count : ℕ) (choices : List (List Case)) (left : List Case) (v : List ℤ) : Type 0 where
   pub met : IsMet count choices v
-  pub others : (w : List ℤ) → IsMet count choices w → IsUpTo v w ⊎ MeetsOne w left
+  pub others : AreBelow count choices → (w : List ℤ) → IsMet count choices w → IsUpTo v w ⊎ MeetsOne w left
 
 -- what is found where these lists of bounds are left
 abbrev pub IsSoFar : ℕ → List (List Case) → List Case → Outcome → Type 0

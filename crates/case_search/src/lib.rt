@@ -2,13 +2,16 @@
 #![tactic(auto)]
 
 mod choice;
+mod labels;
 pub mod laws;
 mod order;
+mod parts;
 mod progress;
 mod search;
 #[cfg(test)]
 mod tests;
 mod walk;
+mod zeros;
 
 pub use choice::{Choice, Outcome, Step};
 pub use search::find_least;

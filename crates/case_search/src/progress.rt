@@ -4,7 +4,7 @@ ghost use Rattle.std.specs.Prelude.{◌≡◌, ℕ, ◌<◌, ◌∷◌, ◌++◌
 ghost use Rattle.difference_solver.specs.Bound.{IsUnsolvable};
 ghost use Rattle.difference_solver.specs.Bound as Bounds;
 ghost use Rattle.difference_solver.specs.Cycle.{IsNegativeCycle};
-ghost use Rattle.case_search.specs.Choices.{Case, cases_at, with_each, IsMet};
+ghost use Rattle.case_search.specs.Choices.{Case, cases_at, with_each, AreBelow, IsMet};
 ghost use Rattle.case_search.specs.Progress.{IsSoFar};
 
 use crate::choice::{Outcome, Step};
@@ -42,10 +42,10 @@ impl Outcome {
         }
     }
 
-    /// The least integers that meet bounds of one case of each choice.
+    /// The integers that meet bounds of one case of each choice, the least where each unknown is bounded from below.
     pub(crate) fn with_values(self, values: Vec<i128>) -> Outcome
         ensures { (count : ℕ) (choices : List (List Case)) (gathered : Case) (left : List Case)
-            → IsMet count choices values.items → Bounds.IsLeast count gathered values.items
+            → IsMet count choices values.items → (AreBelow count choices → Bounds.IsLeast count gathered values.items)
             → IsSoFar count choices (gathered ∷ left) self → IsSoFar count choices left result }
     {
         match self {

@@ -1,7 +1,7 @@
 //! The bounds that are gathered, and the cases that are still to be tried.
 
 ghost use Rattle.std.specs.Prelude.{◌≡◌, ◌+◌, ◌^◌, ◌<◌, ◌≤◌, ◌++◌, take, drop, length, reverse, IfOk, OnOk};
-ghost use Rattle.case_search.specs.Choices.{lists_of, cases_at, AreBelow};
+ghost use Rattle.case_search.specs.Choices.{lists_of, cases_at};
 ghost use Rattle.case_search.specs.Progress.{IsAt, IsPast};
 ghost use Rattle.case_search.specs.Untried.{case_of, tries, looks_of, looks_left};
 
@@ -49,7 +49,6 @@ impl Walk {
     ) -> Result<Outcome, NoMemory>
         requires unknowns { count ≤ 64 }
         requires few { length choices.now < 2 ^ 32 }
-        requires below { AreBelow count (lists_of choices.now) }
         requires at { IsAt count (lists_of choices.now) depth self.old.gathered.items (reverse self.old.untried.items) outcome }
         ensures past { IfOk result
             (IsPast count (lists_of choices.now) self.new.gathered.items (reverse self.new.untried.items)) }

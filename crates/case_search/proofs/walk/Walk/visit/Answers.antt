@@ -42,6 +42,6 @@ returns-else-depth-choices-2-clause-past c =
       so_far = c.with_values.ensures c.args.count (lists_of c.args.choices.now) g
           (pending (lists_of c.args.choices.now) g (reverse c.args.self.now.untried.items))
           (chosen_met c.args.count (lists_of c.args.choices.now) g c.args.depth c.in-Values.values.items whole c.requires.at.chosen is)
-          (least (chosen_below c.args.count (lists_of c.args.choices.now) g c.args.depth c.requires.below whole c.requires.at.chosen))
+          (λ below. least (chosen_below c.args.count (lists_of c.args.choices.now) g c.args.depth below whole c.requires.at.chosen))
           c.requires.at.so_far;
     }

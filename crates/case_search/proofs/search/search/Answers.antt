@@ -3,7 +3,7 @@ use Rattle.case_search.specs.Choices.{lists_of}
 use Rattle.case_search.specs.Progress.{IsAt}
 use Rattle.case_search.specs.declared.walk.Untried.{Untried}
 use Rattle.case_search.proofs.Trying.{takes, popped, none_left, done_refuted}
-use Rattle.case_search.proofs.search.find_least.Goals as goal
+use Rattle.case_search.proofs.search.search.Goals as goal
 
 pub visit-requires-in-Some-clause-at : goal.visit-requires-in-Some-clause-at
 visit-requires-in-Some-clause-at c =

@@ -2,7 +2,7 @@ use Rattle.std.proofs.Common.{reverse}
 use Rattle.case_search.specs.Choices.{lists_of}
 use Rattle.case_search.specs.Untried.{looks_left}
 use Rattle.case_search.specs.Progress.{IsPast}
-use Rattle.case_search.proofs.search.find_least.Given as goal
+use Rattle.case_search.proofs.search.search.Given as goal
 
 abbrev pub invariant-loop-next : goal.invariant-loop-next
 invariant-loop-next l =

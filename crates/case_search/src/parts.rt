@@ -1,0 +1,158 @@
+//! Parts of choices that share no unknowns.
+
+ghost use Rattle.std.specs.Prelude.{◌≡◌, ◌^◌, ◌<◌, ◌≤◌, All, IsTrue, map, length, slice_index, IfOk};
+ghost use Rattle.case_search.specs.Choices.{lists_of, cases_of, items_of};
+ghost use Rattle.case_search.specs.Parts.{has_label, case_passes, choice_passes, part_of, places_of, placed, EachHasLabel, AreApart};
+
+use crate::choice::{Choice, Step};
+use crate::labels::first_label;
+use difference_solver::Bound;
+use std::alloc::{AllocError, Global};
+
+fn label_of(labels: &[u32], unknown: usize) -> u32
+    ensures { result ≡ slice_index labels.now unknown }
+{
+    labels.get(unknown).copied().unwrap_or(0)
+}
+
+/// Whether it is the number zero, or an unknown with the label.
+pub(crate) fn has_label(labels: &[u32], label: u32, unknown: usize) -> bool
+    ensures { result ≡ has_label labels.now label unknown }
+{
+    unknown == 0 || label_of(labels, unknown) == label
+}
+
+fn case_has_label(labels: &[u32], label: u32, case: &[Bound]) -> bool
+    ensures { result ≡ case_passes (has_label labels.now label) case.now }
+{
+    for bound in case {
+        if !has_label(labels, label, bound.plus as usize) {
+            return false;
+        }
+        if !has_label(labels, label, bound.minus as usize) {
+            return false;
+        }
+    }
+    true
+}
+
+/// Whether all unknowns of the cases have the label.
+fn choice_has_label(labels: &[u32], label: u32, cases: &[Vec<Bound>]) -> bool
+    ensures { result ≡ choice_passes (has_label labels.now label) (map items_of cases.now) }
+{
+    for case in cases {
+        if !case_has_label(labels, label, case.as_slice()) {
+            return false;
+        }
+    }
+    true
+}
+
+/// Whether the unknowns of each choice have the same label, and it is up to `count`.
+fn each_has_label(labels: &[u32], choices: &[Choice], count: u32) -> bool
+    ensures { IsTrue result → EachHasLabel count labels.now (lists_of choices.now) }
+{
+    for choice in choices {
+        let label = first_label(labels, choice);
+        if label > count {
+            return false;
+        }
+        if !choice_has_label(labels, label, choice.cases.as_slice()) {
+            return false;
+        }
+    }
+    true
+}
+
+fn are_up_to(labels: &[u32], count: u32) -> bool
+    ensures { IsTrue result → All (λ label. label ≤ count) labels.now }
+{
+    for label in labels {
+        if *label > count {
+            return false;
+        }
+    }
+    true
+}
+
+/// Whether the labels are up to `count`, and all unknowns of a choice have the same.
+pub(crate) fn are_apart(labels: &[u32], choices: &[Choice], count: u32) -> bool
+    ensures { IsTrue result → AreApart count labels.now (lists_of choices.now) }
+{
+    if !are_up_to(labels, count) {
+        return false;
+    }
+    each_has_label(labels, choices, count)
+}
+
+fn copy_of(alloc: Global, cases: &[Vec<Bound>]) -> Result<Choice, AllocError>
+    ensures { IfOk result (λ copy. cases_of copy ≡ map items_of cases.now) }
+{
+    let mut copies = Vec::new(alloc);
+    for case in cases {
+        let mut copy = Vec::new(alloc);
+        copy.extend_from_slice(case.as_slice())?;
+        copies.push(copy)?;
+    }
+    Ok(Choice { cases: copies })
+}
+
+/// The choices whose unknowns have a label, and their indices among all choices.
+#[derive(Debug, Drop)]
+pub struct Part {
+    pub places: Vec<u32>,
+    pub choices: Vec<Choice>,
+}
+
+impl Part {
+    pub(crate) fn of(
+        alloc: Global,
+        choices: &[Choice],
+        labels: &[u32],
+        label: u32,
+    ) -> Result<Part, AllocError>
+        requires few { length choices.now < 2 ^ 32 }
+        ensures places { IfOk result (λ part. part.places.items ≡ places_of (has_label labels.now label) 0 (lists_of choices.now)) }
+        ensures choices { IfOk result (λ part. lists_of part.choices.items ≡ part_of (has_label labels.now label) (lists_of choices.now)) }
+    {
+        let mut part = Part {
+            places: Vec::new(alloc),
+            choices: Vec::new(alloc),
+        };
+        for (index, choice) in choices.iter().enumerate() {
+            let cases = choice.cases.as_slice();
+            if choice_has_label(labels, label, cases) {
+                part.places.push(index as u32)?;
+                part.choices.push(copy_of(alloc, cases)?)?;
+            }
+        }
+        Ok(part)
+    }
+}
+
+fn placed(places: &[u32], step: Step) -> Step
+    ensures { result ≡ placed places.now step }
+{
+    match step {
+        Step::Split { choice } => Step::Split {
+            choice: places.get(choice as usize).copied().unwrap_or(0),
+        },
+        Step::Cycle { bounds } => Step::Cycle { bounds },
+    }
+}
+
+/// The steps on the choices at these indices, as steps on all choices.
+pub(crate) fn all_placed(
+    alloc: Global,
+    places: &[u32],
+    mut steps: Vec<Step>,
+) -> Result<Vec<Step>, AllocError>
+    ensures { IfOk result (λ found. found.items ≡ map (placed places.now) steps.items) }
+{
+    let mut found = Vec::new(alloc);
+    while let Some(step) = steps.pop() {
+        found.push(placed(places, step))?;
+    }
+    found.reverse();
+    Ok(found)
+}
