@@ -1,3 +1,4 @@
+pub mod Closing
 pub mod Meeting
 pub mod Parting
 pub mod Passing

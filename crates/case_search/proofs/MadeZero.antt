@@ -1,5 +1,5 @@
 -- Bounds that make unknowns zero.
-use Rattle.std.proofs.Common.{◌≡◌, ℕ, ◌+◌, ◌<◌, ◌≤◌, ℤ, pos, Bool, true, false, List, [], ◌∷◌, ◌++◌, inl, inr, arith, refl, ap, sym, subst, ◌∙◌}
+use Rattle.std.proofs.Common.{◌≡◌, ℕ, ◌+◌, ◌<◌, ℤ, pos, Bool, true, false, List, [], ◌∷◌, ◌++◌, inl, inr, arith, refl, ap, sym, subst, ◌∙◌}
 use Rattle.std.specs.Prelude.{All, ◌≤ℤ◌, ◌+ℤ◌}
 use Rattle.std.proofs.lemmas.Bool.{cases_lt}
 use Rattle.std.proofs.lemmas.Int.{ints}
@@ -61,7 +61,7 @@ zeros_more count n test case lt fails h =
       below = λ x above within no. elim (cases_lt x u) [
         | inl before ↦ has_below_left x (case ++ low_of u ∷ []) (high_of u ∷ []) (has_below_left x case (low_of u ∷ []) (h.below x above (omega arith) no))
         | inr here ↦ let same : u ≡ x = omega arith in
-          (low_of u, Contains-append_left (case ++ low_of u ∷ []) (high_of u ∷ []) (low_of u) (Contains-push case (low_of u)), refl, same)
+            (low_of u, Contains-append_left (case ++ low_of u ∷ []) (high_of u ∷ []) (low_of u) (Contains-push case (low_of u)), refl, same)
       ];
       zero = λ v first all x above within no. elim (cases_lt x u) [
         | inl before ↦ h.zero v first (all_left (Meets v) case (low_of u ∷ []) (all_left (Meets v) (case ++ low_of u ∷ []) (high_of u ∷ []) all)) x above (omega arith) no

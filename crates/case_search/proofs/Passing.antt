@@ -1,5 +1,5 @@
 -- Choices whose unknowns pass a test.
-use Rattle.std.proofs.Common.{◌≡◌, ℕ, zero, suc, ◌+◌, ◌<◌, ◌≤◌, ℤ, Bool, true, false, cond, eqb, eq-eqb, ne_eqb, eqb-true, List, [], ◌∷◌, ◌++◌, inl, inr, length, get_or, arith, refl, ap, sym, subst, ◌∙◌}
+use Rattle.std.proofs.Common.{◌≡◌, ℕ, suc, ◌<◌, ◌≤◌, ℤ, Bool, true, false, cond, eqb, eq-eqb, ne_eqb, eqb-true, List, [], ◌∷◌, inl, inr, length, arith, refl, sym, subst}
 use Rattle.std.specs.Prelude.{All, slice_index, ◌≤ℤ◌, ◌+ℤ◌}
 use Rattle.std.proofs.lemmas.List.Elements.{All-nil, All-cons, All-head, All-tail, All-contains}
 use Rattle.difference_solver.specs.declared.bound.Bound.{Bound}
@@ -72,13 +72,21 @@ tail_met v cases rest true h = h.1
 tail_met v cases rest false h = h
 
 -- what meets the choices of each part meets all choices
-pub each_whole : (count : ℕ) (labels : List ℕ) (v : List ℤ) (choices : List (List Case)) → EachHasLabel count labels choices → ((label : ℕ) → label ≤ count → MeetsEach v (part_of (has_label labels label) choices)) → MeetsEach v choices
-each_whole count labels v [] apart h = tt
-each_whole count labels v (c ∷ choices) (own, others) h = (
-      head_met v c (part_of (has_label labels own.0) choices) (choice_passes (has_label labels own.0) c) own.2 (h own.0 own.1),
-      each_whole count labels v choices others
-          (λ label within. tail_met v c (part_of (has_label labels label) choices) (choice_passes (has_label labels label) c) (h label within)),
-    )
+pub each_whole : (last : ℕ) (labels : List ℕ) (v : List ℤ) (choices : List (List Case)) → EachHasLabel last labels choices → ((label : ℕ) → label ≤ last → MeetsEach v (part_of (has_label labels label) choices)) → MeetsEach v choices
+each_whole last labels v [] apart h = tt
+each_whole last labels v (c ∷ choices) (own, others) h = (
+  head_met v c (part_of (has_label labels own.0) choices) (choice_passes (has_label labels own.0) c) own.2 (h own.0 own.1),
+  each_whole last labels v choices others
+      (λ label within. tail_met v c (part_of (has_label labels label) choices) (choice_passes (has_label labels label) c) (h label within)),
+)
+
+next_fewer : (cases : List Case) (rest part : List (List Case)) (b : Bool) → length part ≤ length rest → length (cond b (cases ∷ part) part) ≤ suc (length rest)
+next_fewer cases rest part true h = omega arith
+next_fewer cases rest part false h = omega arith
+
+pub part_fewer : (test : ℕ → Bool) (choices : List (List Case)) → length (part_of test choices) ≤ length choices
+part_fewer test [] = omega arith
+part_fewer test (c ∷ choices) = next_fewer c choices (part_of test choices) (choice_passes test c) (part_fewer test choices)
 
 next_in_range : (count : ℕ) (cases : List Case) (rest : List (List Case)) (b : Bool) → All (All (IsInRange count)) cases → AreInRange count rest → AreInRange count (cond b (cases ∷ rest) rest)
 next_in_range count cases rest true h hs = All-cons (All (All (IsInRange count))) cases rest h hs
@@ -133,11 +141,11 @@ next_later u cases rest true h = inr h
 next_later u cases rest false h = h
 
 -- an unknown that is bounded from below is so in its part
-pub part_below : (count : ℕ) (labels : List ℕ) (u : ℕ) (choices : List (List Case)) → 0 < u → EachHasLabel count labels choices → OneHasBelow u choices → OneHasBelow u (part_of (has_label labels (slice_index labels u)) choices)
-part_below count labels u [] above apart h = h
-part_below count labels u (c ∷ choices) above (own, others) h =
+pub part_below : (last : ℕ) (labels : List ℕ) (u : ℕ) (choices : List (List Case)) → 0 < u → EachHasLabel last labels choices → OneHasBelow u choices → OneHasBelow u (part_of (has_label labels (slice_index labels u)) choices)
+part_below last labels u [] above apart h = h
+part_below last labels u (c ∷ choices) above (own, others) h =
     let test : ℕ → Bool = has_label labels (slice_index labels u) in
     elim h [
       | inl here ↦ next_here u c (part_of test choices) (choice_passes test c) (below_passes labels own.0 u c above own.2 here) here
-      | inr later ↦ next_later u c (part_of test choices) (choice_passes test c) (part_below count labels u choices above others later)
+      | inr later ↦ next_later u c (part_of test choices) (choice_passes test c) (part_below last labels u choices above others later)
     ]

@@ -1,5 +1,5 @@
 -- Steps on the choices of a part, as steps on all choices.
-use Rattle.std.proofs.Common.{◌≡◌, ℕ, zero, suc, ◌+◌, ◌<◌, Bool, true, false, cond, List, [], ◌∷◌, ◌++◌, length, map, arith, refl, ap, sym, subst, ◌∙◌}
+use Rattle.std.proofs.Common.{◌≡◌, ℕ, zero, suc, ◌+◌, ◌<◌, Bool, true, false, cond, List, [], ◌∷◌, ◌++◌, length, map, arith, refl, sym, subst}
 use Rattle.std.specs.Prelude.{slice_index}
 use Rattle.case_search.specs.Choices.{Case, cases_at, with_each}
 use Rattle.case_search.specs.Parts.{choice_passes, part_of, places_of, placed}
@@ -39,9 +39,11 @@ refutes_all choices part places h (g ∷ left) [] r = absurd r
 refutes_all choices part places h (g ∷ left) (Split choice ∷ steps) r =
     let is = h choice r.0 in
     let at : is.after ≡ slice_index places choice = omega (arith, is.place) in
-    subst (λ (n : ℕ). (n < length choices) × Refutes choices (with_each g (cases_at choices n) ++ left) (map (placed places) steps)) at
-    (is.within, subst (λ (cs : List Case). Refutes choices (with_each g cs ++ left) (map (placed places) steps)) (sym is.same)
-    (refutes_all choices part places h (with_each g (cases_at part choice) ++ left) steps r.1))
+    subst (λ (n : ℕ). (n < length choices) × Refutes choices (with_each g (cases_at choices n) ++ left) (map (placed places) steps)) at (
+      is.within,
+      subst (λ (cs : List Case). Refutes choices (with_each g cs ++ left) (map (placed places) steps)) (sym is.same)
+          (refutes_all choices part places h (with_each g (cases_at part choice) ++ left) steps r.1),
+    )
 refutes_all choices part places h (g ∷ left) (Cycle around ∷ steps) r = (r.0, refutes_all choices part places h left steps r.1)
 
 -- steps that refute the choices of a part refute all choices

@@ -1,6 +1,5 @@
 -- Parts of choices: those whose unknowns have the same label.
-use Rattle.std.specs.Prelude.{◌≡◌, ◌==◌, ℕ, suc, ℤ, pos, ◌+◌, ◌<◌, ◌≤◌, ◌≤ℤ◌, Bool, true, false, List, [], ◌∷◌, All, length, slice_index, if◌then◌else◌}
-use Rattle.difference_solver.specs.declared.bound.Bound.{Bound}
+use Rattle.std.specs.Prelude.{◌≡◌, ◌==◌, ℕ, suc, ℤ, pos, ◌+◌, ◌<◌, ◌≤◌, ◌≤ℤ◌, Bool, true, false, List, [], ◌∷◌, ◌++◌, All, length, slice_index, if◌then◌else◌}
 use Rattle.difference_solver.specs.Bound.{Meets, number, IsInRange}
 use Rattle.case_search.specs.Choices.{Case, MeetsEach, IsMet, HasBelow}
 use Rattle.case_search.specs.declared.choice.Step.{Step}
@@ -36,16 +35,16 @@ abbrev pub placed : List ℕ → Step → Step
 placed places (Split choice) = Split (slice_index places choice)
 placed places (Cycle around) = Cycle around
 
--- the unknowns of each choice have a label of their own, up to count
+-- for each choice there is a label up to the last that all its unknowns have
 abbrev pub EachHasLabel : ℕ → List ℕ → List (List Case) → Type 0
-EachHasLabel count labels [] = Unit {0}
-EachHasLabel count labels (cases ∷ choices) =
-    ((label : ℕ) × (label ≤ count) × (choice_passes (has_label labels label) cases ≡ true)) × EachHasLabel count labels choices
+EachHasLabel last labels [] = Unit {0}
+EachHasLabel last labels (cases ∷ choices) =
+    ((label : ℕ) × (label ≤ last) × (choice_passes (has_label labels label) cases ≡ true)) × EachHasLabel last labels choices
 
--- the labels are up to count, and all unknowns of a choice have the same
-pub record AreApart (count : ℕ) (labels : List ℕ) (choices : List (List Case)) : Type 0 where
-  pub up_to : All (λ label. label ≤ count) labels
-  pub each : EachHasLabel count labels choices
+-- the labels are up to the last, and all unknowns of a choice have the same
+pub record AreApart (last : ℕ) (labels : List ℕ) (choices : List (List Case)) : Type 0 where
+  pub up_to : All (λ label. label ≤ last) labels
+  pub each : EachHasLabel last labels choices
 
 -- the bounds say of the unknowns up to n that each that does not pass the test is zero
 pub record AreZero (count n : ℕ) (test : ℕ → Bool) (case : Case) : Type 0 where
@@ -53,6 +52,12 @@ pub record AreZero (count n : ℕ) (test : ℕ → Bool) (case : Case) : Type 0 
   pub below : (u : ℕ) → 0 < u → u ≤ n → test u ≡ false → HasBelow u case
   pub zero : (v : List ℤ) → number v 0 ≡ pos 0 → All (Meets v) case → (u : ℕ) → 0 < u → u ≤ n → test u ≡ false → number v u ≡ pos 0
   pub met : (v : List ℤ) → number v 0 ≡ pos 0 → ((u : ℕ) → 0 < u → test u ≡ false → number v u ≡ pos 0) → All (Meets v) case
+
+-- the choices that pass, and one more, whose one case makes the other unknowns zero
+pub record IsClosed (count : ℕ) (test : ℕ → Bool) (choices closed : List (List Case)) : Type 0 where
+  pub zeros : Case
+  pub with_zeros : closed ≡ part_of test choices ++ (zeros ∷ []) ∷ []
+  pub outside : AreZero count count test zeros
 
 -- the integers meet one case of each choice of a part, and where all integers of the part before an unknown are those of
 -- others that meet one case of each of all choices, that of the unknown is not greater

@@ -4,6 +4,7 @@
 mod choice;
 mod labels;
 pub mod laws;
+mod least;
 mod order;
 mod parts;
 mod progress;
@@ -14,4 +15,4 @@ mod walk;
 mod zeros;
 
 pub use choice::{Choice, Outcome, Step};
-pub use search::find_least;
+pub use least::find_least;

@@ -1,19 +1,13 @@
 //! Parts of choices that share no unknowns.
 
-ghost use Rattle.std.specs.Prelude.{◌≡◌, ◌^◌, ◌<◌, ◌≤◌, All, IsTrue, map, length, slice_index, IfOk};
+ghost use Rattle.std.specs.Prelude.{◌≡◌, ◌^◌, ◌<◌, ◌≤◌, All, IsTrue, map, length, IfOk};
 ghost use Rattle.case_search.specs.Choices.{lists_of, cases_of, items_of};
 ghost use Rattle.case_search.specs.Parts.{has_label, case_passes, choice_passes, part_of, places_of, placed, EachHasLabel, AreApart};
 
 use crate::choice::{Choice, Step};
-use crate::labels::first_label;
+use crate::labels::{first_label, label_of};
 use difference_solver::Bound;
 use std::alloc::{AllocError, Global};
-
-fn label_of(labels: &[u32], unknown: usize) -> u32
-    ensures { result ≡ slice_index labels.now unknown }
-{
-    labels.get(unknown).copied().unwrap_or(0)
-}
 
 /// Whether it is the number zero, or an unknown with the label.
 pub(crate) fn has_label(labels: &[u32], label: u32, unknown: usize) -> bool
@@ -48,13 +42,13 @@ fn choice_has_label(labels: &[u32], label: u32, cases: &[Vec<Bound>]) -> bool
     true
 }
 
-/// Whether the unknowns of each choice have the same label, and it is up to `count`.
-fn each_has_label(labels: &[u32], choices: &[Choice], count: u32) -> bool
-    ensures { IsTrue result → EachHasLabel count labels.now (lists_of choices.now) }
+/// Whether the unknowns of each choice have the same label, and it is up to `last`.
+fn each_has_label(labels: &[u32], choices: &[Choice], last: u32) -> bool
+    ensures { IsTrue result → EachHasLabel last labels.now (lists_of choices.now) }
 {
     for choice in choices {
         let label = first_label(labels, choice);
-        if label > count {
+        if label > last {
             return false;
         }
         if !choice_has_label(labels, label, choice.cases.as_slice()) {
@@ -64,25 +58,25 @@ fn each_has_label(labels: &[u32], choices: &[Choice], count: u32) -> bool
     true
 }
 
-fn are_up_to(labels: &[u32], count: u32) -> bool
-    ensures { IsTrue result → All (λ label. label ≤ count) labels.now }
+fn are_up_to(labels: &[u32], last: u32) -> bool
+    ensures { IsTrue result → All (λ label. label ≤ last) labels.now }
 {
     for label in labels {
-        if *label > count {
+        if *label > last {
             return false;
         }
     }
     true
 }
 
-/// Whether the labels are up to `count`, and all unknowns of a choice have the same.
-pub(crate) fn are_apart(labels: &[u32], choices: &[Choice], count: u32) -> bool
-    ensures { IsTrue result → AreApart count labels.now (lists_of choices.now) }
+/// Whether the labels are up to `last`, and all unknowns of a choice have the same.
+pub(crate) fn are_apart(labels: &[u32], choices: &[Choice], last: u32) -> bool
+    ensures { IsTrue result → AreApart last labels.now (lists_of choices.now) }
 {
-    if !are_up_to(labels, count) {
+    if !are_up_to(labels, last) {
         return false;
     }
-    each_has_label(labels, choices, count)
+    each_has_label(labels, choices, last)
 }
 
 fn copy_of(alloc: Global, cases: &[Vec<Bound>]) -> Result<Choice, AllocError>

@@ -48,7 +48,7 @@ impl Walk {
         outcome: Outcome,
     ) -> Result<Outcome, NoMemory>
         requires unknowns { count ≤ 64 }
-        requires few { length choices.now < 2 ^ 32 }
+        requires few { length choices.now ≤ 2 ^ 32 }
         requires at { IsAt count (lists_of choices.now) depth self.old.gathered.items (reverse self.old.untried.items) outcome }
         ensures past { IfOk result
             (IsPast count (lists_of choices.now) self.new.gathered.items (reverse self.new.untried.items)) }
@@ -82,7 +82,7 @@ impl Walk {
         outcome: Outcome,
     ) -> Result<Outcome, NoMemory>
         requires within { choice < length choices.now }
-        requires few { length choices.now < 2 ^ 32 }
+        requires few { length choices.now ≤ 2 ^ 32 }
         requires at { IsAt count (lists_of choices.now) choice self.old.gathered.items (reverse self.old.untried.items) outcome }
         ensures past { IfOk result
             (IsPast count (lists_of choices.now) self.new.gathered.items (reverse self.new.untried.items)) }

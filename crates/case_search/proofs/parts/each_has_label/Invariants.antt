@@ -5,4 +5,4 @@ use Rattle.case_search.proofs.parts.each_has_label.Given as goal
 
 abbrev pub invariant-loop-choice : goal.invariant-loop-choice
 invariant-loop-choice l =
-    EachHasLabel l.count l.labels (lists_of (drop l.choice-index l.choices)) → EachHasLabel l.count l.labels (lists_of l.choices)
+    EachHasLabel l.last l.labels (lists_of (drop l.choice-index l.choices)) → EachHasLabel l.last l.labels (lists_of l.choices)

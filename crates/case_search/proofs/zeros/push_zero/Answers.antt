@@ -1,4 +1,4 @@
-use Rattle.std.proofs.Common.{◌≡◌, ◌+◌, true, false, [], ◌∷◌, ◌++◌, sym, ap, subst, ◌∙◌}
+use Rattle.std.proofs.Common.{◌+◌, [], ◌∷◌, ◌++◌, sym, ap, subst, ◌∙◌}
 use Rattle.case_search.specs.Choices.{Case}
 use Rattle.case_search.specs.Parts.{has_label, AreZero}
 use Rattle.case_search.proofs.MadeZero.{high_of, zeros_kept, zeros_more}

@@ -1,4 +1,4 @@
-use Rattle.std.proofs.Common.{◌≡◌, ℕ, ◌<◌, ◌≤◌, cond, length}
+use Rattle.std.proofs.Common.{◌≡◌, ℕ, ◌<◌, ◌≤◌, cond}
 use Rattle.difference_solver.specs.Bound.{number}
 use Rattle.case_search.specs.Parts.{has_label}
 use Rattle.case_search.proofs.zeros.put_part.Given as goal
@@ -6,5 +6,5 @@ use Rattle.case_search.proofs.zeros.put_part.Given as goal
 abbrev pub invariant-loop-unknown : goal.invariant-loop-unknown
 invariant-loop-unknown l =
     ((u : ℕ) → u < l.unknown
-    → number l.values u ≡ cond (has_label l.labels l.label u) (number l.part u) (number l.initial.values u))
-    × ((u : ℕ) → l.unknown ≤ u → number l.values u ≡ number l.initial.values u)
+    → number l.values.items u ≡ cond (has_label l.labels l.label u) (number l.part u) (number l.initial.values.items u))
+    × ((u : ℕ) → l.unknown ≤ u → number l.values.items u ≡ number l.initial.values.items u)

@@ -1,0 +1,148 @@
+//! The least integers of choices, found part by part.
+
+ghost use Rattle.std.specs.Prelude.{ℕ, ◌^◌, ◌<◌, ◌≤◌, ◌↔◌, [], ◌∷◌, length, IfOk};
+ghost use Rattle.case_search.specs.Choices.{lists_of, AreBelow, AreInRange, IsMet, IsLeast, IsUnmet};
+ghost use Rattle.case_search.specs.Outcomes.{IfLeast, IfRefuted, IsRefuted};
+ghost use Rattle.case_search.specs.Parts.{has_label, part_of, AreApart, IsPartLeast};
+ghost use Rattle.case_search.specs.Steps.{Refutes};
+
+use crate::choice::{Choice, Outcome};
+use crate::labels::{labels_of, renumber};
+use crate::parts::{Part, all_placed, are_apart};
+use crate::search::search;
+use crate::zeros::{closed_part, put_part};
+use difference_solver::NoMemory;
+use std::alloc::Global;
+
+/// The first integers in the order of words, for the unknowns 0 to `count`, that meet one case of each choice; or a
+/// refutation, where no integers do. Unknown 0 is the number zero, and each other unknown is bounded from below. Answers
+/// NoMemory too where 2^32 bounds would be gathered.
+///
+/// Choices that share no unknowns are searched apart: the work is the sum over these parts, and not the product.
+pub fn find_least(alloc: Global, choices: &[Choice], count: u32) -> Result<Outcome, NoMemory>
+    requires unknowns { count ≤ 64 }
+    requires few { length choices.now < 2 ^ 32 }
+    requires in_range { AreInRange count (lists_of choices.now) }
+    requires below { AreBelow count (lists_of choices.now) }
+
+    ensures least { IfOk result (λ outcome. IfLeast outcome (IsLeast count (lists_of choices.now))) }
+    ensures refuted { IfOk result (λ outcome. IfRefuted outcome (Refutes (lists_of choices.now) ([] ∷ []))) }
+    ensures unmet { IfOk result (λ outcome. IsRefuted outcome ↔ IsUnmet count (lists_of choices.now)) }
+{
+    if choices.iter().all(|choice| choice.cases.len() < 2) {
+        return search(alloc, choices, count);
+    }
+    let mut labels = labels_of(alloc, choices, count)?;
+    let last = renumber(labels.as_mut_slice(), count);
+    if last < 2 || !are_apart(labels.as_slice(), choices, last) {
+        return search(alloc, choices, count);
+    }
+    search_parts(alloc, choices, count, labels.as_slice(), last)
+}
+
+/// What is found part by part, where the unknowns of a part have the same label, up to `last`.
+fn search_parts(
+    alloc: Global,
+    choices: &[Choice],
+    count: u32,
+    labels: &[u32],
+    last: u32,
+) -> Result<Outcome, NoMemory>
+    requires unknowns { count ≤ 64 }
+    requires few { length choices.now < 2 ^ 32 }
+    requires in_range { AreInRange count (lists_of choices.now) }
+    requires below { AreBelow count (lists_of choices.now) }
+    requires apart { AreApart last labels.now (lists_of choices.now) }
+    requires parts { last ≤ count }
+
+    ensures least { IfOk result (λ outcome. IfLeast outcome (IsLeast count (lists_of choices.now))) }
+    ensures refuted { IfOk result (λ outcome. IfRefuted outcome (Refutes (lists_of choices.now) ([] ∷ []))) }
+    ensures unmet { IfOk result (λ outcome. IsRefuted outcome → IsUnmet count (lists_of choices.now)) }
+{
+    let mut values = vec![in alloc; 0i128; count as usize + 1]?;
+    for label in 0..last + 1 {
+        match search_part(alloc, choices, count, labels, label)? {
+            Outcome::Least { values: part } => {
+                put_part(&mut values, labels, label, part.as_slice());
+            }
+            Outcome::Refuted { steps } => return Ok(Outcome::Refuted { steps }),
+        }
+    }
+    Ok(Outcome::Least { values })
+}
+
+/// The least integers for the choices whose unknowns have the label, or a refutation of all choices.
+fn search_part(
+    alloc: Global,
+    choices: &[Choice],
+    count: u32,
+    labels: &[u32],
+    label: u32,
+) -> Result<Outcome, NoMemory>
+    requires unknowns { count ≤ 64 }
+    requires few { length choices.now < 2 ^ 32 }
+    requires in_range { AreInRange count (lists_of choices.now) }
+    requires below { AreBelow count (lists_of choices.now) }
+    requires apart { (last : ℕ) × AreApart last labels.now (lists_of choices.now) }
+
+    ensures least { IfOk result (λ outcome. IfLeast outcome
+        (IsPartLeast count (has_label labels.now label) (lists_of choices.now))) }
+    ensures refuted { IfOk result (λ outcome. IfRefuted outcome (Refutes (lists_of choices.now) ([] ∷ []))) }
+    ensures unmet { IfOk result (λ outcome. IsRefuted outcome → IsUnmet count (lists_of choices.now)) }
+{
+    let found = solve_part(alloc, choices, count, labels, label)?;
+    match found {
+        Outcome::Least { values } => Ok(Outcome::Least { values }),
+        Outcome::Refuted { .. } => refute_part(alloc, choices, count, labels, label),
+    }
+}
+
+/// What is found for the choices whose unknowns have the label: the least integers, or that there are none.
+fn solve_part(
+    alloc: Global,
+    choices: &[Choice],
+    count: u32,
+    labels: &[u32],
+    label: u32,
+) -> Result<Outcome, NoMemory>
+    requires unknowns { count ≤ 64 }
+    requires few { length choices.now < 2 ^ 32 }
+    requires in_range { AreInRange count (lists_of choices.now) }
+    requires below { AreBelow count (lists_of choices.now) }
+    requires apart { (last : ℕ) × AreApart last labels.now (lists_of choices.now) }
+
+    ensures least { IfOk result (λ outcome. IfLeast outcome
+        (IsPartLeast count (has_label labels.now label) (lists_of choices.now))) }
+    ensures unmet { IfOk result (λ outcome. IsRefuted outcome
+        → IsUnmet count (part_of (has_label labels.now label) (lists_of choices.now))) }
+{
+    let part = closed_part(alloc, choices, labels, label, count)?;
+    search(alloc, part.as_slice(), count)
+}
+
+/// What is found for the choices whose unknowns have the label: integers, or a refutation of all choices.
+fn refute_part(
+    alloc: Global,
+    choices: &[Choice],
+    count: u32,
+    labels: &[u32],
+    label: u32,
+) -> Result<Outcome, NoMemory>
+    requires unknowns { count ≤ 64 }
+    requires few { length choices.now < 2 ^ 32 }
+    requires in_range { AreInRange count (lists_of choices.now) }
+
+    ensures met { IfOk result (λ outcome. IfLeast outcome
+        (IsMet count (part_of (has_label labels.now label) (lists_of choices.now)))) }
+    ensures refuted { IfOk result (λ outcome. IfRefuted outcome (Refutes (lists_of choices.now) ([] ∷ []))) }
+{
+    let part = Part::of(alloc, choices, labels, label)?;
+    let found = search(alloc, part.choices.as_slice(), count)?;
+    match found {
+        Outcome::Least { values } => Ok(Outcome::Least { values }),
+        Outcome::Refuted { steps } => {
+            let steps = all_placed(alloc, part.places.as_slice(), steps)?;
+            Ok(Outcome::Refuted { steps })
+        }
+    }
+}
