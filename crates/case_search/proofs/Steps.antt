@@ -11,7 +11,7 @@ use Rattle.case_search.specs.Steps.{Refutes}
 use Rattle.case_search.specs.declared.choice.Step.{Step}
 use Rattle.case_search.specs.declared.choice.Step.TheVariants.{Split, Cycle}
 use Rattle.case_search.proofs.Meeting.{one_append_left, one_append_right, one_with, each_at}
-use Rattle.case_search.proofs.WordLemmas.{up_to_pointwise, up_to_trans}
+use Rattle.case_search.proofs.WordLemmas.{up_to_from, up_to_trans}
 
 pub nothing_yet : (count : ℕ) (choices : List (List Case)) → RefutesAllBut count choices ([] ∷ []) []
 nothing_yet count choices = record { refutes = λ rest h. h; others = λ w met. inl (λ k d lt. absurd (omega arith)) }
@@ -57,8 +57,8 @@ cycle_least count choices g left v none h =
 -- integers that are least at each unknown come first
 pub solved_first : (count : ℕ) (choices : List (List Case)) (g : Case) (v w : List ℤ) → IsMet count choices v → Bounds.IsLeast count g v → IsMet count choices w → All (Meets w) g → IsUpTo v w
 solved_first count choices g v w is least met all =
-    up_to_pointwise v w (is.one_each ∙ sym met.one_each)
-    (λ u lt. least w record { one_each = met.one_each; first = met.first; met = all } u (omega (arith, is.one_each)))
+    up_to_from v w (is.one_each ∙ sym met.one_each)
+    (λ u lt same. least w record { one_each = met.one_each; first = met.first; met = all } u (omega (arith, is.one_each)))
 
 pub values_first : (count : ℕ) (choices : List (List Case)) (g : Case) (left : List Case) (steps : List Step) (v : List ℤ) → IsMet count choices v → (AreBelow count choices → Bounds.IsLeast count g v) → RefutesAllBut count choices (g ∷ left) steps → IsLeastAllBut count choices left v
 values_first count choices g left steps v is least h =

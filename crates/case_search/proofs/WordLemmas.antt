@@ -14,18 +14,6 @@ by_tests x y false false e f = inl (inr (grind (arith, ints)))
 pub cases_int : (x y : ℤ) → ((x <ℤ y) ⊎ (x ≡ y)) ⊎ (y <ℤ x)
 cases_int x y = by_tests x y (int_lt x y) (int_lt y x) refl refl
 
--- what is at most at each place is not after
-pub up_to_pointwise : (v w : List ℤ) → length v ≡ length w → ((u : ℕ) → u < length v → number v u ≤ℤ number w u) → IsUpTo v w
-up_to_pointwise [] w l h = tt
-up_to_pointwise (x ∷ v) [] l h = absurd (omega arith)
-up_to_pointwise (x ∷ v) (y ∷ w) l h =
-    let first : x ≤ℤ y = h 0 (omega arith) in
-    let rest : IsUpTo v w = up_to_pointwise v w (omega arith) (λ u lt. h (suc u) (omega arith)) in
-    elim (cases_int x y) [
-      | inl le ↦ elim le [ inl lt ↦ inl lt | inr e ↦ inr (e, rest) ]
-      | inr gt ↦ absurd (omega (arith, ints))
-    ]
-
 pub up_to_trans : (u v w : List ℤ) → IsUpTo u v → IsUpTo v w → IsUpTo u w
 up_to_trans [] v w h g = tt
 up_to_trans (x ∷ u) [] w h g = absurd h
@@ -100,6 +88,7 @@ before_both : (x y : ℤ) (v w : List ℤ) (u : ℕ) → x ≡ y → ((t : ℕ) 
 before_both x y v w u e same zero before = e
 before_both x y v w u e same (suc t) before = same t (omega arith)
 
+-- where that is so at each place, the whole does not come after
 pub up_to_from : (v w : List ℤ) → length v ≡ length w → ((u : ℕ) → u < length v → ((t : ℕ) → t < u → number v t ≡ number w t) → number v u ≤ℤ number w u) → IsUpTo v w
 up_to_from [] w l h = tt
 up_to_from (x ∷ v) [] l h = absurd (omega arith)

@@ -154,6 +154,11 @@ fn one_of<R: AllocGlobal>(rt: &R, bounds: &[Bound]) -> Result<Choice, AllocError
     Ok(Choice { cases })
 }
 
+/// The one is less than the other, or greater.
+fn differ<R: AllocGlobal>(rt: &R, left: u32, right: u32) -> Result<Choice, AllocError> {
+    one_of(rt, &[at_most(left, right, -1), at_most(right, left, -1)])
+}
+
 #[test]
 fn later_case_has_lesser_values(rt: HostRuntime) -> Result<(), Fail> {
     let first = within(&rt, 1, &[(5, 9), (3, 4)])?;
@@ -220,7 +225,7 @@ fn coupled<R: AllocGlobal>(rt: &R, choices: u32) -> Result<Vec<Choice>, AllocErr
     for step in 0..choices {
         let left = step % 10 + 1;
         let right = (step % 10 + 1) % 10 + 1;
-        all.push(one_of(rt, &[at_most(left, right, -1), at_most(right, left, -1)])?)?;
+        all.push(differ(rt, left, right)?)?;
     }
     Ok(all)
 }
@@ -254,5 +259,95 @@ fn many_choices_of_one_case(rt: HostRuntime) -> Result<(), Fail> {
         )?)?;
     }
     assert_values(&rt, choices.as_slice(), 1, &[0, 12])?;
+    Ok(())
+}
+
+#[test]
+fn least_of_two_parts(rt: HostRuntime) -> Result<(), Fail> {
+    let choices = [
+        within(&rt, 1, &[(5, 9), (3, 4)])?,
+        within(&rt, 2, &[(2, 2), (1, 1)])?,
+        within(&rt, 3, &[(0, 9)])?,
+        within(&rt, 4, &[(0, 9)])?,
+        one_of(&rt, &[at_most(3, 1, -4), at_most(1, 3, -2)])?,
+        one_of(&rt, &[at_most(0, 4, -7), at_most(2, 4, -1)])?,
+    ];
+    assert_values(&rt, &choices, 4, &[0, 3, 1, 5, 2])?;
+    Ok(())
+}
+
+#[test]
+fn second_part_is_refuted(rt: HostRuntime) -> Result<(), Fail> {
+    let choices = [
+        within(&rt, 1, &[(0, 1), (3, 4)])?,
+        within(&rt, 2, &[(0, 255)])?,
+        within(&rt, 3, &[(0, 255)])?,
+        one_of(&rt, &[at_most(0, 1, -4)])?,
+        one_of(&rt, &[at_most(2, 3, -1)])?,
+        one_of(&rt, &[at_most(3, 2, -1), at_most(0, 3, -256)])?,
+    ];
+    match answer(&rt, &choices, 3)? {
+        Outcome::Least { values } => panic!(rt; "values: {values:?}"),
+        Outcome::Refuted { steps } => match steps.as_slice() {
+            [
+                Step::Split { choice: 1 },
+                Step::Split { choice: 2 },
+                Step::Split { choice: 4 },
+                Step::Split { choice: 5 },
+                Step::Cycle { .. },
+                Step::Cycle { .. },
+            ] => {}
+            _ => panic!(rt; "{steps:?}"),
+        },
+    }
+    Ok(())
+}
+
+#[test]
+fn no_cases_beside_two_parts(rt: HostRuntime) -> Result<(), Fail> {
+    let choices = [
+        within(&rt, 1, &[(0, 1), (3, 4)])?,
+        within(&rt, 2, &[(0, 1), (3, 4)])?,
+        one_of(&rt, &[])?,
+    ];
+    match answer(&rt, &choices, 2)? {
+        Outcome::Least { values } => panic!(rt; "values: {values:?}"),
+        Outcome::Refuted { steps } => match steps.as_slice() {
+            [Step::Split { choice: 2 }] => {}
+            _ => panic!(rt; "{steps:?}"),
+        },
+    }
+    Ok(())
+}
+
+/// 64 unknowns from 0 to 9, of which each two in a row differ.
+fn pairs<R: AllocGlobal>(rt: &R) -> Result<Vec<Choice>, AllocError> {
+    let mut all = Vec::new(rt.alloc());
+    for unknown in 1..65 {
+        all.push(within(rt, unknown, &[(0, 9)])?)?;
+    }
+    for pair in 0..32 {
+        all.push(differ(rt, 2 * pair + 1, 2 * pair + 2)?)?;
+    }
+    Ok(all)
+}
+
+/// Together the pairs have 2^32 choices of cases.
+#[test]
+fn pairs_are_searched_apart(rt: HostRuntime) -> Result<(), Fail> {
+    let mut choices = pairs(&rt)?;
+    match answer(&rt, choices.as_slice(), 64)? {
+        Outcome::Least { values } => {
+            for (unknown, value) in values.iter().enumerate() {
+                assert_eq!(rt; *value, i128::from(unknown > 0 && unknown % 2 == 0));
+            }
+        }
+        Outcome::Refuted { steps } => panic!(rt; "refuted: {steps:?}"),
+    }
+    choices.push(one_of(&rt, &[at_most(0, 64, -10)])?)?;
+    match answer(&rt, choices.as_slice(), 64)? {
+        Outcome::Least { values } => panic!(rt; "values: {values:?}"),
+        Outcome::Refuted { steps } => assert!(rt; steps.len() < 10),
+    }
     Ok(())
 }
