@@ -91,7 +91,7 @@ fn copy_of(alloc: Global, cases: &[Vec<Bound>]) -> Result<Choice, AllocError>
     Ok(Choice { cases: copies })
 }
 
-/// The choices whose unknowns have a label, and their indices among all choices.
+/// Choices whose unknowns have the same label, and their indices among all choices.
 #[derive(Debug, Drop)]
 pub struct Part {
     pub places: Vec<u32>,
@@ -99,6 +99,7 @@ pub struct Part {
 }
 
 impl Part {
+    /// The choices all of whose unknowns have the label.
     pub(crate) fn of(
         alloc: Global,
         choices: &[Choice],
