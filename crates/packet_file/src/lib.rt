@@ -1,0 +1,12 @@
+//! Reads the file of a packet.
+#![tactic(auto)]
+
+mod fault;
+mod number;
+mod packet;
+#[cfg(test)]
+mod tests;
+mod words;
+
+pub use fault::PacketFault;
+pub use packet::read_packet;
