@@ -1,3 +1,4 @@
 pub mod Network
 pub mod Sound
+pub mod Keeping
 pub mod Acceptance

@@ -1,5 +1,5 @@
 -- What an accepted net and an accepted injection are seen as, and what their readers find.
-use Rattle.std.specs.Prelude.{ℕ, Bool, bytes_eq, List, [], filter, length, Option, None, Some, is_none, option_map, position, slice_get, unwrap_or}
+use Rattle.std.specs.Prelude.{ℕ, Bool, bytes_eq, List, [], ◌∷◌, ◌++◌, length, Option, None, Some, is_none, option_map, position, slice_get, unwrap_or}
 use Rattle.std.specs.Map.{keys_of}
 use Rattle.sn_width.specs.declared.ids.NodeId.{NodeId}
 use Rattle.sn_width.specs.declared.ids.NameId.{NameId}
@@ -12,6 +12,7 @@ use Rattle.sefl_syntax.specs.declared.net.RawNet.{RawNet}
 use Rattle.sefl_syntax.specs.Views.{net_tree, injection_tree}
 use Rattle.sefl_syntax.specs.Trees.{CodeTree, no_code, NetTree, InjectionTree}
 use Rattle.job_items.specs.declared.ports.Ports.{Ports}
+use Rattle.job_items.specs.AtomRules.{width_of}
 use Rattle.job_items.specs.Nodes.{ports_of}
 use Rattle.job_names.specs.Names.{Names}
 use Rattle.net_tables.specs.Places.{code_of}
@@ -76,6 +77,19 @@ names_found net pattern = found_at (position (bytes_eq pattern) (keys_of net.nam
 abbrev pub is_unknown : RawField → Bool
 is_unknown f = is_none f.value
 
+abbrev pub width_unless : Option ℕ → ℕ → List ℕ
+width_unless None width = width ∷ []
+width_unless (Some n) width = []
+
+-- the width of a field whose value is unknown
+abbrev pub unknown_width : RawField → List ℕ
+unknown_width f = width_unless f.value (width_of f.target)
+
+-- the widths of the unknown fields, in text order
+abbrev pub unknown_widths : List RawField → List ℕ
+unknown_widths [] = []
+unknown_widths (f ∷ fs) = unknown_width f ++ unknown_widths fs
+
 -- how many fields have an unknown value
-abbrev pub unknown_count : List RawField → ℕ
-unknown_count fields = length (filter is_unknown fields)
+abbrev pub unknown_count : Entry → ℕ
+unknown_count i = length (unknown_widths i.own.fields)

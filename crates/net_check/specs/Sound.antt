@@ -29,6 +29,10 @@ IsAcceptedNet net = (j : JobTree) × IsSound j × IsNetOf j net
 abbrev pub IsAcceptedEntry : Entry → Type 0
 IsAcceptedEntry i = (j : JobTree) × IsSound j × IsEntryOf j i
 
+-- the net and the injection are those of one job that breaks no rule
+abbrev pub AreOfOneJob : Network → Entry → Type 0
+AreOfOneJob net i = (j : JobTree) × IsSound j × IsNetOf j net × IsEntryOf j i
+
 -- what is kept beside an accepted net: how many nodes it has, and its tables
 pub record IsKept (net : Network) (count : ℕ) (kept : Tables) : Type 0 where
   pub counted : count ≡ length net.own.nodes

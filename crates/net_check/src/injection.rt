@@ -1,13 +1,17 @@
 //! Accepted injections.
 
-ghost use Rattle.std.specs.Prelude.{◌≡◌, Some, None};
+ghost use Rattle.std.specs.Prelude.{◌≡◌, ◌≤◌, length, filter, Some, None};
+ghost use Rattle.std.specs.List.{AllByRecursion};
+ghost use Rattle.job_items.specs.AtomRules.{width_of};
 ghost use Rattle.net_tables.specs.Places.{node_position};
 ghost use Rattle.sn_width.specs.declared.ids.NodeId.{NodeId as NodeOf};
+ghost use Rattle.net_check.specs.Keeping.{HasWidth, KeepsRules, line_items};
 ghost use Rattle.net_check.specs.Sound.{IsAcceptedEntry};
-ghost use Rattle.net_check.specs.Network.{entry, network, unknown_count};
+ghost use Rattle.net_check.specs.Network.{entry, is_unknown, network, unknown_count};
 
+use crate::laws::accepted_parts_keep_the_rules;
 use crate::net::Net;
-use sefl_syntax::RawInjection;
+use sefl_syntax::{RawField, RawInjection, Target};
 use sn_width::NodeId;
 use std::marker::Model;
 
@@ -22,7 +26,7 @@ impl Model for Injection {
     ghost use Rattle.std.specs.Coded.{codes};
     ghost use Rattle.sefl_syntax.specs.contracts.cond.Cond as the_cond;
     ghost use Rattle.net_check.specs.Network.{EntryParts, entry};
-    ghost use Rattle.net_check.specs.Sound.{IsAcceptedEntry};
+    ghost use Rattle.net_check.specs.Keeping.{IsKeptEntry};
 
     ghost Value = { EntryParts };
 
@@ -30,7 +34,7 @@ impl Model for Injection {
 
     ghost view = { λ i. record { raw = i.raw; node = i.node } };
 
-    ghost invariant = { λ i. IsAcceptedEntry (entry (record { raw = i.raw; node = i.node })) };
+    ghost invariant = { λ i. IsKeptEntry (entry (record { raw = i.raw; node = i.node })) };
 }
 
 impl Injection {
@@ -41,8 +45,19 @@ impl Injection {
         ensures raw { result.raw ≡ raw }
         ensures node { node_position (network net.now).own raw.node ≡ Some result.node.0 }
     {
+        fields_have_widths(&raw.fields);
         let node = net.node_id(&raw.node).unwrap();
         Injection { raw, node }
+    }
+
+    /// Says that the injection is of a job that breaks no rule. It does nothing.
+    pub fn keeps_the_rules(&self)
+        ensures accepted { IsAcceptedEntry (entry self.now) }
+        ensures lines { AllByRecursion KeepsRules (line_items (entry self.now).own) }
+        ensures widths { AllByRecursion HasWidth (entry self.now).own.fields }
+    {
+        let _raw = &self.raw;
+        accepted_parts_keep_the_rules();
     }
 
     /// The injection as the job has it.
@@ -60,13 +75,39 @@ impl Injection {
     }
 
     /// How many fields have an unknown value.
+    #[tactic(auto, using(crate::proofs::CountLemmas::unknown_fields))]
     pub fn unknowns(&self) -> usize
-        ensures { result ≡ unknown_count (entry self.now).own.fields }
+        ensures { result ≡ unknown_count (entry self.now) }
     {
-        self.raw
-            .fields
-            .iter()
-            .filter(|field| field.value.is_none())
-            .count()
+        unknowns_of(&self.raw.fields)
+    }
+}
+
+/// How many of the fields have an unknown value.
+fn unknowns_of(fields: &[RawField]) -> usize
+    ensures { result ≡ length (filter is_unknown fields.now) }
+{
+    fields.iter().filter(|field| field.value.is_none()).count()
+}
+
+/// Says that each field has a width.
+fn fields_have_widths(fields: &[RawField])
+    ensures { AllByRecursion HasWidth fields.now }
+{
+    for field in fields {
+        let _bits = bits_of(&field.target);
+    }
+}
+
+/// The width of a reference in bits, from 1 to 128.
+fn bits_of(target: &Target) -> u8
+    ensures value { result ≡ width_of target.now }
+    ensures least { 1 ≤ result }
+    ensures most { result ≤ 128 }
+{
+    match target {
+        Target::Header { width, .. } => width.bits(),
+        Target::Meta { width, .. } => width.bits(),
+        Target::Bound { width, .. } => width.bits(),
     }
 }

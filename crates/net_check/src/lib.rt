@@ -4,6 +4,7 @@
 mod acceptance;
 mod fault;
 mod injection;
+pub mod laws;
 mod net;
 #[cfg(test)]
 mod tests;

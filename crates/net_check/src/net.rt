@@ -1,13 +1,16 @@
 //! Accepted nets.
 
-ghost use Rattle.std.specs.Prelude.{◌≡◌, ◌<◌, length, map, position, slice_get, Some, bytes_eq, option_map, IfOk, IsSome};
-ghost use Rattle.std.specs.Map.{keys_of};
+ghost use Rattle.std.specs.Prelude.{◌≡◌, ◌<◌, length, map, position, slice_get, Some, bytes_eq, option_map, IfOk};
+ghost use Rattle.std.specs.List.{AllByRecursion};
 ghost use Rattle.sefl_syntax.specs.Views.{code_tree, port_tree};
+ghost use Rattle.job_items.specs.Items.{net_items};
+ghost use Rattle.net_check.specs.Keeping.{KeepsRules};
 ghost use Rattle.net_check.specs.Network.{network, code_at, names_found, node_number, name_number, tag_number, node_ports, ports_on};
 ghost use Rattle.net_check.specs.Sound.{IsAcceptedNet};
 ghost use Rattle.net_tables.specs.Lookups.{port_of};
 ghost use Rattle.net_tables.specs.Places.{code_site, codes_at, link_from, node_position};
 
+use crate::laws::accepted_parts_keep_the_rules;
 use job_names::JobNames;
 use net_tables::NetTables;
 use net_tables::laws::codes_have_places;
@@ -65,6 +68,15 @@ impl Net {
             names,
             found,
         })
+    }
+
+    /// Says that the net is of a job that breaks no rule. It does nothing.
+    pub fn keeps_the_rules(&self)
+        ensures accepted { IsAcceptedNet (network self.now) }
+        ensures items { AllByRecursion KeepsRules (net_items (network self.now).own) }
+    {
+        let _raw = &self.raw;
+        accepted_parts_keep_the_rules();
     }
 
     /// How many nodes there are. Their ids are the numbers below.
@@ -171,9 +183,8 @@ impl Net {
         self.tables.link_from(node, port)
     }
 
-    /// The names that a pattern of the job finds, ascending.
+    /// The names that a pattern of the job finds, ascending; none for another pattern.
     pub fn found(&self, pattern: &Text) -> &[NameId]
-        requires { IsSome (position (bytes_eq pattern.now) (keys_of self.now.names.patterns)) }
         ensures { result.now ≡ names_found (network self.now) pattern.now }
     {
         match self.names.pattern_index(pattern) {

@@ -1,0 +1,48 @@
+//! What follows from breaking no rule. These functions do nothing: their contracts are the laws.
+
+ghost use Rattle.std.specs.Prelude.{◌≡◌, ◌<◌, fold, length};
+ghost use Rattle.std.specs.List.{AllByRecursion};
+ghost use Rattle.sefl_syntax.specs.Trees.{JobTree};
+ghost use Rattle.job_items.specs.Items.{Item, job_items, net_items};
+ghost use Rattle.job_items.specs.Rules.{counted, item_atoms, no_counts};
+ghost use Rattle.net_check.specs.Keeping.{HasNamesOf, KeepsLimits, KeepsRules, KeepsWidth, line_items};
+ghost use Rattle.net_check.specs.Network.{Entry, Network};
+ghost use Rattle.net_check.specs.Sound.{AreOfOneJob, IsAcceptedEntry, IsAcceptedNet, IsSound};
+
+use job_names::laws::sets_ascend;
+use net_tables::laws::positions_have_names;
+
+/// No item of a job that breaks no rule breaks one, and its items together pass no limit; and the
+/// other way.
+pub fn sound_jobs_keep_the_rules()
+    ensures items { (j : JobTree) → IsSound j → AllByRecursion KeepsRules (job_items j) }
+    ensures limits { (j : JobTree) → IsSound j → KeepsLimits (fold counted no_counts (job_items j)) }
+    ensures sound { (j : JobTree) → AllByRecursion KeepsRules (job_items j) → KeepsLimits (fold counted no_counts (job_items j)) → IsSound j }
+{}
+
+/// The nodes, codes and links of an accepted net keep the rules, and so do the lines of an accepted
+/// injection.
+pub fn accepted_parts_keep_the_rules()
+    ensures net { (net : Network) → IsAcceptedNet net → AllByRecursion KeepsRules (net_items net.own) }
+    ensures injection { (i : Entry) → IsAcceptedEntry i → AllByRecursion KeepsRules (line_items i.own) }
+{}
+
+/// Each atom of an item that keeps the rules has one width, which its constants and ranges fit.
+pub fn atoms_keep_their_widths()
+    ensures { (item : Item) → KeepsRules item → AllByRecursion KeepsWidth (item_atoms item) }
+{}
+
+/// The packets of a job are injected into a node of its net.
+pub fn packets_enter_a_node()
+    ensures { (net : Network) (i : Entry) → AreOfOneJob net i → i.node.0 < length net.own.nodes }
+{
+    positions_have_names();
+}
+
+/// The names in an accepted net and in the lines of its job's injection are among those of the net.
+pub fn names_are_known()
+    ensures net { (net : Network) → IsAcceptedNet net → AllByRecursion (HasNamesOf net.names) (net_items net.own) }
+    ensures injection { (net : Network) (i : Entry) → AreOfOneJob net i → AllByRecursion (HasNamesOf net.names) (line_items i.own) }
+{
+    sets_ascend();
+}
