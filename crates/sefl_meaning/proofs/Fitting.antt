@@ -20,7 +20,7 @@ use Rattle.sefl_meaning.specs.Valued.{Fits, HeldFits, CellFits, StacksFit}
 
 -- ---- lists and results
 
-all_filter : {X : Type 0} (P : X → Type 0) (test : X → Bool) (xs : List X) → AllByRecursion P xs →
+pub all_filter : {X : Type 0} (P : X → Type 0) (test : X → Bool) (xs : List X) → AllByRecursion P xs →
     AllByRecursion P (filter test xs)
 all_filter P test [] h = tt
 all_filter P test (x ∷ xs) h = of_test (test x) (all_filter P test xs h.1)

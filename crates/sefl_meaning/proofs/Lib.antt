@@ -9,3 +9,9 @@ pub mod Numbers
 pub mod Ascending
 pub mod Associating
 pub mod RouteLemmas
+pub mod NameIds
+pub mod TagLemmas
+pub mod CellLemmas
+pub mod FieldLemmas
+pub mod TestLemmas
+pub mod InjectionLemmas

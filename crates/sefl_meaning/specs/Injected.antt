@@ -1,5 +1,5 @@
 -- The injected packet: its unknown fields, what it carries at its start, and which numbers it may have.
-use Rattle.std.specs.Prelude.{ℕ, ◌+◌, ◌≡◌, Bool, true, List, [], ◌∷◌, ◌++◌, length, Option, None, Some, Result, Ok}
+use Rattle.std.specs.Prelude.{ℕ, ◌+◌, ◌≡◌, Bool, true, List, [], ◌∷◌, length, Option, None, Some, Result, Ok}
 use Rattle.std.specs.List.{AllByRecursion}
 use Rattle.sn_width.specs.Width.{FitsWidth}
 use Rattle.sn_width.specs.declared.faults.LayoutFault.{LayoutFault}
@@ -9,27 +9,12 @@ use Rattle.sefl_syntax.specs.Trees.{InjectionTree, CondTree}
 use Rattle.cell_stacks.specs.Outcome.{and_then}
 use Rattle.job_items.specs.AtomRules.{width_of}
 use Rattle.sefl_meaning.specs.Values.{Values, numbers}
+pub use Rattle.net_check.specs.Network.{unknown_count, unknown_width, unknown_widths}
 use Rattle.sefl_meaning.specs.Network.{Network, Entry}
 use Rattle.sefl_meaning.specs.Carried.{Carried, Scene, scene_at, nothing}
 use Rattle.sefl_meaning.specs.Terms.{truth_in}
 use Rattle.sefl_meaning.specs.Steps.{allocated, assigned, tag_set}
 use Rattle.sefl_meaning.specs.Walks.{Trail, enter}
-
-abbrev pub width_unless : Option ℕ → ℕ → List ℕ
-width_unless None width = width ∷ []
-width_unless (Some n) width = []
-
--- the width of a field whose value is unknown
-abbrev pub unknown_width : RawField → List ℕ
-unknown_width f = width_unless f.value (width_of f.target)
-
--- the widths of the unknown fields, in text order
-abbrev pub unknown_widths : List RawField → List ℕ
-unknown_widths [] = []
-unknown_widths (f ∷ fs) = unknown_width f ++ unknown_widths fs
-
-abbrev pub unknown_count : Entry → ℕ
-unknown_count i = length (unknown_widths i.own.fields)
 
 module _ {V F : Type 0} (o : Values V F) (at : Scene) where
   abbrev pub with_tags : List (List ℕ × Addr) → Carried V → Result (Carried V) LayoutFault

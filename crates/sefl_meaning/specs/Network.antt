@@ -1,5 +1,6 @@
 -- What the run of a packet finds in an accepted net.
-use Rattle.std.specs.Prelude.{ℕ, bytes_eq, List, Option, option_map, position, unwrap_or}
+use Rattle.std.specs.Prelude.{ℕ, bytes_eq, List, Option, option_map, unwrap_or}
+use Rattle.std.specs.List.{position_or_len}
 use Rattle.sn_width.specs.declared.ids.TagId.{TagId}
 use Rattle.sn_width.specs.declared.ids.NameId.{NameId}
 use Rattle.sn_width.specs.declared.ids.NodeId.{NodeId}
@@ -10,12 +11,12 @@ use Rattle.net_check.specs.Network.{code_at}
 pub use Rattle.net_check.specs.Network.{Network, Entry, names_found}
 pub use Rattle.net_tables.specs.Places.{code_size, inner_size}
 
--- the ids of names are their indices among the names of the job
+-- the id of a name is its index among the names of the job; the number past them where it is none of these
 abbrev pub tag_id : Network → List ℕ → TagId
-tag_id net name = record { 0 = unwrap_or (position (bytes_eq name) net.names.tags) 0 }
+tag_id net name = record { 0 = position_or_len (bytes_eq name) net.names.tags }
 
 abbrev pub name_id : Network → List ℕ → NameId
-name_id net name = record { 0 = unwrap_or (position (bytes_eq name) net.names.metas) 0 }
+name_id net name = record { 0 = position_or_len (bytes_eq name) net.names.metas }
 
 -- the code of a port, with its site; a port without code has an empty one
 abbrev pub code_of : Network → NodeId → Side → ℕ → ℕ × CodeTree

@@ -1,6 +1,6 @@
 //! Laws of the meaning. Each is the contract of a function that does nothing.
 
-ghost use Rattle.std.specs.Prelude.{◌≡◌, ◌+◌, ℕ, Bool, List, IfOk, length, option_map};
+ghost use Rattle.std.specs.Prelude.{◌≡◌, ◌+◌, ℕ, Bool, List, IfOk, Ok, length, option_map};
 ghost use Rattle.sn_width.specs.declared.ids.NodeId.{NodeId};
 ghost use Rattle.sefl_syntax.specs.Trees.{CodeTree, CondTree, ExprTree, InjectionTree};
 ghost use Rattle.cell_stacks.specs.Outcome as outcome;
@@ -9,8 +9,10 @@ ghost use Rattle.sefl_meaning.specs.Values.{Values, numbers, number_fits};
 ghost use Rattle.sefl_meaning.specs.Faults.{fault_of, reads_fault, atoms_fault};
 ghost use Rattle.sefl_meaning.specs.Order.{WalksAscend};
 ghost use Rattle.std.specs.List.{AllByRecursion};
-ghost use Rattle.sefl_meaning.specs.Network.{Network};
-ghost use Rattle.sefl_meaning.specs.Carried.{Carried, Scene, carried_valued};
+ghost use Rattle.net_check.specs.Keeping.{HasWidth};
+ghost use Rattle.net_check.specs.Sound.{AreOfOneJob};
+ghost use Rattle.sefl_meaning.specs.Network.{Network, Entry};
+ghost use Rattle.sefl_meaning.specs.Carried.{Carried, Scene, carried_valued, scene_at};
 ghost use Rattle.sefl_meaning.specs.Terms.{value_in, truth_in};
 ghost use Rattle.sefl_meaning.specs.Runs.{Ran, run_code, then_run};
 ghost use Rattle.sefl_meaning.specs.Walks as walks;
@@ -21,13 +23,16 @@ ghost use Rattle.sefl_meaning.specs.Trees.{Tree};
 ghost use Rattle.sefl_meaning.specs.Walks.{Trail};
 ghost use Rattle.sefl_meaning.specs.declared.walk.Decision.{Decision};
 ghost use Rattle.sefl_meaning.specs.Routes.{IsWay, Has, route, route_valued};
-ghost use Rattle.sefl_meaning.specs.Laws.{StateLaws};
+ghost use Rattle.sefl_meaning.specs.Laws.{StackLaws, StateLaws};
 ghost use Rattle.sefl_meaning.specs.Taken.{taken, walks_of};
 ghost use Rattle.sefl_meaning.specs.Valued.{Fits, CarriedFits, CourseFits, Keeps, Respects, course_valued, progress_valued, tree_valued};
 
+use cell_stacks::Cell;
+use cell_stacks::laws::change_of_a_stack;
 use header_layers::laws::valuing_commutes as headers_commute;
 use metadata_scopes::laws::valuing_commutes as metadata_commute;
-use sn_width::Num;
+use net_check::laws::{accepted_parts_keep_the_rules, atoms_keep_their_widths, names_are_known};
+use sn_width::{NameId, NodeId as NodeNumber, Num};
 
 /// The run of one packet is the way through the course that goes by the truths of its tests, and its
 /// walks are the ways through the tree.
@@ -133,3 +138,27 @@ pub fn routes_commute<V: Drop, F: Drop, W: Drop, G: Drop>()
     ensures { (f : V → W) (g : F → G) (t : Tree V F) (decisions : List Decision)
         → route (tree_valued f g t) decisions ≡ option_map (route_valued f g) (route t decisions) }
 {}
+
+/// The injection of a job that breaks no rule puts what it says into the packet, whatever the values
+/// are, and each of its tests is true or false.
+pub fn accepted_injections_go<V: Drop, F: Drop>()
+    ensures carries { (o : Values V F) (net : Network) (i : Entry) → AreOfOneJob net i → AllByRecursion HasWidth i.own.fields
+        → (s : Carried V) × (injected o (scene_at net i.node) i.own ≡ Ok s) }
+    ensures tests { (o : Values V F) (net : Network) (i : Entry) → AreOfOneJob net i → AllByRecursion HasWidth i.own.fields
+        → (s : Carried V) → injected o (scene_at net i.node) i.own ≡ Ok s
+        → AllByRecursion (λ test. (truth : F) × (truth_in o (scene_at net i.node) test s ≡ Ok truth)) i.own.tests }
+{
+    stack_laws::<V>();
+    accepted_parts_keep_the_rules();
+    atoms_keep_their_widths();
+    names_are_known();
+}
+
+// What a change of one stack of addresses, header cells or metadata leaves of the others.
+fn stack_laws<V: Drop>()
+    ensures { StackLaws V }
+{
+    change_of_a_stack::<u32, i32>();
+    change_of_a_stack::<i32, Cell<V>>();
+    change_of_a_stack::<(Option<NodeNumber>, NameId), Cell<V>>();
+}
