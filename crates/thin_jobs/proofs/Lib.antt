@@ -1,0 +1,5 @@
+mod Blocks
+mod Found
+mod Whole
+mod Rules
+mod Spelling

@@ -1,0 +1,2 @@
+pub mod Thins
+pub mod Parts
