@@ -1,6 +1,6 @@
 //! Lines and columns of a text.
 
-ghost use Rattle.std.specs.Prelude.{◌≡◌, ◌≤◌, length, All};
+ghost use Rattle.std.specs.Prelude.{◌≡◌, ◌≤◌, length, take, All};
 ghost use Rattle.sefl_lex.specs.Reads.{IsTokenOf};
 ghost use Rattle.sefl_reader.specs.Outcome.{column_at, in_line, line_at, line_ends, start_of};
 
@@ -30,6 +30,29 @@ fn in_line(bytes: &[u8]) -> usize
         count = if *byte == b'\n' { 0 } else { count + 1 };
     }
     count
+}
+
+/// The line and the column of a byte, both from 1, columns in bytes; lines end at LF. A place behind
+/// the bytes counts as their end.
+pub fn position(bytes: &[u8], at: u64) -> (u64, u64)
+    ensures line { result.0 ≡ line_at bytes.now at }
+    ensures column { result.1 ≡ column_at bytes.now at }
+{
+    let at = within(bytes, at);
+    (line_at(bytes, at), column_at(bytes, at))
+}
+
+/// The place, or the end of the bytes where that comes first.
+#[tactic(auto, using(crate::proofs::PlaceLemmas::take_behind))]
+fn within(bytes: &[u8], at: u64) -> usize
+    ensures within { result ≤ length bytes.now }
+    ensures front { take result bytes.now ≡ take at bytes.now }
+{
+    if at < bytes.len() as u64 {
+        at as usize
+    } else {
+        bytes.len()
+    }
 }
 
 /// The line of the byte, from 1; the end of the bytes has a place too.

@@ -1,55 +1,36 @@
-use crate::{ReadFault, read_job, read_thin};
+use crate::{ReadFault, position, read_job};
 use sefl_lex::LexFault;
-use sefl_syntax::thin_text;
+use sefl_syntax::print_job;
 use std::test::Fail;
 
-const TTL: &str = "symnet 1;
-node r 1 -> 1 {
+const CANONICAL: &str = "symnet 2;
+node a 1 -> 0 {
   in 0 {
-    if head L3+64:8 <= 1 {
-      fail \"dead\";
-    } else {
-      forward 0;
-    }
   }
 }
-inject r.0 {
-  tag L3 = 112;
-  field head L3+64:8;
+inject a.0 {
 }
 ";
 
 #[test]
-fn a_thin_job_is_read(rt: HostRuntime) -> Result<(), Fail> {
+fn a_canonical_text_is_read_back(rt: HostRuntime) -> Result<(), Fail> {
     let alloc = rt.alloc();
-    let thin = read_thin(alloc, TTL.as_bytes())?.ok_or("no thin job")?;
-    assert_eq!(rt; thin.node.text(), "r");
-    assert_eq!(rt; thin.tag.text(), "L3");
-    assert_eq!(rt;
-        (thin.base, thin.offset, thin.width.bits(), thin.bound),
-        (112, 64, 8, 1)
-    );
-    assert_eq!(rt; thin_text(alloc, &thin)?.as_str(), TTL);
+    let job = read_job(alloc, CANONICAL.as_bytes()).map_err(|_| "no job")?;
+    assert_eq!(rt; print_job(alloc, &job)?.as_str(), CANONICAL);
     Ok(())
 }
 
 #[test]
-fn other_texts_are_not(rt: HostRuntime) -> Result<(), Fail> {
-    let alloc = rt.alloc();
-    for (part, other) in [
-        ("<= 1", "<= 256"),
-        ("<= 1", "<= 01"),
-        ("112", "65536"),
-        ("dead", "de\"ad"),
-        ("inject r.0", "inject s.0"),
-        ("symnet 1", "symnet 2"),
-        ("}\n", "} \n"),
+fn places_have_a_line_and_a_column(rt: HostRuntime) -> Result<(), Fail> {
+    for (at, place) in [
+        (0, (1, 1)),
+        (1, (1, 2)),
+        (2, (2, 1)),
+        (4, (2, 3)),
+        (u64::MAX, (2, 3)),
     ] {
-        let text = TTL.replace(alloc, part, other)?;
-        assert!(rt; read_thin(alloc, text.as_bytes())?.is_none(), "{other}");
+        assert_eq!(rt; position(b"a\nbc", at), place, "{at}");
     }
-    assert!(rt; read_thin(alloc, b"")?.is_none());
-    assert!(rt; read_thin(alloc, b"\xff")?.is_none());
     Ok(())
 }
 

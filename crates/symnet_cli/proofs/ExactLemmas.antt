@@ -1,12 +1,10 @@
 -- The two paths of a thin job are exact.
-use Rattle.std.proofs.Common.{ℕ, ◌≡◌, ◌<◌, ◌+◌, ◌%◌, ◌^◌, ◌∙◌, Bool, true, false, [], ◌∷◌, refl, ap, sym, arith}
+use Rattle.std.proofs.Common.{ℕ, ◌≡◌, ◌<◌, ◌+◌, ◌%◌, ◌^◌, ◌∙◌, Bool, true, false, [], ◌∷◌, refl, ap, arith}
 use Rattle.std.specs.Prelude.{if◌then◌else◌}
 use Rattle.std.proofs.Math.Nat.{mod-eq_of_lt}
 use Rattle.sn_width.specs.Rel.{relates}
 use Rattle.sefl_syntax.specs.declared.thin.Thin.{Thin}
-use Rattle.std.proofs.lemmas.Bool.{true≢false}
-use Rattle.sefl_syntax.specs.Thin.{IsThin}
-use Rattle.path_exec.specs.Sides.{IsLeast, IsOneSided}
+use Rattle.path_exec.specs.Sides.{IsLeast}
 use Rattle.symnet_cli.specs.Meaning.{walk_of, walk_by}
 use Rattle.symnet_cli.specs.Paths.{path_of, unknown_field, term_value, Shows, IsShownOnce, HasLeastPacket, AreExact}
 use Rattle.symnet_cli.specs.declared.path.Decision.{Decision}
@@ -69,12 +67,3 @@ paths_are_exact thin met unmet least_met least_unmet = record {
   walked = λ value fits. shown_once thin met unmet value fits;
   packets = (has_first thin met least_met, (has_other thin unmet least_unmet, tt));
 }
-
--- the test of a thin job is not one-sided
-pub has_both_sides : (thin : Thin) → IsThin thin → IsOneSided thin.width thin.rel thin.bound → ⊥
-has_both_sides thin is_thin one =
-    let met : relates thin.rel is_thin.met.0 thin.bound ≡ true = is_thin.met.2 in
-    let at_met : relates thin.rel is_thin.met.0 thin.bound ≡ one.0 = one.1 is_thin.met.0 is_thin.met.1 in
-    let unmet : relates thin.rel is_thin.unmet.0 thin.bound ≡ false = is_thin.unmet.2 in
-    let at_unmet : relates thin.rel is_thin.unmet.0 thin.bound ≡ one.0 = one.1 is_thin.unmet.0 is_thin.unmet.1 in
-    true≢false (sym met ∙ (at_met ∙ (sym at_unmet ∙ unmet)))

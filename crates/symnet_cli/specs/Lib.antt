@@ -4,3 +4,5 @@ pub mod Paths
 pub mod ReportText
 pub mod Status
 pub mod Outcome
+pub mod Flaws
+pub mod Refusals

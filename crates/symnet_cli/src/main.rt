@@ -4,6 +4,7 @@
 mod explore;
 mod path;
 mod program;
+mod refusal;
 mod report;
 mod status;
 #[cfg(test)]
@@ -13,7 +14,7 @@ mod write;
 
 use crate::program::symnet;
 use crate::status::{Status, status_text};
-use sn_edge::{DirFolder, MemPatterns, OutSink};
+use sn_edge::{DirFolder, OutSink, RegexPatterns};
 use std::process::ExitCode;
 use std::rt::{Env, Files};
 use std::{env, io};
@@ -28,7 +29,7 @@ fn run<R: Env + Files + Print + AllocGlobal>(rt: &R) -> Status {
     match given_words(rt) {
         Ok(words) => {
             let mut folder = DirFolder::new(rt);
-            let mut patterns = MemPatterns::new(Vec::new(alloc), Vec::new(alloc));
+            let mut patterns = RegexPatterns::new();
             let mut out = OutSink::new(rt);
             symnet(alloc, &words, &mut folder, &mut patterns, &mut out)
         }

@@ -95,7 +95,7 @@ fn a_failing_put_ends_the_writing(rt: HostRuntime) -> Result<(), Fail> {
 }
 
 #[test]
-fn files_that_cannot_be_explored(rt: HostRuntime) -> Result<(), Fail> {
+fn files_that_cannot_be_loaded(rt: HostRuntime) -> Result<(), Fail> {
     let alloc = rt.alloc();
     let (status, _) = run(alloc, &["explore", "job"], TTL.as_bytes(), &[0], &[])?;
     assert_eq!(rt;
@@ -109,12 +109,145 @@ fn files_that_cannot_be_explored(rt: HostRuntime) -> Result<(), Fail> {
         "symnet: no file other"
     );
     assert!(rt; out.bytes().is_empty());
-    let all = TTL.replace(alloc, "<= 1", ">= 0")?;
-    for job in [all.as_bytes(), b"\xff", b""] {
-        let (status, out) = run(alloc, &["explore", "job"], job, &[], &[])?;
-        assert_eq!(rt; status, Status::NotBuilt);
-        assert!(rt; out.bytes().is_empty());
+    Ok(())
+}
+
+#[test]
+fn any_text_of_a_job_is_read(rt: HostRuntime) -> Result<(), Fail> {
+    let alloc = rt.alloc();
+    let want = ttl_report(alloc, 0, 2)?;
+    let second = TTL.replace(alloc, "symnet 1;", "symnet 2;")?;
+    let spaced = TTL.replace(alloc, "\n", " // a comment\n\n")?;
+    let line =
+        "symnet 1; node r 1 -> 1 { in 0 { if head L3+64:8 <= 1 { fail \"dead\"; } else { forward 0; } } } inject r.0 { tag L3 = 112; field head L3+64:8; }";
+    for job in [second.as_str(), spaced.as_str(), line] {
+        let (status, out) = run(alloc, &["explore", "job"], job.as_bytes(), &[], &[])?;
+        assert_eq!(rt; status, Status::Done, "{job}");
+        assert_eq!(rt; out.bytes(), want.as_bytes());
     }
+    Ok(())
+}
+
+/// What a run on a job shows on standard error, and how many bytes it writes.
+fn shown(alloc: Global, job: &[u8]) -> Result<(String, usize), Fail> {
+    let (status, out) = run(alloc, &["explore", "job"], job, &[], &[])?;
+    Ok((status_text(alloc, &status)?, out.bytes().len()))
+}
+
+#[test]
+fn texts_of_no_job_are_refused_at_their_place(rt: HostRuntime) -> Result<(), Fail> {
+    for (job, text) in [
+        (
+            b"symnet 1;\nnode a 1 -> 0 {\n  in 0 {\n".as_slice(),
+            "symnet: syntax 4:1 5",
+        ),
+        (b"", "symnet: syntax 1:1 5"),
+        (b"\xff", "symnet: syntax 1:1 1"),
+        (b"symnet 1;\n  \xff", "symnet: syntax 2:3 1"),
+        (b"symnet 1;\n /", "symnet: syntax 2:2 2"),
+        (b"symnet 0x;", "symnet: syntax 1:8 3"),
+        (b"symnet \n\n\"1;", "symnet: syntax 3:1 4"),
+    ] {
+        let (shown, written) = shown(rt.alloc(), job)?;
+        assert_eq!(rt; (shown.as_str(), written), (text, 0));
+    }
+    Ok(())
+}
+
+/// A job whose code has so many nested blocks, each opened on a line of its own.
+fn nested(alloc: Global, depth: usize) -> Result<String, Fail> {
+    let mut text = String::from_str(alloc, "symnet 1; node a 1 -> 0 { in 0 {\n")?;
+    for _ in 0..depth {
+        text.push_str("{\n")?;
+    }
+    for _ in 0..depth {
+        text.push_str("}")?;
+    }
+    text.push_str("} } inject a.0 { }")?;
+    Ok(text)
+}
+
+#[test]
+fn too_many_open_constructs_are_told_by_their_line(rt: HostRuntime) -> Result<(), Fail> {
+    for (depth, text) in [(63, "symnet: not built"), (64, "symnet: syntax 65:1 6")] {
+        let job = nested(rt.alloc(), depth)?;
+        let (shown, written) = shown(rt.alloc(), job.as_bytes())?;
+        assert_eq!(rt; (shown.as_str(), written), (text, 0));
+    }
+    Ok(())
+}
+
+#[test]
+fn refused_jobs_are_told_by_their_site_and_rule(rt: HostRuntime) -> Result<(), Fail> {
+    let alloc = rt.alloc();
+    for (part, other, text) in [
+        (
+            "inject",
+            "node r 1 -> 1 { }\ninject",
+            "symnet: refused at 5 1",
+        ),
+        ("forward 0;", "fork ;", "symnet: refused at 4 10"),
+        ("forward 0;", "forward 1;", "symnet: refused at 4 3"),
+        ("<= 1", "== 256", "symnet: refused at 2 7"),
+        ("inject r.0", "inject s.0", "symnet: refused at 5 2"),
+    ] {
+        let job = TTL.replace(alloc, part, other)?;
+        let (shown, written) = shown(alloc, job.as_bytes())?;
+        assert_eq!(rt; (shown.as_str(), written), (text, 0), "{other}");
+    }
+    Ok(())
+}
+
+#[test]
+fn jobs_that_are_not_run_yet(rt: HostRuntime) -> Result<(), Fail> {
+    let alloc = rt.alloc();
+    for (part, other) in [
+        ("<= 1", ">= 0"),
+        ("    if ", "    noop;\n    if "),
+        ("inject", "node s = mac \"s.mac\" chain;\ninject"),
+    ] {
+        let job = TTL.replace(alloc, part, other)?;
+        let (shown, written) = shown(alloc, job.as_bytes())?;
+        assert_eq!(rt;
+            (shown.as_str(), written),
+            ("symnet: not built", 0),
+            "{other}"
+        );
+    }
+    Ok(())
+}
+
+/// Explores a job with a For over the pattern `(`, which the patterns call bad, behind this line of code.
+fn explore_bad_pattern(alloc: Global, line: &str) -> Result<Status, Fail> {
+    let job = format!(in alloc;
+        "symnet 2; node a 1 -> 0 {{ in 0 {{ {line} for v in \"(\" {{ }} }} }} inject a.0 {{ }}"
+    )?;
+    let words = vec![in alloc;
+        String::from_str(alloc, "explore")?,
+        String::from_str(alloc, "job")?,
+    ]?;
+    let file = (
+        String::from_str(alloc, "job")?,
+        job.as_bytes().to_vec(alloc)?,
+    );
+    let mut folder = MemFolder::new(vec![in alloc; file]?, Vec::new(alloc));
+    let bad = vec![in alloc; String::from_str(alloc, "(")?]?;
+    let mut patterns = MemPatterns::new(Vec::new(alloc), bad);
+    let mut out = MemSink::new(Vec::new(alloc), 0);
+    Ok(symnet(alloc, &words, &mut folder, &mut patterns, &mut out))
+}
+
+#[test]
+fn a_bad_pattern_is_told_where_there_is_a_name(rt: HostRuntime) -> Result<(), Fail> {
+    let alloc = rt.alloc();
+    let status = explore_bad_pattern(alloc, "allocate global m:8;")?;
+    assert_eq!(rt;
+        status_text(alloc, &status)?.as_str(),
+        "symnet: bad pattern at 3"
+    );
+    assert_eq!(rt; status.number(), 8);
+    let status = explore_bad_pattern(alloc, "")?;
+    assert_eq!(rt; status, Status::NotBuilt);
     Ok(())
 }
 
@@ -173,7 +306,7 @@ fn a_file_at_the_limit_is_read(rt: HostRuntime) -> Result<(), Fail> {
         String::from_str(alloc, "explore")?,
         String::from_str(alloc, "zeros")?,
     ]?;
-    for (length, number) in [(JOB_LIMIT as usize, 17), (JOB_LIMIT as usize + 1, 6)] {
+    for (length, number) in [(JOB_LIMIT as usize, 7), (JOB_LIMIT as usize + 1, 6)] {
         let mut folder = Zeros {
             length,
             excesses: 0,

@@ -8,21 +8,21 @@ pub returns-in-All-clause-done : goal.returns-in-All-clause-done
 returns-in-All-clause-done g c = λ _.
     let text = ap (flat_map string_bytes) c.deref.ensures.value ∙ c.in-Ok.ensures in (
       _,
-      report_of_paths _ _ _ _ c.requires.thin c.requires.text c.requires.met c.requires.unmet,
+      report_of_paths _ _ _ c.requires.met c.requires.unmet,
       c.in-All.ensures.all ∙ ap (append_known (g.K.Sink.taken c.args.out.now)) text,
     )
 
 pub returns-in-All-clause-part : goal.returns-in-All-clause-part
 returns-in-All-clause-part g c =
-    beginning_of _ _ _ _ _ (report_of_paths _ _ _ _ c.requires.thin c.requires.text c.requires.met c.requires.unmet)
+    beginning_of _ _ _ _ _ (report_of_paths _ _ _ c.requires.met c.requires.unmet)
     (ap (flat_map string_bytes) c.deref.ensures.value ∙ c.in-Ok.ensures) c.put_pieces.ensures.part
 
 pub returns-in-Failed-clause-part : goal.returns-in-Failed-clause-part
 returns-in-Failed-clause-part g c =
-    beginning_of _ _ _ _ _ (report_of_paths _ _ _ _ c.requires.thin c.requires.text c.requires.met c.requires.unmet)
+    beginning_of _ _ _ _ _ (report_of_paths _ _ _ c.requires.met c.requires.unmet)
     (ap (flat_map string_bytes) c.deref.ensures.value ∙ c.in-Ok.ensures) c.put_pieces.ensures.part
 
 pub returns-clause-part : goal.returns-clause-part
 returns-clause-part g c =
-    beginning_of _ _ _ _ _ (report_of_paths _ _ _ _ c.requires.thin c.requires.text c.requires.met c.requires.unmet)
+    beginning_of _ _ _ _ _ (report_of_paths _ _ _ c.requires.met c.requires.unmet)
     (ap (flat_map string_bytes) c.deref.ensures.value ∙ c.in-Ok.ensures) c.put_pieces.ensures.part
