@@ -86,6 +86,20 @@ impl Net {
         self.node_count
     }
 
+    /// How many metadata names there are. Their ids are the numbers below.
+    pub fn name_count(&self) -> u32
+        ensures { result ≡ length (network self.now).names.metas }
+    {
+        self.names.meta_count()
+    }
+
+    /// How many tag names there are. Their ids are the numbers below.
+    pub fn tag_count(&self) -> u32
+        ensures { result ≡ length (network self.now).names.tags }
+    {
+        self.names.tag_count()
+    }
+
     /// The name of a node.
     pub fn node_name(&self, node: NodeId) -> &Name
         requires { node.0 < length (network self.now).own.nodes }
