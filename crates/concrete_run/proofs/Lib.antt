@@ -1,0 +1,10 @@
+pub mod Counting
+pub mod Runs
+pub mod Framing
+pub mod Trees
+pub mod Arms
+pub mod Weighing
+pub mod Moving
+pub mod Working
+pub mod Searching
+pub mod Beginning

@@ -1,0 +1,63 @@
+use Rattle.std.proofs.Common.{◌≡◌, ◌+◌, Ok, Err, true, false, reverse, ap, sym, ◌∙◌}
+use Rattle.sefl_syntax.specs.Views.{code_tree, cond_tree}
+use Rattle.net_tables.specs.Places.{code_size}
+use Rattle.sefl_meaning.specs.Runs.{noting, ran}
+use Rattle.sefl_meaning.specs.Terms.{truth_in}
+use Rattle.sefl_meaning.specs.Values.{numbers}
+use Rattle.sefl_meaning.specs.View.{carried_of}
+use Rattle.concrete_run.specs.Passing.{exit_of, run_frames, scene_in}
+use Rattle.concrete_run.proofs.Arms.{truth_seen}
+use Rattle.concrete_run.proofs.Framing.{branched, takes_first, takes_other}
+use Rattle.concrete_run.proofs.Runs.{ends}
+use Rattle.concrete_run.proofs.frames.branch.Goals as goal
+
+pub returns-in-Err-clause-runs : goal.returns-in-Err-clause-runs
+returns-in-Err-clause-runs c =
+    let run = c.args.run.now in
+    let at = scene_in run c.args.node c.args.turns in
+    let s = carried_of c.args.packet.now.state in
+    let k = c.args.packet.now.choices in
+    let test = cond_tree c.args.test.now in
+    let truth : truth_in (numbers run.numbers.now run.unknowns) at test s ≡ Err c.in-Err.fault =
+    truth_seen run.numbers.now c.scene-at.result.numbers.now run.unknowns c.scene-at.result.unknowns at _ test s (Err c.in-Err.fault)
+    c.scene-at.ensures.numbers c.scene-at.ensures.unknowns c.scene-at.ensures.scene c.in-Err.ensures in
+    let first = code_tree c.args.first.now in
+    let other = code_tree c.args.other.now in
+    ends c.failed.result c.args.packet.now.decisions.items s k (branched run.numbers.now run.unknowns at c.args.site first other s k (truth_in (numbers run.numbers.now run.unknowns) at test s))
+    (run_frames run c.args.node (reverse c.args.frames.now.items))
+    ((λ j. ran (exit_of (c.failed.ensures j)) s k) ∙ ap (branched run.numbers.now run.unknowns at c.args.site first other s k) (sym truth))
+
+pub returns-in-Ok-true-clause-runs : goal.returns-in-Ok-true-clause-runs
+returns-in-Ok-true-clause-runs c =
+    let run = c.args.run.now in
+    let at = scene_in run c.args.node c.args.turns in
+    let old = c.args.packet.now in
+    let new = c.decide.new.self in
+    let test = cond_tree c.args.test.now in
+    let seen = rw c.in-Ok-true.field-0-test at c.in-Ok-true.ensures in
+    let truth : truth_in (numbers run.numbers.now run.unknowns) at test (carried_of old.state) ≡ Ok true =
+    truth_seen run.numbers.now c.scene-at.result.numbers.now run.unknowns c.scene-at.result.unknowns at _ test (carried_of old.state) (Ok true)
+    c.scene-at.ensures.numbers c.scene-at.ensures.unknowns c.scene-at.ensures.scene seen in
+    ap (noting new.decisions.items) (c.in_ok-put_code-in-Ok-true.ensures.runs run c.args.node (carried_of new.state) new.choices)
+    ∙ takes_first run.numbers.now run.unknowns at c.args.site c.in_ok-inner.inner (truth_in (numbers run.numbers.now run.unknowns) at test (carried_of old.state))
+    (code_tree c.args.first.now) (code_tree c.args.other.now) old.decisions.items new.decisions.items (carried_of old.state) (carried_of new.state) old.choices new.choices
+    (run_frames run c.args.node (reverse c.args.frames.now.items)) truth c.in_ok-inner.ensures
+    c.in_ok-decide-in-Ok-true.ensures.decisions (ap carried_of c.in_ok-decide-in-Ok-true.ensures.state) c.in_ok-decide-in-Ok-true.ensures.choices
+
+pub returns-clause-runs : goal.returns-clause-runs
+returns-clause-runs c =
+    let run = c.args.run.now in
+    let at = scene_in run c.args.node c.args.turns in
+    let old = c.args.packet.now in
+    let new = c.decide-in-Ok-false.new.self in
+    let test = cond_tree c.args.test.now in
+    let seen = rw c.in-Ok-false.field-0-test at c.in-Ok-false.ensures in
+    let truth : truth_in (numbers run.numbers.now run.unknowns) at test (carried_of old.state) ≡ Ok false =
+    truth_seen run.numbers.now c.scene-at.result.numbers.now run.unknowns c.scene-at.result.unknowns at _ test (carried_of old.state) (Ok false)
+    c.scene-at.ensures.numbers c.scene-at.ensures.unknowns c.scene-at.ensures.scene seen in
+    ap (noting new.decisions.items) (c.in_ok-put_code-in-Ok-false.ensures.runs run c.args.node (carried_of new.state) new.choices)
+    ∙ takes_other run.numbers.now run.unknowns at c.args.site c.in_ok-behind-in-Ok-false.behind (truth_in (numbers run.numbers.now run.unknowns) at test (carried_of old.state))
+    (code_tree c.args.first.now) (code_tree c.args.other.now) old.decisions.items new.decisions.items (carried_of old.state) (carried_of new.state) old.choices new.choices
+    (run_frames run c.args.node (reverse c.args.frames.now.items)) truth
+    (c.in_ok-behind-in-Ok-false.ensures ∙ ap (λ n. n + code_size (code_tree c.args.first.now)) c.in_ok-inner.ensures)
+    c.in_ok-decide-in-Ok-false.ensures.decisions (ap carried_of c.in_ok-decide-in-Ok-false.ensures.state) c.in_ok-decide-in-Ok-false.ensures.choices

@@ -1,0 +1,5 @@
+pub mod Passing
+pub mod Weights
+pub mod Pending
+pub mod Starting
+pub mod Answers

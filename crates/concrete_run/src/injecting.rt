@@ -1,0 +1,194 @@
+//! What a packet carries where it is injected.
+
+ghost use Rattle.std.specs.Prelude.{◌≡◌, ◌≤◌, length, OnOk, IfOk, Ok, map};
+ghost use Rattle.net_check.specs.Network.{entry, network};
+ghost use Rattle.net_check.specs.Sound.{AreOfOneJob};
+ghost use Rattle.sefl_syntax.specs.Views.{cond_tree, injection_tree};
+ghost use Rattle.sefl_meaning.specs.Injected.{IsTrueIn, injected, unknown_widths, with_field, with_fields, with_tags};
+ghost use Rattle.sefl_meaning.specs.View.{carried_of};
+ghost use Rattle.concrete_steps.specs.Scenes.{operations_of, scene_of};
+ghost use Rattle.concrete_run.specs.Starting.{Goes, HasNoFault, OtherAnswer, StartAnswer, TooWideAnswer};
+
+use concrete_steps::{Scene, allocate, number_at, put, reduced, set_tag, truth_of, width_of};
+use header_layers::Layers;
+use metadata_scopes::Scopes;
+use net_check::{Injection, Net};
+use sefl_meaning::State;
+use sefl_meaning::laws::accepted_injections_go;
+use sefl_syntax::{Addr, Cond, Name, RawField, RawInjection};
+use sn_tree::Shared;
+use sn_width::{NoMemory, Num, StepFault};
+use std::alloc::Global;
+
+/// Why a packet does not start.
+#[derive(Clone, Copy, Debug, PartialEq, Eq)]
+pub enum StartFault {
+    /// There are fewer numbers than the unknown fields that there are.
+    Short { needed: u64 },
+    /// The number of this unknown field, from 0, exceeds the field's width; it is the first that does.
+    ValueTooWide { field: u64 },
+    /// The test of this index, from 0, is not true; it is the first that is not.
+    WhereFalse { index: u64 },
+    NoMemory,
+}
+
+impl From<NoMemory> for StartFault {
+    ghost use Rattle.std.specs.Prelude.{◌≡◌};
+    ghost use Rattle.concrete_run.specs.declared.injecting.StartFault.TheVariants.{NoMemory as OutOfMemory};
+
+    ghost from_gives = { λ _ fault. fault ≡ OutOfMemory };
+
+    fn from(_error: NoMemory) -> StartFault {
+        StartFault::NoMemory
+    }
+}
+
+/// What the packet with these numbers carries where it is injected: its tags and then its fields, in text order. The net and
+/// the injection are those of one job. Of several causes that it does not start the first in the order of `StartFault` is told.
+pub fn start(
+    alloc: Global,
+    net: &Net,
+    injection: &Injection,
+    values: &[Num],
+) -> Result<State, StartFault>
+    requires { AreOfOneJob (network net.now) (entry injection.now) }
+    ensures { StartAnswer (network net.now) (entry injection.now) values.now result }
+{
+    injection.keeps_the_rules();
+    accepted_injections_go::<Num, bool>();
+    let raw = injection.raw();
+    let unknowns = injection.unknowns();
+    if values.len() < unknowns {
+        return Err(StartFault::Short {
+            needed: unknowns as u64,
+        });
+    }
+    if let Some(field) = first_too_wide(&raw.fields, values) {
+        return Err(StartFault::ValueTooWide { field });
+    }
+    let (node, _) = injection.place();
+    let turns = Shared::empty();
+    let at = Scene {
+        net,
+        numbers: values,
+        unknowns,
+        node,
+        turns: &turns,
+    };
+    let state = injected(alloc, &at, raw)?;
+    if let Some(index) = first_false(&at, &state, &raw.tests) {
+        return Err(StartFault::WhereFalse { index });
+    }
+    Ok(state)
+}
+
+/// The first unknown field, by its number from 0, whose number exceeds its width.
+fn first_too_wide(fields: &[RawField], values: &[Num]) -> Option<u64>
+    requires { length (unknown_widths fields.now) ≤ length values.now }
+    ensures { TooWideAnswer (unknown_widths fields.now) values.now result }
+{
+    let mut number: usize = 0;
+    for field in fields {
+        if field.value.is_none() {
+            if values[number] > width_of(&field.target).max() {
+                return Some(number as u64);
+            }
+            number += 1;
+        }
+    }
+    None
+}
+
+/// The first test, by its index from 0, that is not true.
+fn first_false(at: &Scene<'_>, state: &State, tests: &[Cond]) -> Option<u64>
+    ensures { OtherAnswer (IsTrueIn (scene_of at.now) (operations_of at.now) (carried_of state.now)) (map cond_tree tests.now) result }
+{
+    for (index, test) in tests.iter().enumerate() {
+        match truth_of(at, state, test) {
+            Ok(true) => {}
+            Ok(false) => return Some(index as u64),
+            Err(_) => return Some(index as u64),
+        }
+    }
+    None
+}
+
+/// The tags and then the fields.
+fn injected(alloc: Global, at: &Scene<'_>, raw: &RawInjection) -> Result<State, NoMemory>
+    requires { Goes (injected (operations_of at.now) (scene_of at.now) (injection_tree raw.now)) }
+    ensures { IfOk result (λ s. injected (operations_of at.now) (scene_of at.now) (injection_tree raw.now) ≡ Ok (carried_of s)) }
+{
+    let mut state = State {
+        layers: Layers::new(),
+        scopes: Scopes::new(),
+    };
+    add_tags(alloc, at, &mut state, &raw.tags)?;
+    add_fields(alloc, at, &mut state, &raw.fields)?;
+    Ok(state)
+}
+
+/// A step without a fault of the layout, as the tags and the fields of an accepted injection have none.
+fn taken(step: Result<(), StepFault>) -> Result<(), NoMemory>
+    requires { HasNoFault step }
+    ensures { OnOk result (step ≡ Ok tt) }
+{
+    match step {
+        Ok(()) => Ok(()),
+        Err(StepFault::NoMemory) => Err(NoMemory),
+        Err(StepFault::Layout(_)) => unreachable!(),
+    }
+}
+
+fn add_tags(
+    alloc: Global,
+    at: &Scene<'_>,
+    state: &mut State,
+    tags: &[(Name, Addr)],
+) -> Result<(), NoMemory>
+    requires { Goes (with_tags (operations_of at.now) (scene_of at.now) tags.now (carried_of state.old)) }
+    ensures { OnOk result (with_tags (operations_of at.now) (scene_of at.now) tags.now (carried_of state.old) ≡ Ok (carried_of state.new)) }
+{
+    for (name, addr) in tags {
+        taken(set_tag(alloc, at, state, name, addr))?;
+    }
+    Ok(())
+}
+
+fn add_fields(
+    alloc: Global,
+    at: &Scene<'_>,
+    state: &mut State,
+    fields: &[RawField],
+) -> Result<(), NoMemory>
+    requires { Goes (with_fields (operations_of at.now) (scene_of at.now) 0 fields.now (carried_of state.old)) }
+    ensures { OnOk result (with_fields (operations_of at.now) (scene_of at.now) 0 fields.now (carried_of state.old) ≡ Ok (carried_of state.new)) }
+{
+    let mut number: usize = 0;
+    for field in fields {
+        add_field(alloc, at, state, number, field)?;
+        if field.value.is_none() {
+            number += 1;
+        }
+    }
+    Ok(())
+}
+
+/// A field is one cell, with the given value or with that of the unknown field of this number.
+fn add_field(
+    alloc: Global,
+    at: &Scene<'_>,
+    state: &mut State,
+    number: usize,
+    field: &RawField,
+) -> Result<(), NoMemory>
+    requires { Goes (with_field (operations_of at.now) (scene_of at.now) number field.now (carried_of state.old)) }
+    ensures { OnOk result (with_field (operations_of at.now) (scene_of at.now) number field.now (carried_of state.old) ≡ Ok (carried_of state.new)) }
+{
+    let width = width_of(&field.target);
+    let value = match field.value {
+        None => number_at(at, width, number),
+        Some(value) => reduced(width, value),
+    };
+    taken(allocate(alloc, at, state, &field.target))?;
+    taken(put(alloc, at, state, &field.target, value))
+}

@@ -1,0 +1,15 @@
+//! The walks of one packet through a net.
+#![tactic(auto)]
+
+mod frames;
+mod injecting;
+mod instrs;
+mod packet;
+mod pending;
+mod sizes;
+#[cfg(test)]
+mod tests;
+mod walks;
+
+pub use injecting::{StartFault, start};
+pub use walks::{WalkFault, walk_all, walk_one};

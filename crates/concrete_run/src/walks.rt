@@ -1,0 +1,240 @@
+//! The walks of a packet.
+
+ghost use Rattle.std.specs.Prelude.{◌≡◌, ◌↔◌, ◌+◌, ◌<◌, ◌∷◌, ◌++◌, suc, List, reverse, IsTrue, IfOk, OnOk};
+ghost use Rattle.net_check.specs.Network.{entry, network};
+ghost use Rattle.net_check.specs.Sound.{AreOfOneJob};
+ghost use Rattle.sefl_meaning.specs.View.{carried_of};
+ghost use Rattle.sefl_meaning.specs.Walks.{Trail};
+ghost use Rattle.concrete_run.specs.Answers.{AllAnswer, GatherAnswer, OneAnswer, IsAtStart, SearchAnswer, SeekAnswer, StartedAnswer};
+ghost use Rattle.concrete_run.specs.Pending.{BeginsWith, Sought, steps_of, steps_of_all, walk_found, walks_of, walks_of_all};
+
+use crate::injecting::{StartFault, start};
+use crate::packet::{Packet, Run};
+use crate::pending::{Next, Pending, Stage, advance};
+use net_check::{Injection, Net};
+use sefl_meaning::{Decision, State, Walk};
+use sn_width::{NoMemory, Num};
+use std::alloc::{AllocFailed, Global};
+
+/// Why there are no walks to answer.
+#[derive(Clone, Copy, Debug, PartialEq, Eq)]
+pub enum WalkFault {
+    /// The packet does not start; never for want of memory.
+    Start { fault: StartFault },
+    /// There are more walks than the limit, which is one less than this.
+    TooMany { count: u64 },
+    NoMemory,
+}
+
+impl From<NoMemory> for WalkFault {
+    ghost use Rattle.std.specs.Prelude.{◌≡◌};
+    ghost use Rattle.concrete_run.specs.declared.walks.WalkFault.TheVariants.{NoMemory as OutOfMemory};
+
+    ghost from_gives = { λ _ fault. fault ≡ OutOfMemory };
+
+    fn from(_error: NoMemory) -> WalkFault {
+        WalkFault::NoMemory
+    }
+}
+
+impl<T: Drop> From<AllocFailed<T>> for WalkFault {
+    ghost use Rattle.std.specs.Prelude.{◌≡◌};
+    ghost use Rattle.concrete_run.specs.declared.walks.WalkFault.TheVariants.{NoMemory as OutOfMemory};
+
+    ghost from_gives = { λ _ fault. fault ≡ OutOfMemory };
+
+    fn from(_error: AllocFailed<T>) -> WalkFault {
+        WalkFault::NoMemory
+    }
+}
+
+/// All walks of a packet, ascending by decisions, with so many hops; or that there are more than the limit.
+pub fn walk_all(
+    alloc: Global,
+    net: &Net,
+    injection: &Injection,
+    values: &[Num],
+    hops: u32,
+    limit: u32,
+) -> Result<Vec<Walk>, WalkFault>
+    requires { AreOfOneJob (network net.now) (entry injection.now) }
+    ensures { AllAnswer (network net.now) (entry injection.now) values.now hops limit result }
+{
+    let state = started(alloc, net, injection, values)?;
+    let run = Run {
+        net,
+        numbers: values,
+        unknowns: injection.unknowns(),
+    };
+    gather(alloc, &run, at_start(alloc, injection, state, hops), limit)
+}
+
+/// The walk of a packet that has these decisions; None exactly where no walk has them.
+pub fn walk_one(
+    alloc: Global,
+    net: &Net,
+    injection: &Injection,
+    values: &[Num],
+    hops: u32,
+    decisions: &[Decision],
+) -> Result<Option<Walk>, WalkFault>
+    requires { AreOfOneJob (network net.now) (entry injection.now) }
+    ensures { OneAnswer (network net.now) (entry injection.now) values.now hops decisions.now result }
+{
+    let state = started(alloc, net, injection, values)?;
+    let run = Run {
+        net,
+        numbers: values,
+        unknowns: injection.unknowns(),
+    };
+    let found = search(
+        alloc,
+        &run,
+        at_start(alloc, injection, state, hops),
+        decisions,
+    )?;
+    Ok(found)
+}
+
+/// What the packet carries at its start.
+fn started(
+    alloc: Global,
+    net: &Net,
+    injection: &Injection,
+    values: &[Num],
+) -> Result<State, WalkFault>
+    requires { AreOfOneJob (network net.now) (entry injection.now) }
+    ensures { StartedAnswer (network net.now) (entry injection.now) values.now result }
+{
+    match start(alloc, net, injection, values) {
+        Ok(state) => Ok(state),
+        Err(StartFault::NoMemory) => Err(WalkFault::NoMemory),
+        Err(fault) => Err(WalkFault::Start { fault }),
+    }
+}
+
+/// The packet before the injection's port.
+fn at_start<'a>(alloc: Global, injection: &Injection, state: State, hops: u32) -> Pending<'a>
+    ensures { IsAtStart (entry injection.now) hops (carried_of state) result }
+{
+    let (node, port) = injection.place();
+    Pending {
+        hops,
+        places: Vec::new(alloc),
+        packet: Packet {
+            decisions: Vec::new(alloc),
+            state,
+            choices: 0,
+        },
+        stage: Stage::Arriving { node, port },
+    }
+}
+
+/// All walks of what is pending, in their order, where they are no more than the limit.
+fn gather<'a>(
+    alloc: Global,
+    run: &Run<'a>,
+    pending: Pending<'a>,
+    limit: u32,
+) -> Result<Vec<Walk>, WalkFault>
+    ensures { GatherAnswer limit (walks_of run.now pending.entry) result }
+{
+    let mut walks = Vec::new(alloc);
+    let mut work = Vec::new(alloc);
+    work.push(pending)?;
+    while let Some(next) = work.pop() {
+        if let Some(walk) = take_on(alloc, run, next, &mut work)? {
+            if walks.len() >= limit as usize {
+                return Err(WalkFault::TooMany {
+                    count: u64::from(limit) + 1,
+                });
+            }
+            walks.push(walk)?;
+        }
+    }
+    Ok(walks)
+}
+
+/// Puts what comes of a packet on top of the work, or tells the walk that has ended.
+fn take_on<'a>(
+    alloc: Global,
+    run: &Run<'a>,
+    pending: Pending<'a>,
+    work: &mut Vec<Pending<'a>>,
+) -> Result<Option<Walk>, NoMemory>
+    ensures walks { IfOk result (λ ended. walk_found ended ++ walks_of_all run.now (reverse work.new.items)
+        ≡ walks_of run.now pending.entry ++ walks_of_all run.now (reverse work.old.items)) }
+    ensures steps { OnOk result (suc (steps_of_all run.now (reverse work.new.items))
+        ≡ steps_of run.now pending.entry + steps_of_all run.now (reverse work.old.items)) }
+{
+    match advance(alloc, run, pending)? {
+        Next::Ended(walk) => Ok(Some(walk)),
+        Next::Moved(moved) => {
+            work.push(moved)?;
+            Ok(None)
+        }
+        Next::Copied { first, others } => {
+            work.push(others)?;
+            work.push(first)?;
+            Ok(None)
+        }
+        Next::Gone => Ok(None),
+    }
+}
+
+/// The walk of what is pending that has these decisions. What cannot lead to it is left out.
+fn search<'a>(
+    alloc: Global,
+    run: &Run<'a>,
+    pending: Pending<'a>,
+    decisions: &[Decision],
+) -> Result<Option<Walk>, NoMemory>
+    ensures { SearchAnswer decisions.now (walks_of run.now pending.entry) result }
+{
+    let mut work = Vec::new(alloc);
+    work.push(pending)?;
+    while let Some(next) = work.pop() {
+        if let Some(walk) = seek(alloc, run, next, decisions, &mut work)? {
+            return Ok(Some(walk));
+        }
+    }
+    Ok(None)
+}
+
+/// Takes a packet on where it may come to these decisions; the walk where it has ended with them.
+fn seek<'a>(
+    alloc: Global,
+    run: &Run<'a>,
+    pending: Pending<'a>,
+    decisions: &[Decision],
+    work: &mut Vec<Pending<'a>>,
+) -> Result<Option<Walk>, NoMemory>
+    ensures sought { IfOk result (λ found. (all : List Trail) → Sought run.now decisions.now (pending.entry ∷ reverse work.old.items) all
+        → SeekAnswer run.now decisions.now (reverse work.new.items) all found) }
+    ensures steps { OnOk result (steps_of_all run.now (reverse work.new.items)
+        < steps_of run.now pending.entry + steps_of_all run.now (reverse work.old.items)) }
+{
+    if !leads_to(&pending.packet.decisions, decisions) {
+        return Ok(None);
+    }
+    let Some(walk) = take_on(alloc, run, pending, work)? else {
+        return Ok(None);
+    };
+    if are_same(&walk.decisions, decisions) {
+        return Ok(Some(walk));
+    }
+    Ok(None)
+}
+
+/// Whether the second list of decisions begins with the first.
+fn leads_to(first: &[Decision], decisions: &[Decision]) -> bool
+    ensures { IsTrue result ↔ BeginsWith first.now decisions.now }
+{
+    decisions.starts_with(first)
+}
+
+fn are_same(first: &[Decision], second: &[Decision]) -> bool
+    ensures { IsTrue result ↔ (first.now ≡ second.now) }
+{
+    first == second
+}
