@@ -2,6 +2,9 @@ pub mod ReportLemmas
 pub mod ExactLemmas
 pub mod WriteLemmas
 pub mod OutcomeLemmas
-pub mod FlawLemmas
 pub mod ThinLemmas
-pub mod AcceptLemmas
+pub mod OpenLemmas
+pub mod EndLemmas
+pub mod WalkLemmas
+pub mod RunLemmas
+pub mod BackLemmas

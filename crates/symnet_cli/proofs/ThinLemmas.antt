@@ -17,7 +17,7 @@ use Rattle.sefl_syntax.specs.declared.job.RawField.{RawField}
 use Rattle.sefl_syntax.specs.Trees.{ExprTree, constant, CondTree, always, compare, InstrTree, fail, branch, forward, CodeTree, no_code, instr_and, PortTree, BodyTree, code, table, DeclTree, JobTree}
 use Rattle.net_check.specs.Sound.{IsSound}
 use Rattle.job_names.specs.Occurrences.{patterns_of}
-use Rattle.path_exec.specs.Sides.{IsLeast, IsOneSided}
+use Rattle.path_exec.specs.Sides.{IsOneSided}
 use Rattle.thin_jobs.specs.Thins.{HasShortOffsets, arm_code, thin_job}
 use Rattle.symnet_cli.specs.Outcome.{HasBothSides, IsFoundIn, IsNotRun, IsThinJob}
 
@@ -44,12 +44,6 @@ has_both_sides thin both one =
     let unmet : relates thin.rel both.1.0 thin.bound ≡ false = both.1.2 in
     let at_unmet : relates thin.rel both.1.0 thin.bound ≡ one.0 = one.1 both.1.0 both.1.1 in
     true≢false (sym met ∙ (at_met ∙ (sym at_unmet ∙ unmet)))
-
--- nor where it has a least value on each side
-pub has_both_values : (thin : Thin) (met unmet : ℕ) → IsLeast thin.width thin.rel thin.bound true met
-    → IsLeast thin.width thin.rel thin.bound false unmet → IsOneSided thin.width thin.rel thin.bound → ⊥
-has_both_values thin met unmet first other one =
-    has_both_sides thin ((met, first.fits, first.gives), (unmet, other.fits, other.gives)) one
 
 -- what stands where a thin job has its parts
 abbrev name_in : List DeclTree → List ℕ
@@ -168,10 +162,6 @@ pub found_fits : ((thin : Thin) → IsSound (thin_job thin) → FitsWidth thin.w
     → IsSound j → IsFoundIn j found → ForSome found (λ t. FitsWidth t.width t.bound)
 found_fits fits j found sound is = λ thin told. fits thin (subst IsSound ((is thin).1 told).0 sound)
 
--- its test is one-sided, where the job is not run
-pub found_one_sided : (j : JobTree) (found : Option Thin) → IsFoundIn j found → IsNotRun j → ForSome found (λ t. IsOneSided t.width t.rel t.bound)
-found_one_sided j found is not_run = λ thin told. not_run thin ((is thin).1 told)
-
--- and the other way
+-- the job is not run, where its test is one-sided
 pub not_run : (j : JobTree) (found : Option Thin) → IsFoundIn j found → ForSome found (λ t. IsOneSided t.width t.rel t.bound) → IsNotRun j
 not_run j found is one = λ thin own. one thin ((is thin).0 own)

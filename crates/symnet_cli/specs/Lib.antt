@@ -4,5 +4,8 @@ pub mod Paths
 pub mod ReportText
 pub mod Status
 pub mod Outcome
+pub mod Walking
+pub mod Texts
+pub mod Ends
 pub mod Flaws
 pub mod Refusals

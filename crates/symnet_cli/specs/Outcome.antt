@@ -1,8 +1,7 @@
--- What a run of `explore` says of the job's file and of what is written.
-use Rattle.std.specs.Prelude.{ℕ, ◌≡◌, ◌⊎◌, ◌↔◌, Bool, true, false, List, [], String, Option, Some}
+-- What a run says of the job's file, of the patterns, and of what is written.
+use Rattle.std.specs.Prelude.{ℕ, ◌≡◌, ◌⊎◌, ◌↔◌, ◌≤◌, Bool, true, false, List, String, Option, None, Some, length}
 use Rattle.std.specs.declared.alloc.Global.{Global}
 use Rattle.std.specs.Option.{ForSome}
-use Rattle.sn_width.specs.declared.ids.NameId.{NameId}
 use Rattle.sn_width.specs.declared.ids.Site.{Site}
 use Rattle.sn_edge.specs.Pieces.{IsPrefix}
 use Rattle.sn_edge.specs.declared.patterns.Found.{Found}
@@ -15,23 +14,28 @@ use Rattle.job_items.specs.Rules.{refusal}
 use Rattle.job_items.specs.declared.rule.Rule.{Rule}
 use Rattle.job_names.specs.Names.{names_of}
 use Rattle.pattern_answers.specs.Asking.{AsksAll}
-use Rattle.pattern_answers.specs.Told.{bad_site}
+use Rattle.pattern_answers.specs.Told.{bad_site, found_by}
 use Rattle.net_check.specs.Acceptance.{IsBadPatternAt}
-use Rattle.net_check.specs.Sound.{IsSound}
+use Rattle.net_check.specs.Network.{Network, Entry}
+use Rattle.net_check.specs.Sound.{IsSound, IsNetOf, IsEntryOf}
 use Rattle.thin_jobs.specs.Thins.{HasShortOffsets, thin_job}
 use Rattle.path_exec.specs.Sides.{IsOneSided}
 use Rattle.symnet_cli.specs.Paths.{Path, AreExact}
 use Rattle.symnet_cli.specs.Refusals.{rule_number}
 use Rattle.symnet_cli.specs.ReportText.{report_text}
-use Rattle.symnet_cli.specs.Words.{reading}
+use Rattle.symnet_cli.specs.Words.{Command, explore, walk, job_name, reading}
 
--- the file under the name has these bytes, where the folder tells its files
+-- the most bytes that a file may have
+abbrev pub file_limit : ℕ
+file_limit = 67108864
+
+-- the file under the name has these bytes, no more than the limit, where the folder tells its files
 abbrev pub HasFile : Option (List ℕ → Option (List ℕ)) → List ℕ → List ℕ → Type 0
-HasFile files name bytes = ForSome files (λ at. at name ≡ Some bytes)
+HasFile files name bytes = (length bytes ≤ file_limit) × ForSome files (λ at. at name ≡ Some bytes)
 
--- the words name a file with these bytes
+-- the words name a job's file with these bytes
 abbrev pub IsInput : List (String Global) → Option (List ℕ → Option (List ℕ)) → List ℕ → Type 0
-IsInput words files bytes = (name : List ℕ) × (reading words ≡ Some name) × HasFile files name bytes
+IsInput words files bytes = (command : Command) × (reading words ≡ Some command) × HasFile files (job_name command) bytes
 
 -- the bytes are a text of the job
 abbrev pub IsTextOf : JobTree → List ℕ → Type 0
@@ -65,27 +69,9 @@ IsThinReport thin report = (paths : List Path) × AreExact thin paths × (report
 abbrev pub IsReportOf : JobTree → List ℕ → Type 0
 IsReportOf j report = (thin : Thin) × IsThinJob j thin × IsSound j × IsThinReport thin report
 
--- a beginning of the thin job's report, or nothing
-abbrev pub IsThinBeginning : Thin → List ℕ → Type 0
-IsThinBeginning thin part = (part ≡ []) ⊎ ((report : List ℕ) × IsThinReport thin report × IsPrefix part report)
-
--- nothing, or a beginning of the report of the thin job, if there is one
-abbrev pub IsRunBeginning : Option Thin → List ℕ → Type 0
-IsRunBeginning found part = (part ≡ []) ⊎ ((thin : Thin) × (found ≡ Some thin) × IsThinBeginning thin part)
-
--- a beginning of the job's report, or nothing
-abbrev pub IsBeginning : JobTree → List ℕ → Type 0
-IsBeginning j part = (part ≡ []) ⊎ ((report : List ℕ) × IsReportOf j report × IsPrefix part report)
-
--- a beginning of the report of the job that the bytes are a text of, or nothing
-abbrev pub IsBeginningFor : List ℕ → List ℕ → Type 0
-IsBeginningFor bytes part =
-    (part ≡ []) ⊎ ((j : JobTree) × (report : List ℕ) × IsTextOf j bytes × IsReportOf j report × IsPrefix part report)
-
--- nothing, or a beginning of the report of the job that the words name
-abbrev pub MayBeWritten : List (String Global) → Option (List ℕ → Option (List ℕ)) → List ℕ → Type 0
-MayBeWritten words files part =
-    (part ≡ []) ⊎ ((j : JobTree) × (report : List ℕ) × IsJob words files j × IsReportOf j report × IsPrefix part report)
+-- a beginning of such a text
+abbrev pub IsBeginning : (List ℕ → Type 0) → List ℕ → Type 0
+IsBeginning IsText part = (text : List ℕ) × IsText text × IsPrefix part text
 
 -- the item at the site is the first that breaks a rule, and the first rule that it breaks has this number
 abbrev pub IsRefusedAt : JobTree → Site → ℕ → Type 0
@@ -100,16 +86,43 @@ IsWhole j = (is_filled j ≡ true) × IsSound j
 abbrev pub first_bad_site : (List ℕ → Bool) → JobTree → Option ℕ
 first_bad_site is_bad j = bad_site is_bad (names_of j).metas (names_of j).patterns
 
--- by this step of the patterns from state to state
-module _ {S : Type 0} (step : S → List ℕ → List ℕ → Found → S → Type 0) where
-  -- each pattern of the job was asked for each name, and none was refused
-  abbrev pub HasGoodPatterns : JobTree → S → S → Type 0
-  HasGoodPatterns j old new = (found : List (List NameId)) × AsksAll step (names_of j).metas old (names_of j).patterns found new
+-- where it is told what patterns find, the net lists that
+abbrev pub ListsFound : Option (List ℕ → List ℕ → Bool) → JobTree → Network → Type 0
+ListsFound matches j net = ForSome matches (λ finds. net.found ≡ found_by finds (names_of j))
 
-  -- the job has tables, or it is accepted and not thin, or its test has packets on one side alone
-  abbrev pub IsNotBuilt : JobTree → S → S → Type 0
-  IsNotBuilt j old new = (is_filled j ≡ false) ⊎ (IsWhole j × HasGoodPatterns j old new × IsNotRun j)
+-- the job is accepted as this net and this injection: it has no tables and breaks no rule; by this step of the patterns, from
+-- state to state, each of its patterns was asked for each name, and the net lists the names that they find
+pub record IsAccepted {S : Type 0} (step : S → List ℕ → List ℕ → Found → S → Type 0) (matches : S → Option (List ℕ → List ℕ → Bool)) (bad : S → Option (List ℕ → Bool)) (j : JobTree) (old new : S) (net : Network) (i : Entry) : Type 0 where
+  pub whole : IsWhole j
+  pub of_net : IsNetOf j net
+  pub of_entry : IsEntryOf j i
+  pub asked : AsksAll step (names_of j).metas old (names_of j).patterns net.found new
+  pub found : ListsFound (matches old) j net
+  pub good : ForSome (bad old) (λ is_bad. first_bad_site is_bad j ≡ None)
 
-  -- the pattern of the For at the site is refused, and no earlier one
-  abbrev pub IsBadAt : JobTree → S → Site → S → Type 0
-  IsBadAt j old site new = (is_filled j ≡ true) × IsBadPatternAt step j old site.0 new
+-- the pattern of the For at the site is refused, and no earlier one; where bad patterns are told, it is the first of them
+abbrev pub IsBadAt : {S : Type 0} → (S → List ℕ → List ℕ → Found → S → Type 0) → (S → Option (List ℕ → Bool)) → JobTree → S → S → Site → Type 0
+IsBadAt step bad j old new site =
+    (is_filled j ≡ true) × IsBadPatternAt step j old site.0 new × ForSome (bad old) (λ is_bad. first_bad_site is_bad j ≡ Some site.0)
+
+-- the job has tables, and no pattern was asked
+abbrev pub HasTables : {S : Type 0} → JobTree → S → S → Type 0
+HasTables j old new = (is_filled j ≡ false) × (new ≡ old)
+
+-- by this step of the patterns, from state to state
+module _ {S : Type 0} (step : S → List ℕ → List ℕ → Found → S → Type 0) (matches : S → Option (List ℕ → List ℕ → Bool)) (bad : S → Option (List ℕ → Bool)) where
+  -- the job is accepted
+  abbrev pub IsTaken : JobTree → S → S → Type 0
+  IsTaken j old new = (net : Network) × (i : Entry) × IsAccepted step matches bad j old new net i
+
+  -- the job has tables; or, where it is explored, it is accepted and not thin, or its test has packets on one side alone
+  abbrev pub IsNotBuilt : Option Command → JobTree → S → S → Type 0
+  IsNotBuilt None j old new = ⊥
+  IsNotBuilt (Some (explore job)) j old new = HasTables j old new ⊎ (IsTaken j old new × IsNotRun j)
+  IsNotBuilt (Some (walk job packet)) j old new = HasTables j old new
+
+-- the file under this name was loaded: the job's; or, where the job is accepted, the packet's
+abbrev pub IsLoaded : Option Command → Type 0 → List ℕ → Type 0
+IsLoaded None Taken name = ⊥
+IsLoaded (Some (explore job)) Taken name = name ≡ job
+IsLoaded (Some (walk job packet)) Taken name = (name ≡ job) ⊎ ((name ≡ packet) × Taken)

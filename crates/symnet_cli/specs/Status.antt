@@ -1,6 +1,7 @@
-use Rattle.std.specs.Prelude.{ℕ, List, [], ◌++◌, codes, decimal}
+use Rattle.std.specs.Prelude.{ℕ, List, [], ◌++◌, codes, decimal, Option, None, Some}
+use Rattle.symnet_cli.specs.Words.{Command, explore, walk}
 use Rattle.symnet_cli.specs.declared.status.Status.{Status}
-use Rattle.symnet_cli.specs.declared.status.Status.TheVariants.{Done, NoMemory, Usage, NoFile, ReadFault, WriteFault, TooBig, Syntax, BadPattern, Refused, NotBuilt}
+use Rattle.symnet_cli.specs.declared.status.Status.TheVariants.{Done, NoMemory, Usage, NoFile, ReadFault, WriteFault, TooBig, Syntax, BadPattern, Refused, BadPacket, TooMany, NotBuilt}
 
 -- the number with which the process ends
 abbrev pub number_of : Status → ℕ
@@ -14,6 +15,8 @@ number_of (TooBig name) = 6
 number_of (Syntax line column kind) = 7
 number_of (BadPattern site) = 8
 number_of (Refused site kind) = 9
+number_of (BadPacket kind) = 11
+number_of (TooMany count) = 13
 number_of NotBuilt = 17
 
 unfoldable pub syntax_text : ℕ → ℕ → ℕ → List ℕ
@@ -35,6 +38,8 @@ text_of (TooBig name) = codes "symnet: too big " ++ name
 text_of (Syntax line column kind) = syntax_text line column kind
 text_of (BadPattern site) = codes "symnet: bad pattern at " ++ decimal site.0
 text_of (Refused site kind) = refused_text site.0 kind
+text_of (BadPacket kind) = codes "symnet: bad packet " ++ decimal kind
+text_of (TooMany count) = codes "symnet: too many walks " ++ decimal count
 text_of NotBuilt = codes "symnet: not built"
 
 -- the outside failed, or there was no memory
@@ -49,6 +54,8 @@ IsStopped (TooBig name) = ⊥
 IsStopped (Syntax line column kind) = ⊥
 IsStopped (BadPattern site) = ⊥
 IsStopped (Refused site kind) = ⊥
+IsStopped (BadPacket kind) = ⊥
+IsStopped (TooMany count) = ⊥
 IsStopped NotBuilt = ⊥
 
 -- nothing is written with this status
@@ -63,9 +70,11 @@ WritesNothing (TooBig name) = Unit {0}
 WritesNothing (Syntax line column kind) = Unit {0}
 WritesNothing (BadPattern site) = Unit {0}
 WritesNothing (Refused site kind) = Unit {0}
+WritesNothing (BadPacket kind) = Unit {0}
+WritesNothing (TooMany count) = Unit {0}
 WritesNothing NotBuilt = Unit {0}
 
--- the job was explored, is refused or is of a form not built yet, or there was no memory
+-- the command was run, the job or the packet is refused, the job is of a form not built yet, or there was no memory
 abbrev pub IsFaultless : Status → Type 0
 IsFaultless Done = Unit {0}
 IsFaultless NoMemory = Unit {0}
@@ -77,35 +86,63 @@ IsFaultless (TooBig name) = ⊥
 IsFaultless (Syntax line column kind) = Unit {0}
 IsFaultless (BadPattern site) = Unit {0}
 IsFaultless (Refused site kind) = Unit {0}
+IsFaultless (BadPacket kind) = Unit {0}
+IsFaultless (TooMany count) = Unit {0}
 IsFaultless NotBuilt = Unit {0}
 
--- what may come of a job whose bytes were read
-abbrev pub IsOfBytes : Status → Type 0
-IsOfBytes Done = Unit {0}
-IsOfBytes NoMemory = Unit {0}
-IsOfBytes Usage = ⊥
-IsOfBytes (NoFile name) = ⊥
-IsOfBytes (ReadFault name) = ⊥
-IsOfBytes WriteFault = Unit {0}
-IsOfBytes (TooBig name) = ⊥
-IsOfBytes (Syntax line column kind) = Unit {0}
-IsOfBytes (BadPattern site) = Unit {0}
-IsOfBytes (Refused site kind) = Unit {0}
-IsOfBytes NotBuilt = Unit {0}
+-- no pattern is refused with this status, and it is said which were asked
+abbrev pub IsAsked : Status → Type 0
+IsAsked Done = Unit {0}
+IsAsked NoMemory = ⊥
+IsAsked Usage = Unit {0}
+IsAsked (NoFile name) = Unit {0}
+IsAsked (ReadFault name) = Unit {0}
+IsAsked WriteFault = Unit {0}
+IsAsked (TooBig name) = Unit {0}
+IsAsked (Syntax line column kind) = Unit {0}
+IsAsked (BadPattern site) = ⊥
+IsAsked (Refused site kind) = Unit {0}
+IsAsked (BadPacket kind) = Unit {0}
+IsAsked (TooMany count) = Unit {0}
+IsAsked NotBuilt = Unit {0}
 
--- the patterns are not asked with this status
-abbrev pub AsksNothing : Status → Type 0
-AsksNothing Done = Unit {0}
-AsksNothing NoMemory = ⊥
-AsksNothing Usage = Unit {0}
-AsksNothing (NoFile name) = Unit {0}
-AsksNothing (ReadFault name) = Unit {0}
-AsksNothing WriteFault = Unit {0}
-AsksNothing (TooBig name) = Unit {0}
-AsksNothing (Syntax line column kind) = Unit {0}
-AsksNothing (BadPattern site) = ⊥
-AsksNothing (Refused site kind) = Unit {0}
-AsksNothing NotBuilt = ⊥
+-- no pattern is asked where `explore` ends so
+abbrev pub ExploresUnasked : Status → Type 0
+ExploresUnasked Done = Unit {0}
+ExploresUnasked NoMemory = ⊥
+ExploresUnasked Usage = Unit {0}
+ExploresUnasked (NoFile name) = Unit {0}
+ExploresUnasked (ReadFault name) = Unit {0}
+ExploresUnasked WriteFault = Unit {0}
+ExploresUnasked (TooBig name) = Unit {0}
+ExploresUnasked (Syntax line column kind) = Unit {0}
+ExploresUnasked (BadPattern site) = ⊥
+ExploresUnasked (Refused site kind) = Unit {0}
+ExploresUnasked (BadPacket kind) = Unit {0}
+ExploresUnasked (TooMany count) = Unit {0}
+ExploresUnasked NotBuilt = ⊥
+
+-- no pattern is asked where `walk` ends so
+abbrev pub WalksUnasked : Status → Type 0
+WalksUnasked Done = ⊥
+WalksUnasked NoMemory = ⊥
+WalksUnasked Usage = Unit {0}
+WalksUnasked (NoFile name) = ⊥
+WalksUnasked (ReadFault name) = ⊥
+WalksUnasked WriteFault = ⊥
+WalksUnasked (TooBig name) = ⊥
+WalksUnasked (Syntax line column kind) = Unit {0}
+WalksUnasked (BadPattern site) = ⊥
+WalksUnasked (Refused site kind) = Unit {0}
+WalksUnasked (BadPacket kind) = ⊥
+WalksUnasked (TooMany count) = ⊥
+WalksUnasked NotBuilt = Unit {0}
+
+-- no pattern is asked where the command, if there is one, ends so
+abbrev pub AsksNothing : Option Command → Status → Type 0
+AsksNothing None status = Unit {0}
+AsksNothing (Some (explore job)) status = ExploresUnasked status
+AsksNothing (Some (walk job packet)) status = WalksUnasked status
 
 -- what may come of a job that breaks no rule and is not thin: a pattern may be bad
 abbrev pub IsOfOther : Status → Type 0
@@ -119,32 +156,22 @@ IsOfOther (TooBig name) = ⊥
 IsOfOther (Syntax line column kind) = ⊥
 IsOfOther (BadPattern site) = Unit {0}
 IsOfOther (Refused site kind) = ⊥
+IsOfOther (BadPacket kind) = ⊥
+IsOfOther (TooMany count) = ⊥
 IsOfOther NotBuilt = Unit {0}
 
--- what may come of a report that is written
-abbrev pub IsOfReport : Status → Type 0
-IsOfReport Done = Unit {0}
-IsOfReport NoMemory = Unit {0}
-IsOfReport Usage = ⊥
-IsOfReport (NoFile name) = ⊥
-IsOfReport (ReadFault name) = ⊥
-IsOfReport WriteFault = Unit {0}
-IsOfReport (TooBig name) = ⊥
-IsOfReport (Syntax line column kind) = ⊥
-IsOfReport (BadPattern site) = ⊥
-IsOfReport (Refused site kind) = ⊥
-IsOfReport NotBuilt = ⊥
-
--- what may come of an accepted job
-abbrev pub IsOfRun : Status → Type 0
-IsOfRun Done = Unit {0}
-IsOfRun NoMemory = Unit {0}
-IsOfRun Usage = ⊥
-IsOfRun (NoFile name) = ⊥
-IsOfRun (ReadFault name) = ⊥
-IsOfRun WriteFault = Unit {0}
-IsOfRun (TooBig name) = ⊥
-IsOfRun (Syntax line column kind) = ⊥
-IsOfRun (BadPattern site) = ⊥
-IsOfRun (Refused site kind) = ⊥
-IsOfRun NotBuilt = Unit {0}
+-- the run is stopped, or a pattern is bad
+abbrev pub MayBeBad : Status → Type 0
+MayBeBad Done = ⊥
+MayBeBad NoMemory = Unit {0}
+MayBeBad Usage = ⊥
+MayBeBad (NoFile name) = ⊥
+MayBeBad (ReadFault name) = Unit {0}
+MayBeBad WriteFault = Unit {0}
+MayBeBad (TooBig name) = ⊥
+MayBeBad (Syntax line column kind) = ⊥
+MayBeBad (BadPattern site) = Unit {0}
+MayBeBad (Refused site kind) = ⊥
+MayBeBad (BadPacket kind) = ⊥
+MayBeBad (TooMany count) = ⊥
+MayBeBad NotBuilt = ⊥

@@ -2,6 +2,8 @@
 #![tactic(auto)]
 
 mod explore;
+mod file;
+mod open;
 mod path;
 mod program;
 mod refusal;
@@ -9,6 +11,7 @@ mod report;
 mod status;
 #[cfg(test)]
 mod tests;
+mod walk;
 mod words;
 mod write;
 

@@ -28,8 +28,24 @@ pub enum Status {
     /// The item at the site is the first in the text that breaks a rule, and the kind is the number of the
     /// first rule that it breaks, 1 to 15.
     Refused { site: Site, kind: u8 },
+    /// The packet does not start: the kind is 1 for too few numbers, 2 for one that is too wide, and 3 for a
+    /// test of the injection that is not true; 4 where the packet's file is no list of numbers.
+    BadPacket { kind: u8 },
+    /// The packet has more walks than the limit, which is one less than the count.
+    TooMany { count: u64 },
     /// The job is not of the form that is built so far.
     NotBuilt,
+}
+
+impl From<NoMemory> for Status {
+    ghost use Rattle.std.specs.Prelude.{◌≡◌};
+    ghost use Rattle.symnet_cli.specs.declared.status.Status.TheVariants.{NoMemory as OutOfMemory};
+
+    ghost from_gives = { λ _ status. status ≡ OutOfMemory };
+
+    fn from(_error: NoMemory) -> Status {
+        Status::NoMemory
+    }
 }
 
 impl Status {
@@ -50,6 +66,8 @@ impl Status {
             Status::Syntax { .. } => 7,
             Status::BadPattern { .. } => 8,
             Status::Refused { .. } => 9,
+            Status::BadPacket { .. } => 11,
+            Status::TooMany { .. } => 13,
             Status::NotBuilt => 17,
         }
     }
@@ -84,6 +102,8 @@ pub fn status_text(alloc: Global, status: &Status) -> Result<String, NoMemory>
         Status::Syntax { line, column, kind } => { syntax_text(alloc, *line, *column, *kind) }
         Status::BadPattern { site } => Ok(format!(in alloc; "symnet: bad pattern at {}", site.0)?),
         Status::Refused { site, kind } => refused_text(alloc, *site, *kind),
+        Status::BadPacket { kind } => Ok(format!(in alloc; "symnet: bad packet {kind}")?),
+        Status::TooMany { count } => Ok(format!(in alloc; "symnet: too many walks {count}")?),
         Status::NotBuilt => Ok(String::from_str(alloc, "symnet: not built")?),
     }
 }

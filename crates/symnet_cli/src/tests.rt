@@ -1,6 +1,7 @@
 ghost use Rattle.std.specs.Prelude.{◌+◌, None};
 
-use crate::program::{JOB_LIMIT, symnet};
+use crate::file::FILE_LIMIT;
+use crate::program::symnet;
 use crate::status::{Status, status_text};
 use sn_edge::{Folder, Loaded, MemFolder, MemPatterns, MemSink};
 use std::alloc::Global;
@@ -14,12 +15,12 @@ const HEAD: &str = "{\"hops\":16,\"limit\":10000,\"records\":[";
 
 const TAIL: &str = "],\"refuted\":0,\"state\":\"done\",\"symnet\":1}\n";
 
-/// Runs the words over a folder whose one file is `job`. The loads and the puts of these numbers
-/// fail, and a failing put keeps five bytes.
-fn run(
+/// Runs the words over a folder with these files. The loads and the puts of these numbers fail, and a
+/// failing put keeps five bytes.
+fn run_files(
     alloc: Global,
     words: &[&str],
-    job: &[u8],
+    files: &[(&str, &[u8])],
     failing_loads: &[u64],
     failing_puts: &[u64],
 ) -> Result<(Status, MemSink), Fail> {
@@ -27,12 +28,26 @@ fn run(
     for word in words {
         given.push(String::from_str(alloc, word)?)?;
     }
-    let file = (String::from_str(alloc, "job")?, job.to_vec(alloc)?);
-    let mut folder = MemFolder::new(vec![in alloc; file]?, failing_loads.to_vec(alloc)?);
+    let mut all = Vec::new(alloc);
+    for (name, bytes) in files {
+        all.push((String::from_str(alloc, name)?, bytes.to_vec(alloc)?))?;
+    }
+    let mut folder = MemFolder::new(all, failing_loads.to_vec(alloc)?);
     let mut patterns = MemPatterns::new(Vec::new(alloc), Vec::new(alloc));
     let mut out = MemSink::new(failing_puts.to_vec(alloc)?, 5);
     let status = symnet(alloc, &given, &mut folder, &mut patterns, &mut out);
     Ok((status, out))
+}
+
+/// Runs the words over a folder whose one file is `job`.
+fn run(
+    alloc: Global,
+    words: &[&str],
+    job: &[u8],
+    failing_loads: &[u64],
+    failing_puts: &[u64],
+) -> Result<(Status, MemSink), Fail> {
+    run_files(alloc, words, &[("job", job)], failing_loads, failing_puts)
 }
 
 /// The report of the TTL job with these values.
@@ -260,11 +275,126 @@ fn words_without_a_reading(rt: HostRuntime) -> Result<(), Fail> {
         &["explore"],
         &["explore", "a", "b"],
         &["explore", "--help"],
+        &["walk", "job"],
+        &["walk", "job", "-"],
+        &["walk", "-", "job"],
+        &["walk", "job", "job", "job"],
+        &["explore", "job", "job"],
     ] {
         let (status, out) = run(alloc, words, TTL.as_bytes(), &[], &[])?;
         assert_eq!(rt; status, Status::Usage);
         assert!(rt; out.bytes().is_empty());
     }
+    Ok(())
+}
+
+const DIES: &str =
+    "{\"symnet\":1,\"walks\":[{\"decisions\":[\"then\"],\"end\":{\"fault\":9,\"site\":3,\"text\":\"dead\"},\"fields\":{\"heads\":[[176,[[8,1]]]],\"metas\":[],\"tags\":[[\"L3\",112]]},\"places\":[\"in r.0\"]}]}\n";
+
+/// Walks the packet through the job. The puts of these numbers fail.
+fn walk(
+    alloc: Global,
+    job: &str,
+    packet: &str,
+    failing_puts: &[u64],
+) -> Result<(Status, MemSink), Fail> {
+    let files = [("job", job.as_bytes()), ("packet", packet.as_bytes())];
+    run_files(alloc, &["walk", "job", "packet"], &files, &[], failing_puts)
+}
+
+#[test]
+fn a_packet_is_walked(rt: HostRuntime) -> Result<(), Fail> {
+    let (status, out) = walk(rt.alloc(), TTL, "1", &[])?;
+    assert_eq!(rt; status, Status::Done);
+    assert_eq!(rt; out.bytes(), DIES.as_bytes());
+    Ok(())
+}
+
+#[test]
+fn walks_are_put_in_one_piece(rt: HostRuntime) -> Result<(), Fail> {
+    let (status, out) = walk(rt.alloc(), TTL, "1", &[0])?;
+    assert_eq!(rt; status, Status::WriteFault);
+    assert_eq!(rt; out.bytes(), b"{\"sym".as_slice());
+    Ok(())
+}
+
+/// What a walk shows on standard error, and how many bytes it writes.
+fn walk_shown(alloc: Global, job: &str, packet: &str) -> Result<(String, usize), Fail> {
+    let (status, out) = walk(alloc, job, packet, &[])?;
+    Ok((status_text(alloc, &status)?, out.bytes().len()))
+}
+
+#[test]
+fn bad_packets_are_told_by_their_kind(rt: HostRuntime) -> Result<(), Fail> {
+    for (packet, text) in [
+        ("", "symnet: bad packet 1"),
+        ("300", "symnet: bad packet 2"),
+        ("x", "symnet: bad packet 4"),
+    ] {
+        let (shown, written) = walk_shown(rt.alloc(), TTL, packet)?;
+        assert_eq!(rt; (shown.as_str(), written), (text, 0));
+    }
+    Ok(())
+}
+
+#[test]
+fn a_packet_that_fails_a_test_is_bad(rt: HostRuntime) -> Result<(), Fail> {
+    let alloc = rt.alloc();
+    let job = TTL.replace(
+        alloc,
+        "64:8;\n}",
+        "64:8;\n  where head L3+64:8 < 3;\n  where head L3+64:8 > 7;\n}",
+    )?;
+    let (shown, written) = walk_shown(alloc, job.as_str(), "5")?;
+    assert_eq!(rt; (shown.as_str(), written), ("symnet: bad packet 3", 0));
+    Ok(())
+}
+
+#[test]
+fn a_packet_is_loaded_after_acceptance(rt: HostRuntime) -> Result<(), Fail> {
+    let alloc = rt.alloc();
+    let table = TTL.replace(alloc, "inject", "node s = mac \"s.mac\" chain;\ninject")?;
+    let bad = TTL.replace(alloc, "<= 1", "== 256")?;
+    for (job, text) in [
+        (TTL, "symnet: no file other"),
+        (table.as_str(), "symnet: not built"),
+        (bad.as_str(), "symnet: refused at 2 7"),
+    ] {
+        let files = [("job", job.as_bytes())];
+        let (status, out) = run_files(alloc, &["walk", "job", "other"], &files, &[], &[])?;
+        assert_eq!(rt; status_text(alloc, &status)?.as_str(), text);
+        assert!(rt; out.bytes().is_empty());
+    }
+    Ok(())
+}
+
+/// A box with this name that forks to each of its output ports.
+fn forking_box(alloc: Global, name: &str, ports: u32) -> Result<String, Fail> {
+    let mut text = format!(in alloc; "node {name} 1 -> {ports} {{ in 0 {{ fork 0")?;
+    for port in 1..ports {
+        let one = format!(in alloc; ", {port}")?;
+        text.push_str(one.as_str())?;
+    }
+    text.push_str("; } }\n")?;
+    Ok(text)
+}
+
+#[test]
+fn more_walks_than_the_limit_are_too_many(rt: HostRuntime) -> Result<(), Fail> {
+    let alloc = rt.alloc();
+    let mut job = String::from_str(alloc, "symnet 1;\n")?;
+    job.push_str(forking_box(alloc, "a", 101)?.as_str())?;
+    job.push_str(forking_box(alloc, "b", 101)?.as_str())?;
+    for port in 0..101u32 {
+        let link = format!(in alloc; "link a.{port} -> b.0;\n")?;
+        job.push_str(link.as_str())?;
+    }
+    job.push_str("inject a.0 { }")?;
+    let (shown, written) = walk_shown(alloc, job.as_str(), "")?;
+    assert_eq!(rt;
+        (shown.as_str(), written),
+        ("symnet: too many walks 10001", 0)
+    );
     Ok(())
 }
 
@@ -306,7 +436,7 @@ fn a_file_at_the_limit_is_read(rt: HostRuntime) -> Result<(), Fail> {
         String::from_str(alloc, "explore")?,
         String::from_str(alloc, "zeros")?,
     ]?;
-    for (length, number) in [(JOB_LIMIT as usize, 7), (JOB_LIMIT as usize + 1, 6)] {
+    for (length, number) in [(FILE_LIMIT as usize, 7), (FILE_LIMIT as usize + 1, 6)] {
         let mut folder = Zeros {
             length,
             excesses: 0,

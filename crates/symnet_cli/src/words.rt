@@ -1,7 +1,14 @@
 //! What the words of the command line say.
 
 ghost use Rattle.std.specs.Prelude.{◌≡◌, option_map};
-ghost use Rattle.symnet_cli.specs.Words.{begins_with_dash, reading};
+ghost use Rattle.symnet_cli.specs.Words.{begins_with_dash, command_of, is_file, reading};
+
+/// A command, with the names of the files that it reads.
+#[derive(Clone, Copy, Debug, PartialEq, Eq)]
+pub enum Command<'a> {
+    Explore { job: &'a str },
+    Walk { job: &'a str, packet: &'a str },
+}
 
 fn begins_with_dash(word: &str) -> bool
     ensures { result ≡ begins_with_dash word.now }
@@ -12,13 +19,27 @@ fn begins_with_dash(word: &str) -> bool
     }
 }
 
-/// The name of the job's file, where the words are `explore JOB`.
-pub fn reading(words: &[String]) -> Option<&str>
-    ensures { option_map (λ job. job.now) result ≡ reading words.now }
+/// Whether the word is the name of a file.
+fn is_file(word: &str) -> bool
+    ensures { result ≡ is_file word.now }
+{
+    !begins_with_dash(word)
+}
+
+/// The command, where the words are `explore JOB` or `walk JOB PACKET`.
+pub fn reading(words: &[String]) -> Option<Command<'_>>
+    ensures { option_map command_of result ≡ reading words.now }
 {
     match words {
-        [command, job] if command.as_str() == "explore" && !begins_with_dash(job.as_str()) => {
-            Some(job.as_str())
+        [command, job] if command.as_str() == "explore" && is_file(job.as_str()) => {
+            Some(Command::Explore { job: job.as_str() })
+        }
+        [command, job, packet]
+            if command.as_str() == "walk" && is_file(job.as_str()) && is_file(packet.as_str()) => {
+            Some(Command::Walk {
+                job: job.as_str(),
+                packet: packet.as_str(),
+            })
         }
         _ => None,
     }
