@@ -6,8 +6,6 @@ mod coupled;
 pub mod laws;
 mod marks;
 mod picks;
-#[cfg(test)]
-mod tests;
 
 pub use count::{case_count, case_count_with};
 pub use coupled::{coupled_count, coupled_symbols, formula_count};

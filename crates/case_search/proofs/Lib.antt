@@ -7,6 +7,5 @@ pub mod WordLemmas
 pub mod Reading
 pub mod Solving
 pub mod Steps
-pub mod Testing
 pub mod Trying
 pub mod MadeZero

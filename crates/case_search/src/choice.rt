@@ -3,13 +3,13 @@
 use difference_solver::Bound;
 
 /// Cases of which one is to hold: each is a list of bounds that are to be met together.
-#[derive(Debug, Drop)]
+#[derive(Drop)]
 pub struct Choice {
     pub cases: Vec<Vec<Bound>>,
 }
 
 /// A step of a refutation. Bounds are gathered on the way from the root, none at first.
-#[derive(Debug, Drop)]
+#[derive(Drop)]
 pub enum Step {
     /// A branch for each case of the choice with this index, in order, with its bounds gathered behind those before.
     Split { choice: u32 },
@@ -18,7 +18,7 @@ pub enum Step {
 }
 
 /// What a search finds.
-#[derive(Debug, Drop)]
+#[derive(Drop)]
 pub enum Outcome {
     /// One integer for each unknown in order: the first in the order of words that meet one case of each choice.
     Least { values: Vec<i128> },

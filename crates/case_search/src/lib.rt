@@ -9,8 +9,6 @@ mod order;
 mod parts;
 mod progress;
 mod search;
-#[cfg(test)]
-mod tests;
 mod walk;
 mod zeros;
 

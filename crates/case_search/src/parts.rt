@@ -92,7 +92,7 @@ fn copy_of(alloc: Global, cases: &[Vec<Bound>]) -> Result<Choice, AllocError>
 }
 
 /// Choices whose unknowns have the same label, and their indices among all choices.
-#[derive(Debug, Drop)]
+#[derive(Drop)]
 pub struct Part {
     pub places: Vec<u32>,
     pub choices: Vec<Choice>,

@@ -10,7 +10,7 @@ use difference_solver::{Bound, DiffVerdict, NoMemory, solve};
 use std::alloc::{AllocError, Global};
 
 /// A case that is still to be tried: the bounds before `start` go before it.
-#[derive(Clone, Copy, Debug)]
+#[derive(Clone, Copy)]
 pub struct Untried {
     pub choice: usize,
     pub case: usize,
@@ -18,7 +18,7 @@ pub struct Untried {
 }
 
 /// The bounds that are gathered, and the cases that are still to be tried, the next one last.
-#[derive(Debug, Drop)]
+#[derive(Drop)]
 pub struct Walk {
     pub gathered: Vec<Bound>,
     pub untried: Vec<Untried>,

@@ -3,7 +3,7 @@
 use sn_width::Width;
 
 /// A place for a value of a width.
-#[derive(Debug, Drop)]
+#[derive(Drop)]
 pub struct Cell<V> {
     pub width: Width,
     /// `None` where the cell is unset.

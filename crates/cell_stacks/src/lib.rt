@@ -5,8 +5,6 @@ mod cell;
 pub mod laws;
 mod stack_map;
 mod stacks;
-#[cfg(test)]
-mod tests;
 
 pub use cell::Cell;
 pub use stack_map::StackMap;

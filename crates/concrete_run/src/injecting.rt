@@ -21,7 +21,7 @@ use sn_width::{NoMemory, Num, StepFault};
 use std::alloc::Global;
 
 /// Why a packet does not start.
-#[derive(Clone, Copy, Debug, PartialEq, Eq)]
+#[derive(Clone, Copy, PartialEq, Eq)]
 pub enum StartFault {
     /// There are fewer numbers than the unknown fields that there are.
     Short { needed: u64 },

@@ -7,8 +7,6 @@ mod instrs;
 mod packet;
 mod pending;
 mod sizes;
-#[cfg(test)]
-mod tests;
 mod walks;
 
 pub use injecting::{StartFault, start};

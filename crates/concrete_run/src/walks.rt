@@ -17,7 +17,7 @@ use sn_width::{NoMemory, Num};
 use std::alloc::{AllocFailed, Global};
 
 /// Why there are no walks to answer.
-#[derive(Clone, Copy, Debug, PartialEq, Eq)]
+#[derive(Clone, Copy, PartialEq, Eq)]
 pub enum WalkFault {
     /// The packet does not start; never for want of memory.
     Start { fault: StartFault },

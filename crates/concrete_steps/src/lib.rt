@@ -4,8 +4,6 @@
 mod conditions;
 mod scene;
 mod steps;
-#[cfg(test)]
-mod tests;
 mod values;
 
 pub use conditions::truth_of;

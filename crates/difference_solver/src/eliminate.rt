@@ -9,7 +9,7 @@ ghost use Rattle.difference_solver.specs.Elimination.{HasSources, KeepsImplied};
 use crate::table::{Kept, Source, Table};
 
 /// An unknown and a greater one, where the two bounds between them sum below zero.
-#[derive(Clone, Copy, Debug)]
+#[derive(Clone, Copy)]
 pub struct Loop {
     pub unknown: u32,
     pub through: u32,

@@ -9,7 +9,7 @@ use crate::table::{Source, Table};
 use std::alloc::{AllocError, Global};
 
 /// The two unknowns of a bound that is kept.
-#[derive(Clone, Copy, Debug)]
+#[derive(Clone, Copy)]
 pub struct Pair {
     pub plus: u32,
     pub minus: u32,

@@ -9,8 +9,6 @@ pub mod laws;
 mod memory;
 mod solver;
 mod table;
-#[cfg(test)]
-mod tests;
 mod values;
 
 pub use bound::{Bound, DiffVerdict};

@@ -4,14 +4,14 @@ use std::alloc::{AllocError, Global};
 
 /// Where a kept bound comes from: it was given, or it is the sum of the bounds on its two ends and
 /// the unknown between them.
-#[derive(Clone, Copy, Debug, PartialEq, Eq)]
+#[derive(Clone, Copy, PartialEq, Eq)]
 pub enum Source {
     Given { index: u32 },
     Sum { through: u32 },
 }
 
 /// A bound on two unknowns, which the table names by its place.
-#[derive(Clone, Copy, Debug, PartialEq, Eq)]
+#[derive(Clone, Copy, PartialEq, Eq)]
 pub struct Kept {
     pub at_most: i128,
     pub source: Source,

@@ -3,8 +3,6 @@
 
 pub mod laws;
 mod layers;
-#[cfg(test)]
-mod tests;
 
 pub use cell_stacks::Cell;
 pub use layers::Layers;

@@ -15,7 +15,7 @@ use sn_width::{NoMemory, Num, SymId};
 use std::alloc::Global;
 
 /// What the constant and the simple formulas of a condition say.
-#[derive(Debug, Drop)]
+#[derive(Drop)]
 pub enum SimpleVerdict {
     /// For each symbol the least value that meets its simple formulas.
     Values { values: Vec<Num> },

@@ -10,6 +10,3 @@ mod sets;
 
 pub use decide::{SimpleVerdict, decide_simple};
 pub use domains::Domains;
-
-#[cfg(test)]
-mod tests;

@@ -5,7 +5,7 @@ use sn_width::NoMemory;
 use std::alloc::{AllocError, AllocFailed};
 
 /// An item is broken, or there was no memory.
-#[derive(Clone, Copy, Debug)]
+#[derive(Clone, Copy)]
 pub(crate) enum Halt {
     Broken(Breach),
     NoMemory,

@@ -17,8 +17,6 @@ mod refusal;
 mod rule;
 mod tags;
 mod tally;
-#[cfg(test)]
-mod tests;
 mod totals;
 
 pub use ports::Ports;

@@ -8,7 +8,7 @@ ghost use Rattle.job_items.specs.Rules.{is_past, port_count, wider_side};
 use sefl_syntax::{Body, Side};
 
 /// How many ports a node has on each side.
-#[derive(Clone, Copy, Debug, PartialEq, Eq)]
+#[derive(Clone, Copy, PartialEq, Eq)]
 pub struct Ports {
     pub ins: u32,
     pub outs: u32,

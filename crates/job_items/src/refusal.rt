@@ -14,7 +14,7 @@ use sn_width::{NoMemory, Site};
 use std::alloc::Global;
 
 /// The first item of a job that breaks a rule, and the first rule that it breaks.
-#[derive(Clone, Copy, Debug, PartialEq, Eq)]
+#[derive(Clone, Copy, PartialEq, Eq)]
 pub struct Refusal {
     pub site: Site,
     pub rule: Rule,

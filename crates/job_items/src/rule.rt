@@ -1,7 +1,7 @@
 //! The rules of acceptance.
 
 /// What a limit counts.
-#[derive(Clone, Copy, Debug, PartialEq, Eq)]
+#[derive(Clone, Copy, PartialEq, Eq)]
 pub enum Which {
     /// Nodes of the job, at most 10,000.
     Nodes,
@@ -26,7 +26,7 @@ pub enum Which {
 }
 
 /// A rule of acceptance. Of two that one item breaks, the one that stands first here is told.
-#[derive(Clone, Copy, Debug, PartialEq, Eq)]
+#[derive(Clone, Copy, PartialEq, Eq)]
 pub enum Rule {
     /// An earlier node has the name.
     TwiceNode,
@@ -65,7 +65,7 @@ pub enum Rule {
 }
 
 /// What an item does wrong, while the job's totals are not known.
-#[derive(Clone, Copy, Debug, PartialEq, Eq)]
+#[derive(Clone, Copy, PartialEq, Eq)]
 pub enum Breach {
     /// It breaks the rule.
     Breaks(Rule),

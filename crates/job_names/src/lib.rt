@@ -6,7 +6,5 @@ mod mentions;
 mod names;
 mod survey;
 mod table;
-#[cfg(test)]
-mod tests;
 
 pub use names::{JobNames, names_of};

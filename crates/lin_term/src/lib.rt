@@ -4,7 +4,5 @@
 pub mod laws;
 mod merge;
 mod term;
-#[cfg(test)]
-mod tests;
 
 pub use term::Term;

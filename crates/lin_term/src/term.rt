@@ -9,7 +9,7 @@ use std::alloc::Global;
 use std::marker::Model;
 
 /// A constant plus coefficients times symbols, modulo `2^w`.
-#[derive(Debug, Drop)]
+#[derive(Drop)]
 pub struct Term {
     width: Width,
     constant: Num,

@@ -3,8 +3,6 @@
 
 pub mod laws;
 mod scopes;
-#[cfg(test)]
-mod tests;
 
 pub use cell_stacks::Cell;
 pub use scopes::Scopes;

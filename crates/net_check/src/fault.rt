@@ -6,7 +6,7 @@ use job_items::Rule;
 use sn_width::{NoMemory, Site};
 
 /// Why a job is not accepted.
-#[derive(Clone, Copy, Debug, PartialEq, Eq)]
+#[derive(Clone, Copy, PartialEq, Eq)]
 pub enum AcceptFault {
     /// The item at the site is the first in the text that breaks a rule, and this is the first rule that it breaks. A
     /// bad pattern is told where no other rule is broken, at the first For that has the first such pattern.

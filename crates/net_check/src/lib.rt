@@ -6,8 +6,6 @@ mod fault;
 mod injection;
 pub mod laws;
 mod net;
-#[cfg(test)]
-mod tests;
 
 pub use acceptance::{Accepted, accept};
 pub use fault::AcceptFault;

@@ -18,7 +18,7 @@ use std::alloc::Global;
 use std::collections::BTreeMap;
 
 /// Where the codes of input ports and of output ports stand.
-#[derive(Debug, Drop)]
+#[derive(Drop)]
 pub(crate) struct Codes {
     pub ins: BTreeMap<Port, CodePlace>,
     pub outs: BTreeMap<Port, CodePlace>,

@@ -9,8 +9,6 @@ mod place;
 mod ports;
 mod sizes;
 mod tables;
-#[cfg(test)]
-mod tests;
 
 pub use place::CodePlace;
 pub use tables::NetTables;

@@ -3,7 +3,7 @@
 use sn_width::Site;
 
 /// Where the code of a port stands.
-#[derive(Clone, Copy, Debug, PartialEq, Eq)]
+#[derive(Clone, Copy, PartialEq, Eq)]
 pub struct CodePlace {
     /// The number of the code among the items of the job's text.
     pub site: Site,

@@ -19,7 +19,7 @@ use std::marker::Model;
 
 /// Tables by which the nodes, codes and links of a net are found in logarithmic time. Contracts see
 /// their entries; what a net's tables answer is what the net says.
-#[derive(Debug, Drop)]
+#[derive(Drop)]
 pub struct NetTables {
     ids: IndexMap<Name, NodeId>,
     codes: Codes,

@@ -4,8 +4,6 @@
 mod fault;
 mod number;
 mod packet;
-#[cfg(test)]
-mod tests;
 mod words;
 
 pub use fault::PacketFault;

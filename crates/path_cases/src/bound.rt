@@ -3,7 +3,7 @@
 use sn_width::SymId;
 
 /// The value of `plus` less that of `minus` is at most `at_most`. None is the number zero.
-#[derive(Clone, Copy, Debug, PartialEq, Eq)]
+#[derive(Clone, Copy, PartialEq, Eq)]
 pub struct SymBound {
     pub plus: Option<SymId>,
     pub minus: Option<SymId>,

@@ -9,8 +9,6 @@ mod count;
 pub mod laws;
 mod pairs;
 mod splits;
-#[cfg(test)]
-mod tests;
 
 pub use atoms::range_cases;
 pub use bound::SymBound;

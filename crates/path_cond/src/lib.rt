@@ -6,7 +6,5 @@ mod domain;
 mod kept;
 pub mod laws;
 mod sequence;
-#[cfg(test)]
-mod tests;
 
 pub use condition::PathCond;

@@ -2,7 +2,5 @@
 #![tactic(auto)]
 
 mod comparison;
-#[cfg(test)]
-mod tests;
 
 pub use comparison::sides;

@@ -10,7 +10,7 @@ use sn_width::SymId;
 pub const WIDEST_PAIR: u8 = 64;
 
 /// The form of a term.
-#[derive(Clone, Copy, Debug, PartialEq, Eq)]
+#[derive(Clone, Copy, PartialEq, Eq)]
 pub enum Shape {
     /// A constant.
     Number,
@@ -34,7 +34,7 @@ impl Shape {
 }
 
 /// The kind of a comparison or a membership.
-#[derive(Clone, Copy, Debug, PartialEq, Eq)]
+#[derive(Clone, Copy, PartialEq, Eq)]
 pub enum AtomKind {
     /// Its truth does not go by the values of symbols: it has constants alone, or one term twice.
     Constant,

@@ -18,7 +18,7 @@ use std::alloc::Global;
 
 /// A formula over the symbols of its terms. In a comparison the two terms, and in a membership
 /// the term and the ranges, have one width.
-#[derive(Debug, Drop)]
+#[derive(Drop)]
 pub enum Formula {
     Truth(bool),
     Compare { rel: Rel, left: Term, right: Term },

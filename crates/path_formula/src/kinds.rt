@@ -11,7 +11,7 @@ use crate::truth::truth_of;
 use sn_width::{SymId, Width};
 
 /// What decides a formula.
-#[derive(Clone, Copy, Debug, PartialEq, Eq)]
+#[derive(Clone, Copy, PartialEq, Eq)]
 pub enum Kind {
     /// Nothing: it has this truth, whatever the values are.
     Constant(bool),

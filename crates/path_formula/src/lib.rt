@@ -9,8 +9,6 @@ pub mod laws;
 mod over;
 mod ranges;
 mod solutions;
-#[cfg(test)]
-mod tests;
 mod truth;
 
 pub use atom::{AtomKind, Shape};

@@ -24,7 +24,7 @@ use sn_width::{NoMemory, Num};
 use std::alloc::{AllocError, Global};
 
 /// What is decided of a condition.
-#[derive(Debug, Drop)]
+#[derive(Drop)]
 pub enum Decided {
     /// These values, one for each symbol, are the least that satisfy every formula that is not outside, and they make the
     /// condition true.

@@ -9,8 +9,6 @@ mod outside;
 mod problem;
 mod solve;
 mod steps;
-#[cfg(test)]
-mod tests;
 mod unknowns;
 mod values;
 

@@ -3,7 +3,7 @@
 use sn_width::SymId;
 
 /// Where a choice of cases comes from.
-#[derive(Clone, Copy, Debug)]
+#[derive(Clone, Copy)]
 pub enum Origin {
     /// The ranges of the symbol's domain.
     Ranges { symbol: SymId },

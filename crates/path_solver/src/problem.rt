@@ -24,7 +24,7 @@ use sn_width::{NoMemory, SymId};
 use std::alloc::Global;
 
 /// Choices of cases, and where each comes from.
-#[derive(Debug, Drop)]
+#[derive(Drop)]
 pub struct Problem {
     pub origins: Vec<Origin>,
     pub choices: Vec<Choice>,

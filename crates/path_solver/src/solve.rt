@@ -19,7 +19,7 @@ use sn_width::{NoMemory, Num, SymId};
 use std::alloc::Global;
 
 /// What the cases of a condition decide.
-#[derive(Debug, Drop)]
+#[derive(Drop)]
 pub enum Solved {
     /// The least values that satisfy every formula that is not outside.
     Values { values: Vec<Num> },

@@ -13,7 +13,7 @@ use sn_width::{NameId, NoMemory};
 use std::alloc::Global;
 
 /// What the patterns of a job answer.
-#[derive(Debug, Drop)]
+#[derive(Drop)]
 pub enum PatternAnswers {
     /// For each pattern, by its index, the ids of the names that it finds, ascending.
     Answered(Vec<Vec<NameId>>),

@@ -11,8 +11,6 @@ mod licence;
 mod list;
 mod outcome;
 mod steps;
-#[cfg(test)]
-mod tests;
 mod values;
 
 pub use checker::check;

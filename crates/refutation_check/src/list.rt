@@ -5,7 +5,7 @@ ghost use Rattle.std.specs.Prelude.{◌≡◌};
 use std::marker::Model;
 
 /// A list, seen as the list of its members.
-#[derive(Debug, Drop)]
+#[derive(Drop)]
 pub struct Listed<T: Drop> {
     members: Vec<T>,
 }

@@ -4,7 +4,7 @@ use crate::list::Listed;
 use sn_width::Num;
 
 /// Why a condition is left undecided.
-#[derive(Debug, Drop)]
+#[derive(Drop)]
 pub enum Cause {
     /// The least values that satisfy every formula that is not outside break the outside formula of this pick.
     Outside { pick: u32, values: Listed<Num> },
@@ -15,7 +15,7 @@ pub enum Cause {
 }
 
 /// What is found of a condition that is not refuted.
-#[derive(Debug, Drop)]
+#[derive(Drop)]
 pub enum Verdict {
     /// These values, one for each symbol, make the condition true.
     Sat { values: Listed<Num> },

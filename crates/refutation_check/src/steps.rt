@@ -5,7 +5,7 @@ use sn_width::SymId;
 
 /// A step of a refutation: why the bounds that are gathered so far cannot be met, or how they are
 /// divided into cases, which the steps that follow refute one after another.
-#[derive(Debug, Drop)]
+#[derive(Drop)]
 pub enum Refute {
     /// No value of the symbol's width meets the formulas of these picks, which are simple on it.
     Empty { symbol: SymId, picks: Listed<u32> },

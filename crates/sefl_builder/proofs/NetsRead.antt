@@ -26,7 +26,7 @@ use Rattle.sefl_builder.specs.Leaves.{key, number, port, word}
 use Rattle.sefl_builder.specs.Terms.{target}
 use Rattle.sefl_builder.specs.Conditions.{cond}
 use Rattle.sefl_builder.specs.Instructions.{blocks}
-use Rattle.sefl_builder.specs.Nets.{side, spot, port_code, goes_port_code, node, table_kind, style, table, body, decl, goes_decl, link, goes_link, tag, goes_tag, field_value, field, goes_field, test, goes_test, injection, place, with_test, reach, target_at, invariant, visible, question, ask, goes_ask, version, heading, net, job}
+use Rattle.sefl_builder.specs.Nets.{side, spot, port_code, goes_port_code, node, table_kind, style, table, body, decl, goes_decl, link, goes_link, tag, goes_tag, field_value, field, goes_field, where_test, goes_test, injection, place, with_test, reach, target_at, invariant, visible, question, ask, goes_ask, version, heading, net, job}
 use Rattle.sefl_builder.proofs.Taking.{Fine, Takes, Steps, TakesMany, done, next, if_so, if_not, takes_key, takes_word, steps_key, key_less, begins, many_none, many_one, takes_all, or_false, or_true, or_first}
 use Rattle.sefl_builder.proofs.LeavesRead.{takes_name, takes_number, takes_text, takes_port, takes_target, key_is_no_number}
 use Rattle.sefl_builder.proofs.ConditionsRead.{stops_at, takes_cond}
@@ -177,11 +177,11 @@ takes_fields (x ∷ xs) b a (m, (m1, is, (m2, tg, (m3, value, semi))), others) s
     next _ _ x.value x m2 m3 m (takes_field_value x.value 0 m2 m3 m value semi f) (λ f. next _ _ tt x m3 m m (takes_key (codes ";") 0 m3 m semi f) (λ f. done x m m refl f)))))
     (λ f. takes_fields xs m a others stop f)
 
-takes_tests : (cs : List CondTree) (b a : List Placed) → grammar.wheres cs 0 b a → goes_test (bare a) ≡ false → Fine b → TakesMany goes_test test cs b a
-unfolding test
-takes_tests [] b a is stop l = many_none goes_test test b a is l stop
+takes_tests : (cs : List CondTree) (b a : List Placed) → grammar.wheres cs 0 b a → goes_test (bare a) ≡ false → Fine b → TakesMany goes_test where_test cs b a
+unfolding where_test
+takes_tests [] b a is stop l = many_none goes_test where_test b a is l stop
 takes_tests (c ∷ cs) b a (m, (m1, is, (m2, inside, semi)), others) stop l =
-    many_one goes_test test c cs b m a (begins (codes "where") (codes "where") true 0 b m1 is refl)
+    many_one goes_test where_test c cs b m a (begins (codes "where") (codes "where") true 0 b m1 is refl)
     (steps_key (codes "where") _ c 0 b m1 m is l (λ f. next _ _ c c m1 m2 m (takes_cond 0 64 m1 m2 inside (stops_at (codes ";") 0 m2 m semi refl refl refl refl) refl f) (λ f.
     next _ _ tt c m2 m m (takes_key (codes ";") 0 m2 m semi f) (λ f. done c m m refl f))))
     (λ f. takes_tests cs m a others stop f)

@@ -111,14 +111,14 @@ goes_field ws = begins_with (codes "field") ws
 abbrev pub fields : Reader (List RawField)
 fields ws = all goes_field field ws
 
-unfoldable pub test : Reader CondTree
-test ws = then' (key (codes "where") ws) (λ _ ws. then' (cond 64 ws) (λ c ws. then' (key (codes ";") ws) (λ _ ws. Some (c, ws))))
+unfoldable pub where_test : Reader CondTree
+where_test ws = then' (key (codes "where") ws) (λ _ ws. then' (cond 64 ws) (λ c ws. then' (key (codes ";") ws) (λ _ ws. Some (c, ws))))
 
 abbrev pub goes_test : List Word → Bool
 goes_test ws = begins_with (codes "where") ws
 
 abbrev pub tests : Reader (List CondTree)
-tests ws = all goes_test test ws
+tests ws = all goes_test where_test ws
 
 unfoldable pub injection : Reader InjectionTree
 injection ws =

@@ -6,7 +6,7 @@ ghost use Rattle.sefl_builder.specs.Instructions.{head_ahead, way_ahead};
 use crate::cursor::Cursor;
 
 /// A word that begins an instruction.
-#[derive(Clone, Copy, Debug, PartialEq, Eq)]
+#[derive(Clone, Copy, PartialEq, Eq)]
 pub(crate) enum Head {
     Allocate,
     Deallocate,

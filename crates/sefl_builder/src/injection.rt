@@ -3,7 +3,7 @@
 ghost use Rattle.std.specs.Prelude.{◌≡◌, map};
 ghost use Rattle.sefl_syntax.specs.Views.{cond_tree, injection_tree};
 ghost use Rattle.sefl_builder.specs.Reading.{Answers};
-ghost use Rattle.sefl_builder.specs.Nets.{field, field_value, fields, injection, tag, tags, test, tests};
+ghost use Rattle.sefl_builder.specs.Nets.{field, field_value, fields, injection, tag, tags, tests, where_test};
 
 use crate::code::MOST_OPEN;
 use crate::cond::read_cond;
@@ -79,9 +79,9 @@ fn read_fields(words: &mut Cursor) -> Result<Vec<RawField>, Misread>
     Ok(found)
 }
 
-#[tactic(auto, unfolding(crate::specs::Nets::test))]
+#[tactic(auto, unfolding(crate::specs::Nets::where_test))]
 fn read_test(words: &mut Cursor) -> Result<Cond, Misread>
-    ensures { Answers cond_tree result words.new (test words.old) }
+    ensures { Answers cond_tree result words.new (where_test words.old) }
 {
     words.key("where")?;
     let test = read_cond(words, MOST_OPEN)?;

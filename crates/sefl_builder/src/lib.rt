@@ -15,8 +15,6 @@ mod misread;
 mod net;
 mod reference;
 mod statement;
-#[cfg(test)]
-mod tests;
 mod version;
 
 pub use building::build;

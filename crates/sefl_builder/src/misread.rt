@@ -7,7 +7,7 @@ use sn_width::NoMemory;
 use std::alloc::{AllocError, AllocFailed};
 
 /// The words are not those of the part, or there was not enough memory.
-#[derive(Clone, Copy, Debug, PartialEq, Eq)]
+#[derive(Clone, Copy, PartialEq, Eq)]
 pub(crate) enum Misread {
     Unexpected,
     NoMemory,

@@ -15,7 +15,7 @@ use sn_width::NoMemory;
 use std::alloc::{AllocError, Global};
 
 /// What the tokens of a text are, by the grammar of job texts.
-#[derive(Clone, Copy, Debug, PartialEq, Eq)]
+#[derive(Clone, Copy, PartialEq, Eq)]
 pub enum Finding {
     /// A job with at most 64 constructs open at once: blocks, brackets, parentheses and `not`s.
     Job,

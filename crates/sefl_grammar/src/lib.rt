@@ -9,8 +9,6 @@ pub mod laws;
 mod stack;
 mod symbol;
 mod table;
-#[cfg(test)]
-mod tests;
 
 pub use examination::{Finding, examine};
 pub use symbol::Symbol;

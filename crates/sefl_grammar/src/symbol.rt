@@ -2,7 +2,7 @@
 
 /// What is to come in a job's text. Each stands for the tokens of a part of it. Those of texts of
 /// version 1, where `retag` has no reading, have names of their own.
-#[derive(Clone, Copy, Debug, PartialEq, Eq)]
+#[derive(Clone, Copy, PartialEq, Eq)]
 pub enum Symbol {
     /// A whole job.
     Start,

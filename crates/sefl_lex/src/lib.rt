@@ -8,8 +8,6 @@ pub mod laws;
 mod lex;
 mod number;
 mod parts;
-#[cfg(test)]
-mod tests;
 mod token;
 
 pub use fault::LexFault;

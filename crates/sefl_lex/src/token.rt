@@ -1,7 +1,7 @@
 //! Tokens of a text.
 
 /// What a token is.
-#[derive(Clone, Copy, Debug, PartialEq, Eq, Hash)]
+#[derive(Clone, Copy, PartialEq, Eq)]
 pub enum TokenKind {
     /// A letter or `_`, then letters, digits and `_`: 64 bytes at most.
     Name,
@@ -13,7 +13,7 @@ pub enum TokenKind {
 }
 
 /// A token: its bytes are those of the text from `start` to before `end`.
-#[derive(Clone, Copy, Debug, PartialEq, Eq, Hash)]
+#[derive(Clone, Copy, PartialEq, Eq)]
 pub struct Token {
     pub kind: TokenKind,
     /// In bytes.

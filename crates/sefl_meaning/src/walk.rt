@@ -14,7 +14,7 @@ pub struct State {
 
 /// What is decided on a walk: the block of an If, the truth of a Constrain, or the copy of a Fork, by
 /// the place of its port in the list, from 0. Decisions stand in this order.
-#[derive(Clone, Copy, Debug, PartialEq, Eq, PartialOrd, Ord)]
+#[derive(Clone, Copy, PartialEq, Eq)]
 pub enum Decision {
     Then,
     Else,
@@ -24,7 +24,7 @@ pub enum Decision {
 }
 
 /// A port of a node.
-#[derive(Clone, Copy, Debug, PartialEq, Eq)]
+#[derive(Clone, Copy, PartialEq, Eq)]
 pub struct Place {
     pub node: NodeId,
     pub side: Side,
@@ -32,7 +32,7 @@ pub struct Place {
 }
 
 /// Why an instruction ends a walk.
-#[derive(Debug, PartialEq, Eq, Drop)]
+#[derive(PartialEq, Eq, Drop)]
 pub enum Failure {
     Layout(LayoutFault),
     /// A Constrain whose condition is false.
@@ -42,7 +42,7 @@ pub enum Failure {
 }
 
 /// How a walk ends.
-#[derive(Debug, PartialEq, Eq, Drop)]
+#[derive(PartialEq, Eq, Drop)]
 pub enum End {
     /// The code of an input port ran off its end.
     Stopped,
@@ -66,7 +66,7 @@ pub struct Walk {
 
 /// One turn of a For: its variable stands for the metadata of that owner, or none for a global, and
 /// name. A list of the turns round an instruction has the innermost last.
-#[derive(Debug, PartialEq, Eq, Drop)]
+#[derive(PartialEq, Eq, Drop)]
 pub struct Turn {
     pub var: Name,
     pub owner: Option<NodeId>,

@@ -4,7 +4,7 @@ use sefl_lex::LexFault;
 
 /// Why bytes are not the text of a job that can be read. Each is given exactly where those before it
 /// are not due. Lines and columns count from 1, columns in bytes; lines end at LF.
-#[derive(Clone, Copy, Debug, PartialEq, Eq)]
+#[derive(Clone, Copy, PartialEq, Eq)]
 pub enum ReadFault {
     /// The bytes are not UTF-8: so many bytes at the front are whole characters.
     NotText { at: u64 },

@@ -4,8 +4,6 @@
 mod fault;
 mod place;
 mod read;
-#[cfg(test)]
-mod tests;
 
 pub use fault::ReadFault;
 pub use place::position;

@@ -10,7 +10,7 @@ use std::alloc::AllocError;
 use std::fmt::Write;
 
 /// A condition. Every comparison and membership test in it is evaluated, from left to right.
-#[derive(Debug, Drop)]
+#[derive(Drop)]
 pub enum Cond {
     True,
     Compare {
@@ -29,7 +29,7 @@ pub enum Cond {
 }
 
 /// How the members of a chain are joined: by `and`, or by `or`.
-#[derive(Clone, Copy, Debug, PartialEq, Eq)]
+#[derive(Clone, Copy, PartialEq, Eq)]
 pub enum Joint {
     All,
     Any,

@@ -11,14 +11,14 @@ use std::fmt;
 use std::fmt::Write;
 
 /// Whether a member of a sum is added or taken away.
-#[derive(Clone, Copy, Debug, PartialEq, Eq)]
+#[derive(Clone, Copy, PartialEq, Eq)]
 pub enum Sign {
     Plus,
     Minus,
 }
 
 /// An expression. Its value wraps at the width of the atom or assignment that it stands in.
-#[derive(Debug, Drop)]
+#[derive(Drop)]
 pub enum Expr {
     Const(Num),
     Read(Target),

@@ -7,7 +7,7 @@ use crate::reference::{Addr, Target};
 use crate::text::Text;
 
 /// An instruction of a port's code.
-#[derive(Debug, Drop)]
+#[derive(Drop)]
 pub enum Instr {
     /// Pushes an unset cell.
     Allocate(Target),

@@ -13,14 +13,14 @@ use sn_width::Num;
 use std::fmt;
 
 /// A field of the injected packet, with its value where that is known.
-#[derive(Debug, PartialEq, Eq, Drop)]
+#[derive(PartialEq, Eq, Drop)]
 pub struct RawField {
     pub target: Target,
     pub value: Option<Num>,
 }
 
 /// The packet that is injected, and the input port that it comes in by.
-#[derive(Debug, Drop)]
+#[derive(Drop)]
 pub struct RawInjection {
     pub node: Name,
     pub port: u32,
@@ -31,7 +31,7 @@ pub struct RawInjection {
 }
 
 /// A port of a node.
-#[derive(Debug, PartialEq, Eq, Drop)]
+#[derive(PartialEq, Eq, Drop)]
 pub struct RawPlace {
     pub side: Side,
     pub node: Name,
@@ -39,7 +39,7 @@ pub struct RawPlace {
 }
 
 /// A question about all walks of the injected packets.
-#[derive(Debug, Drop)]
+#[derive(Drop)]
 pub enum Ask {
     /// Whether some packet comes to the place and meets the test there.
     Reach { place: RawPlace, test: Cond },
@@ -50,7 +50,7 @@ pub enum Ask {
 }
 
 /// A job: what is explored, and what is asked.
-#[derive(Debug, Drop)]
+#[derive(Drop)]
 pub struct Job {
     pub net: RawNet,
     pub injection: RawInjection,

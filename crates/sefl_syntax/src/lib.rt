@@ -12,8 +12,6 @@ mod net;
 mod net_text;
 mod reference;
 mod statement;
-#[cfg(test)]
-mod tests;
 mod text;
 mod thin;
 

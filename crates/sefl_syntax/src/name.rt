@@ -126,12 +126,6 @@ impl fmt::Display for Name {
     }
 }
 
-impl fmt::Debug for Name {
-    fn fmt<W: fmt::Write>(&self, f: &mut fmt::Formatter<W>) -> fmt::Result {
-        fmt::Debug::fmt(&self.text(), f)
-    }
-}
-
 fn is_name_start(byte: u8) -> bool
     ensures { result ≡ is_name_start byte }
 {

@@ -9,14 +9,14 @@ use crate::text::Text;
 use std::fmt;
 
 /// The side of a node that a port is on: packets come in, or go out.
-#[derive(Clone, Copy, Debug, PartialEq, Eq)]
+#[derive(Clone, Copy, PartialEq, Eq)]
 pub enum Side {
     Inward,
     Outward,
 }
 
 /// The code of one port.
-#[derive(Debug, Drop)]
+#[derive(Drop)]
 pub struct PortCode {
     pub side: Side,
     pub port: u32,
@@ -24,7 +24,7 @@ pub struct PortCode {
 }
 
 /// The numbers of a node's ports, and the code of those that have some.
-#[derive(Debug, Drop)]
+#[derive(Drop)]
 pub struct RawNode {
     pub ins: u32,
     pub outs: u32,
@@ -33,7 +33,7 @@ pub struct RawNode {
 
 /// In which form the rows of a table become tests: one for each row, one for each port, or one at
 /// each output port.
-#[derive(Clone, Copy, Debug, PartialEq, Eq)]
+#[derive(Clone, Copy, PartialEq, Eq)]
 pub enum Style {
     Chain,
     Grouped,
@@ -41,14 +41,14 @@ pub enum Style {
 }
 
 /// What a table file lists: Ethernet addresses, or IPv4 prefixes.
-#[derive(Clone, Copy, Debug, PartialEq, Eq)]
+#[derive(Clone, Copy, PartialEq, Eq)]
 pub enum TableKind {
     Mac,
     Fib,
 }
 
 /// What a node is made of: its code, or a table file that is still to be read.
-#[derive(Debug, Drop)]
+#[derive(Drop)]
 pub enum Body {
     Code(RawNode),
     Table {
@@ -59,14 +59,14 @@ pub enum Body {
 }
 
 /// A node with its name.
-#[derive(Debug, Drop)]
+#[derive(Drop)]
 pub struct NodeDecl {
     pub name: Name,
     pub body: Body,
 }
 
 /// A link from an output port to an input port.
-#[derive(Debug, PartialEq, Eq, Drop)]
+#[derive(PartialEq, Eq, Drop)]
 pub struct Link {
     pub from: Name,
     pub from_port: u32,
@@ -75,7 +75,7 @@ pub struct Link {
 }
 
 /// Nodes and links, as a job lists them.
-#[derive(Debug, Drop)]
+#[derive(Drop)]
 pub struct RawNet {
     pub nodes: Vec<NodeDecl>,
     pub links: Vec<Link>,

@@ -8,21 +8,21 @@ use sn_width::Width;
 use std::fmt;
 
 /// Whose metadata a name is: everyone's, or the box's whose code runs.
-#[derive(Clone, Copy, Debug, PartialEq, Eq)]
+#[derive(Clone, Copy, PartialEq, Eq)]
 pub enum Scope {
     Global,
     Local,
 }
 
 /// A bit address: `offset` bits from a tag, or from bit 0 where there is no tag.
-#[derive(Debug, PartialEq, Eq, Drop)]
+#[derive(PartialEq, Eq, Drop)]
 pub struct Addr {
     pub tag: Option<Name>,
     pub offset: i32,
 }
 
 /// A cell of `width` bits.
-#[derive(Debug, PartialEq, Eq, Drop)]
+#[derive(PartialEq, Eq, Drop)]
 pub enum Target {
     /// The header cell that begins at the address.
     Header {

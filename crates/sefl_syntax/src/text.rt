@@ -129,9 +129,3 @@ impl fmt::Display for Text {
         f.write_str(self.text())
     }
 }
-
-impl fmt::Debug for Text {
-    fn fmt<W: fmt::Write>(&self, f: &mut fmt::Formatter<W>) -> fmt::Result {
-        fmt::Debug::fmt(&self.text(), f)
-    }
-}

@@ -10,7 +10,7 @@ use std::alloc::Global;
 use std::fmt;
 
 /// What a block of a thin job's If does: nothing, fail with a message, or forward by port 0.
-#[derive(Debug, PartialEq, Eq, Drop)]
+#[derive(PartialEq, Eq, Drop)]
 pub enum Arm {
     Stop,
     Fail(Text),
@@ -19,7 +19,7 @@ pub enum Arm {
 
 /// A job of one box with one input and one output port, whose input tests one injected field, of
 /// `width` bits at `offset` bits from the tag, against `bound`; the tag stands at bit `base`.
-#[derive(Debug, PartialEq, Eq, Drop)]
+#[derive(PartialEq, Eq, Drop)]
 pub struct Thin {
     pub node: Name,
     pub tag: Name,

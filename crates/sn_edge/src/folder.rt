@@ -6,7 +6,7 @@ ghost use Rattle.sn_edge.specs.Loaded.{IfBytes, OnAbsent, OnTooBig, OnFailed, Is
 use std::alloc::Global;
 
 /// What a load answers.
-#[derive(Debug, Drop)]
+#[derive(Drop)]
 pub enum Loaded {
     /// The whole file.
     Bytes(Vec<u8>),

@@ -15,8 +15,6 @@ mod out_sink;
 mod patterns;
 mod regex_patterns;
 mod sink;
-#[cfg(test)]
-mod tests;
 mod transfer;
 
 pub use dir_folder::DirFolder;

@@ -7,7 +7,7 @@ ghost use Rattle.sn_edge.specs.Found.{OnYes, OnNo, OnBad, IsBadUnlessStopped};
 use std::alloc::Global;
 
 /// Whether a pattern finds a name.
-#[derive(Clone, Copy, Debug, PartialEq, Eq, Hash)]
+#[derive(Clone, Copy, PartialEq, Eq)]
 pub enum Found {
     Yes,
     No,

@@ -109,29 +109,3 @@ fn answer_of(found: Result<bool, AllocError>) -> Found
         Err(_) => Found::NoMemory,
     }
 }
-
-#[cfg(test)]
-mod tests {
-    use super::*;
-
-    #[test]
-    fn a_pattern_is_found_anywhere_and_a_bad_one_is_counted(rt: HostRuntime) {
-        let alloc = rt.alloc();
-        let mut patterns = RegexPatterns::new();
-        for (pattern, name, want) in [
-            ("^opt", "opt1", Found::Yes),
-            ("^opt", "xopt", Found::No),
-            ("opt", "xopt1", Found::Yes),
-            ("(", "xopt", Found::Bad),
-            ("opt", "op", Found::No),
-            ("a{999999999}", "a", Found::Bad),
-        ] {
-            assert_eq!(rt;
-                patterns.find(alloc, pattern, name),
-                want,
-                "{pattern} in {name}"
-            );
-        }
-        assert_eq!(rt; patterns.refusals, 2);
-    }
-}

@@ -5,7 +5,7 @@ ghost use Rattle.sn_edge.specs.Put.{OnAll, OnFailed, OnNoMemory};
 ghost use Rattle.sn_edge.specs.Pieces.{IsPrefix};
 
 /// What a put answers.
-#[derive(Clone, Copy, Debug, PartialEq, Eq, Hash)]
+#[derive(Clone, Copy, PartialEq, Eq)]
 pub enum Put {
     /// The whole piece was taken.
     All,

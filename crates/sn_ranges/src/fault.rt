@@ -7,7 +7,7 @@ use sn_width::{NoMemory, Num, Width};
 use thiserror::Error;
 
 /// Why a list of pairs is no set of values of a width.
-#[derive(Clone, Copy, Debug, PartialEq, Eq, Hash, Error)]
+#[derive(Clone, Copy, Debug, PartialEq, Eq, Error)]
 pub enum RangeFault {
     /// The first number of the pair at `index` is greater than its second.
     #[error("pair {index} is reversed")]

@@ -8,8 +8,6 @@ mod meet;
 mod merge;
 mod ranges;
 mod shift;
-#[cfg(test)]
-mod tests;
 
 pub use fault::RangeFault;
 pub use ranges::Ranges;

@@ -16,7 +16,7 @@ use std::marker::Model;
 
 /// A set of values of a width, as the least list of ranges that holds them: the ranges ascend, and
 /// no two overlap or touch. Each range has both its ends among its members.
-#[derive(Debug, Drop)]
+#[derive(Drop)]
 pub struct Ranges {
     width: Width,
     ranges: Vec<(Num, Num)>,

@@ -4,8 +4,6 @@
 mod branch;
 mod memory;
 mod shared;
-#[cfg(test)]
-mod tests;
 mod tree;
 
 pub use memory::NoMemory;

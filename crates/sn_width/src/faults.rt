@@ -6,7 +6,7 @@ use crate::memory::NoMemory;
 use std::alloc::{AllocError, AllocFailed};
 
 /// A fault of the layout: of tags, header cells and metadata, whichever values they hold.
-#[derive(Clone, Copy, Debug, PartialEq, Eq, Hash)]
+#[derive(Clone, Copy, PartialEq, Eq)]
 pub enum LayoutFault {
     /// The address names a tag that is absent.
     NoTag = 1,
@@ -36,7 +36,7 @@ impl LayoutFault {
 }
 
 /// Why an instruction was refused.
-#[derive(Clone, Copy, Debug, PartialEq, Eq, Hash)]
+#[derive(Clone, Copy, PartialEq, Eq)]
 pub enum StepFault {
     Layout(LayoutFault),
     NoMemory,

@@ -6,8 +6,6 @@ mod ids;
 mod memory;
 mod rel;
 mod steps;
-#[cfg(test)]
-mod tests;
 mod width;
 
 pub use faults::{LayoutFault, StepFault};

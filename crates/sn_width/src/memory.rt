@@ -5,7 +5,7 @@ use std::error::Error;
 use std::fmt;
 
 /// There was not enough memory for the call, which changed nothing.
-#[derive(Clone, Copy, Debug, PartialEq, Eq, Hash)]
+#[derive(Clone, Copy, Debug, PartialEq, Eq)]
 pub struct NoMemory;
 
 impl fmt::Display for NoMemory {

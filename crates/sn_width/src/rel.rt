@@ -6,7 +6,7 @@ use crate::width::Num;
 use std::fmt;
 
 /// A relation between two numbers: `==`, `!=`, `<`, `<=`, `>` or `>=`.
-#[derive(Clone, Copy, Debug, PartialEq, Eq, Hash)]
+#[derive(Clone, Copy, PartialEq, Eq)]
 pub enum Rel {
     Eq,
     Ne,

@@ -11,7 +11,7 @@ pub type Num = u128;
 /// A number of bits from 1 to 128, which contracts see as that number.
 ///
 /// The values of a width `w` are the numbers from 0 to `2^w - 1`.
-#[derive(Clone, Copy, Debug, PartialEq, Eq, PartialOrd, Ord, Hash)]
+#[derive(Clone, Copy, PartialEq, Eq)]
 pub struct Width {
     bits: u8,
 }

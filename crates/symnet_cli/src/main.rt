@@ -1,26 +1,11 @@
 //! The program `symnet`: symbolic execution of SEFL network models.
 #![tactic(auto)]
 
-mod explore;
-mod file;
-mod open;
-mod path;
-mod program;
-mod refusal;
-mod report;
-mod status;
-#[cfg(test)]
-mod tests;
-mod walk;
-mod words;
-mod write;
-
-use crate::program::symnet;
-use crate::status::{Status, status_text};
 use sn_edge::{DirFolder, OutSink, RegexPatterns};
 use std::process::ExitCode;
 use std::rt::{Env, Files};
 use std::{env, io};
+use symnet_program::{Status, status_text, symnet};
 
 /// The words after the program's name.
 fn given_words<R: Env + AllocGlobal>(rt: &R) -> io::Result<Vec<String>> {

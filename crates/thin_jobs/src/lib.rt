@@ -4,8 +4,6 @@
 pub mod laws;
 mod packet;
 mod sides;
-#[cfg(test)]
-mod tests;
 mod thin;
 
 pub use thin::{is_spelled, thin_of};

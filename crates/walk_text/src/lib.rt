@@ -5,8 +5,6 @@ mod cells;
 mod fields;
 mod names;
 mod parts;
-#[cfg(test)]
-mod tests;
 mod walks;
 
 pub use cells::{CellValue, cells_json};

@@ -1,0 +1,268 @@
+//! What the tests build of plain rows: widths, terms, formulas and conditions.
+
+ghost use Rattle.std.specs.Prelude.{◌≡◌, ◌≤◌, IfOk, IsTrue};
+ghost use Rattle.path_formula.specs.Typed.{IsTyped, TermIsTyped};
+ghost use Rattle.path_formula.specs.View.{view as tree_of};
+
+use lin_term::Term;
+use path_cond::PathCond;
+use path_formula::Formula;
+use sn_ranges::Ranges;
+use sn_width::{NoMemory, Num, Rel, SymId, Width};
+use std::alloc::Global;
+use std::test::Fail;
+
+/// A side of a comparison.
+#[derive(Clone, Copy)]
+pub(crate) enum Side {
+    Number(Num),
+    Symbol(u64),
+    /// A symbol plus a number.
+    Plus(u64, Num),
+    /// The sum of two symbols.
+    Both(u64, u64),
+}
+
+/// A formula without parts.
+#[derive(Clone, Copy)]
+pub(crate) enum Atom {
+    Truth(bool),
+    Compare(Side, Rel, Side),
+    /// The side lies between two numbers, or is one of them.
+    Within(Side, Num, Num),
+}
+
+/// The width of so many bits.
+pub(crate) fn bits(count: u8) -> Width
+    requires least { 1 ≤ count }
+    requires most { count ≤ 128 }
+    ensures { result ≡ count }
+{
+    match Width::new(count) {
+        None => unreachable!(),
+        Some(width) => width,
+    }
+}
+
+/// The number, or the width's greatest value where that is less.
+#[tactic(auto, using(std::proofs::lemmas::Nat::pow_pos))]
+fn number(alloc: Global, width: Width, value: Num) -> Result<Term, NoMemory>
+    ensures { IfOk result (λ term. term.width ≡ width) }
+{
+    Term::of_const(alloc, width, value.min(width.max()))
+}
+
+/// The symbol plus a term.
+fn plus(alloc: Global, width: Width, id: u64, other: &Term) -> Result<Term, NoMemory>
+    requires { other.now.width ≡ width }
+    ensures { IfOk result (λ term. term.width ≡ width) }
+{
+    let symbol = Term::of_symbol(alloc, width, SymId(id))?;
+    symbol.plus(alloc, other)
+}
+
+fn plus_number(alloc: Global, width: Width, id: u64, value: Num) -> Result<Term, NoMemory>
+    ensures { IfOk result (λ term. term.width ≡ width) }
+{
+    let number = number(alloc, width, value)?;
+    plus(alloc, width, id, &number)
+}
+
+fn plus_symbol(alloc: Global, width: Width, first: u64, second: u64) -> Result<Term, NoMemory>
+    ensures { IfOk result (λ term. term.width ≡ width) }
+{
+    let symbol = Term::of_symbol(alloc, width, SymId(second))?;
+    plus(alloc, width, first, &symbol)
+}
+
+/// The term of a side.
+pub(crate) fn term(alloc: Global, width: Width, side: Side) -> Result<Term, NoMemory>
+    ensures { IfOk result (λ term. term.width ≡ width) }
+{
+    match side {
+        Side::Number(value) => number(alloc, width, value),
+        Side::Symbol(id) => Term::of_symbol(alloc, width, SymId(id)),
+        Side::Plus(id, value) => plus_number(alloc, width, id, value),
+        Side::Both(first, second) => plus_symbol(alloc, width, first, second),
+    }
+}
+
+fn comparison(
+    alloc: Global,
+    width: Width,
+    left: Side,
+    rel: Rel,
+    right: Side,
+) -> Result<Formula, Fail> {
+    let left = term(alloc, width, left)?;
+    let right = term(alloc, width, right)?;
+    Ok(Formula::Compare { rel, left, right })
+}
+
+fn membership(
+    alloc: Global,
+    width: Width,
+    value: Side,
+    first: Num,
+    last: Num,
+) -> Result<Formula, Fail> {
+    let value = term(alloc, width, value)?;
+    let ranges = Ranges::from_list(alloc, width, &[(first, last)])?;
+    Ok(Formula::Member { value, ranges })
+}
+
+/// The formula of an atom.
+pub(crate) fn formula(alloc: Global, width: Width, atom: Atom) -> Result<Formula, Fail> {
+    match atom {
+        Atom::Truth(truth) => Ok(Formula::Truth(truth)),
+        Atom::Compare(left, rel, right) => comparison(alloc, width, left, rel, right),
+        Atom::Within(value, first, last) => membership(alloc, width, value, first, last),
+    }
+}
+
+/// Whether each symbol of the term, of which there are at most two, is one of the condition's, of the term's width.
+fn is_term_of(cond: &PathCond, term: &Term) -> bool
+    ensures { IsTrue result → TermIsTyped cond.now.widths term.now }
+{
+    for index in 0..3 {
+        match term.part(index) {
+            None => return true,
+            Some((symbol, _)) => {
+                if cond.width(symbol) != Some(term.width()) {
+                    return false;
+                }
+            }
+        }
+    }
+    false
+}
+
+fn is_comparison_of(cond: &PathCond, left: &Term, right: &Term) -> bool
+    ensures same { IsTrue result → left.now.width ≡ right.now.width }
+    ensures left { IsTrue result → TermIsTyped cond.now.widths left.now }
+    ensures right { IsTrue result → TermIsTyped cond.now.widths right.now }
+{
+    if left.width() != right.width() {
+        return false;
+    }
+    if !is_term_of(cond, left) {
+        return false;
+    }
+    is_term_of(cond, right)
+}
+
+fn is_membership_of(cond: &PathCond, value: &Term, ranges: &Ranges) -> bool
+    ensures same { IsTrue result → value.now.width ≡ ranges.now.width }
+    ensures value { IsTrue result → TermIsTyped cond.now.widths value.now }
+{
+    if value.width() != ranges.width() {
+        return false;
+    }
+    is_term_of(cond, value)
+}
+
+/// Whether the formula is a truth, or a comparison or a membership over the condition's symbols.
+pub(crate) fn is_formula_of(cond: &PathCond, formula: &Formula) -> bool
+    ensures { IsTrue result → IsTyped cond.now.widths (tree_of formula.now) }
+{
+    match formula {
+        Formula::Truth(_) => true,
+        Formula::Compare { left, right, .. } => is_comparison_of(cond, left, right),
+        Formula::Member { value, ranges } => is_membership_of(cond, value, ranges),
+        Formula::And(_) => false,
+        Formula::Or(_) => false,
+        Formula::Not(_) => false,
+    }
+}
+
+/// The formula of an atom over the condition's symbols, which have this width.
+pub(crate) fn formula_of(
+    alloc: Global,
+    cond: &PathCond,
+    width: Width,
+    atom: Atom,
+) -> Result<Formula, Fail>
+    ensures { IfOk result (λ f. IsTyped cond.now.widths (tree_of f)) }
+{
+    let formula = formula(alloc, width, atom)?;
+    if !is_formula_of(cond, &formula) {
+        return Err(Fail::from("no formula of the condition"));
+    }
+    Ok(formula)
+}
+
+/// The condition with the formula, which must have this truth.
+pub(crate) fn with_formula(
+    alloc: Global,
+    cond: &PathCond,
+    formula: Formula,
+    holds: bool,
+) -> Result<PathCond, Fail>
+    requires { IsTyped cond.now.widths (tree_of formula) }
+{
+    Ok(cond.with(alloc, formula, holds)?)
+}
+
+/// The condition with the atom, which must have this truth.
+pub(crate) fn with(
+    alloc: Global,
+    cond: &PathCond,
+    width: Width,
+    atom: Atom,
+    holds: bool,
+) -> Result<PathCond, Fail> {
+    let formula = formula_of(alloc, cond, width, atom)?;
+    with_formula(alloc, cond, formula, holds)
+}
+
+/// So many symbols of this width.
+pub(crate) fn free(alloc: Global, width: Width, symbols: usize) -> Result<PathCond, Fail> {
+    Ok(PathCond::new(alloc, vec![in alloc; width; symbols]?)?)
+}
+
+/// So many symbols of this width, and the atoms.
+pub(crate) fn condition(
+    alloc: Global,
+    width: Width,
+    symbols: usize,
+    atoms: &[Atom],
+) -> Result<PathCond, Fail> {
+    let mut cond = free(alloc, width, symbols)?;
+    for atom in atoms {
+        cond = with(alloc, &cond, width, *atom, true)?;
+    }
+    Ok(cond)
+}
+
+/// That the two symbols differ.
+pub(crate) fn differ(first: u64, second: u64) -> Atom {
+    Atom::Compare(Side::Symbol(first), Rel::Ne, Side::Symbol(second))
+}
+
+/// Thirteen pairs of symbols of 8 bits that differ.
+pub(crate) fn thirteen_pairs(alloc: Global) -> Result<PathCond, Fail> {
+    let mut cond = free(alloc, bits(8), 26)?;
+    for pair in 0..13u64 {
+        let atom = differ(2 * pair, 2 * pair + 1);
+        cond = with(alloc, &cond, bits(8), atom, true)?;
+    }
+    Ok(cond)
+}
+
+/// A symbol of 8 bits that differs from each of 64 others.
+pub(crate) fn one_against_all(alloc: Global) -> Result<PathCond, Fail> {
+    let mut cond = free(alloc, bits(8), 65)?;
+    for other in 1..65u64 {
+        cond = with(alloc, &cond, bits(8), differ(0, other), true)?;
+    }
+    Ok(cond)
+}
+
+/// Whether the set's ranges are these.
+pub(crate) fn shows(set: &Ranges, ranges: &[(Num, Num)]) -> bool {
+    set.len() == ranges.len()
+        && ranges
+            .iter()
+            .enumerate()
+            .all(|(index, range)| set.range(index) == Some(*range))
+}

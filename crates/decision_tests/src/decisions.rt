@@ -1,0 +1,283 @@
+//! Decisions of conditions.
+
+ghost use Rattle.std.specs.Prelude.{◌<◌};
+
+mod small;
+
+use crate::build::Atom::*;
+use crate::build::Side::*;
+use crate::build::{Atom, bits, condition, differ, free, one_against_all, thirteen_pairs, with};
+use Wanted::{Cases, Coupled, Met, Outside, Refuted};
+use interval_solver::Domains;
+use path_cond::PathCond;
+use path_solver::{Decided, decide};
+use refutation_check::{Cause, check};
+use sn_width::{NoMemory, Num, Rel};
+use std::alloc::Global;
+use std::process::Abort;
+use std::test::Fail;
+
+/// What a decision is to be.
+#[derive(Clone, Copy)]
+pub(crate) enum Wanted<'a> {
+    /// Met by these values.
+    Met(&'a [Num]),
+    /// Refuted, by steps that are accepted.
+    Refuted,
+    /// Left undecided by the formula of the pick, at these values.
+    Outside(u32, &'a [Num]),
+    /// Left undecided by so many coupled symbols.
+    Coupled(u64),
+    /// Left undecided by so many choices.
+    Cases(u64),
+}
+
+fn decided(alloc: Global, cond: &PathCond) -> Result<Decided, NoMemory> {
+    let domains = Domains::of(alloc, cond)?;
+    decide(alloc, cond, &domains)
+}
+
+fn is_cause(cause: &Cause, wanted: Wanted<'_>) -> bool {
+    match (cause, wanted) {
+        (Cause::Outside { pick, values }, Outside(place, numbers)) => {
+            *pick == place && values.as_slice() == numbers
+        }
+        (Cause::Coupled { count }, Coupled(number)) => *count == number,
+        (Cause::Cases { count }, Cases(number)) => *count == number,
+        _ => false,
+    }
+}
+
+fn is_met(values: &[Num], wanted: Wanted<'_>) -> bool {
+    match wanted {
+        Met(numbers) => values == numbers,
+        _ => false,
+    }
+}
+
+fn is_refuted(wanted: Wanted<'_>) -> bool {
+    match wanted {
+        Refuted => true,
+        _ => false,
+    }
+}
+
+/// Whether the condition is decided so.
+fn is_decided(alloc: Global, cond: &PathCond, wanted: Wanted<'_>) -> Result<bool, NoMemory> {
+    match decided(alloc, cond)? {
+        Decided::Sat { values } => Ok(is_met(values.as_slice(), wanted)),
+        Decided::Unsat { refutation } => {
+            if !is_refuted(wanted) {
+                return Ok(false);
+            }
+            check(alloc, &refutation, cond)
+        }
+        Decided::Undecided { cause } => Ok(is_cause(&cause, wanted)),
+    }
+}
+
+/// A condition over symbols of a width, and what is decided of it.
+struct Row {
+    bits: u8,
+    symbols: usize,
+    atoms: &'static [Atom],
+    decision: Wanted<'static>,
+}
+
+/// `x < 5`, on symbol 0.
+const LOW: Atom = Compare(Symbol(0), Rel::Lt, Number(5));
+
+/// `x != y`.
+const APART: Atom = Compare(Symbol(0), Rel::Ne, Symbol(1));
+
+/// `x < y`.
+const LESS: Atom = Compare(Symbol(0), Rel::Lt, Symbol(1));
+
+/// `x == y`.
+const EQUAL: Atom = Compare(Symbol(0), Rel::Eq, Symbol(1));
+
+const ORDERS: &[Row] = &[
+    Row {
+        bits: 32,
+        symbols: 2,
+        atoms: &[LESS],
+        decision: Met(&[0, 1]),
+    },
+    Row {
+        bits: 32,
+        symbols: 2,
+        atoms: &[LESS, Compare(Symbol(1), Rel::Lt, Symbol(0))],
+        decision: Refuted,
+    },
+    // simple formulas come first
+    Row {
+        bits: 8,
+        symbols: 2,
+        atoms: &[LOW, Compare(Symbol(0), Rel::Gt, Number(9))],
+        decision: Refuted,
+    },
+    Row {
+        bits: 8,
+        symbols: 2,
+        atoms: &[LOW, APART],
+        decision: Met(&[0, 1]),
+    },
+    Row {
+        bits: 8,
+        symbols: 2,
+        atoms: &[LOW, APART, Compare(Symbol(0), Rel::Gt, Number(2))],
+        decision: Met(&[3, 0]),
+    },
+    // sums wrap
+    Row {
+        bits: 8,
+        symbols: 1,
+        atoms: &[Compare(Plus(0, 1), Rel::Lt, Symbol(0))],
+        decision: Met(&[255]),
+    },
+];
+
+/// `x + y == 5`.
+const FIVE: Atom = Compare(Both(0, 1), Rel::Eq, Number(5));
+
+const HIGH: Num = 1 << 127;
+
+const FIRST_HIGH: Atom = Compare(Symbol(0), Rel::Eq, Number(HIGH));
+
+const SECOND_HIGH: Atom = Compare(Symbol(1), Rel::Eq, Number(HIGH));
+
+const OUTSIDE: &[Row] = &[
+    // sums of two
+    Row {
+        bits: 8,
+        symbols: 2,
+        atoms: &[FIVE],
+        decision: Outside(0, &[0, 0]),
+    },
+    Row {
+        bits: 8,
+        symbols: 2,
+        atoms: &[FIVE, Compare(Both(0, 1), Rel::Eq, Number(6))],
+        decision: Outside(0, &[0, 0]),
+    },
+    // wide pairs
+    Row {
+        bits: 128,
+        symbols: 2,
+        atoms: &[EQUAL],
+        decision: Met(&[0, 0]),
+    },
+    Row {
+        bits: 128,
+        symbols: 2,
+        atoms: &[Compare(Symbol(0), Rel::Ge, Number(7)), EQUAL],
+        decision: Outside(1, &[7, 0]),
+    },
+    // wide pairs whose values are fixed
+    Row {
+        bits: 128,
+        symbols: 2,
+        atoms: &[FIRST_HIGH, SECOND_HIGH, EQUAL],
+        decision: Met(&[HIGH, HIGH]),
+    },
+    Row {
+        bits: 128,
+        symbols: 2,
+        atoms: &[FIRST_HIGH, SECOND_HIGH, APART],
+        decision: Outside(2, &[HIGH, HIGH]),
+    },
+];
+
+/// Asserts the decision of a condition.
+pub(crate) fn check_decision<R: Abort + AllocGlobal>(
+    rt: &R,
+    cond: &PathCond,
+    wanted: Wanted<'_>,
+) -> Result<(), Fail> {
+    let is_right = is_decided(rt.alloc(), cond, wanted)?;
+    assert!(rt; is_right);
+    Ok(())
+}
+
+fn check_row<R: Abort + AllocGlobal>(rt: &R, row: &Row) -> Result<(), Fail> {
+    assert!(rt; 1 <= row.bits && row.bits <= 128);
+    let cond = condition(rt.alloc(), bits(row.bits), row.symbols, row.atoms)?;
+    check_decision(rt, &cond, row.decision)
+}
+
+fn check_rows<R: Abort + AllocGlobal>(rt: &R, rows: &[Row]) -> Result<(), Fail> {
+    for row in rows {
+        check_row(rt, row)?;
+    }
+    Ok(())
+}
+
+#[test]
+fn orders_are_met_or_refuted(rt: HostRuntime) -> Result<(), Fail> {
+    check_rows(&rt, ORDERS)
+}
+
+#[test]
+fn sums_of_two_and_wide_pairs_are_outside(rt: HostRuntime) -> Result<(), Fail> {
+    check_rows(&rt, OUTSIDE)
+}
+
+#[test]
+fn too_many_choices(rt: HostRuntime) -> Result<(), Fail> {
+    let pairs = thirteen_pairs(rt.alloc())?;
+    check_decision(&rt, &pairs, Cases(8192))
+}
+
+#[test]
+fn too_many_coupled_symbols(rt: HostRuntime) -> Result<(), Fail> {
+    let star = one_against_all(rt.alloc())?;
+    check_decision(&rt, &star, Coupled(65))
+}
+
+fn with_next(alloc: Global, cond: &PathCond, step: u64, symbols: u64) -> Result<PathCond, Fail>
+    requires { 0 < symbols }
+{
+    let atom = differ(step % symbols, step.wrapping_add(1) % symbols);
+    with(alloc, cond, bits(8), atom, true)
+}
+
+/// Twelve formulas that two of so many symbols of 8 bits are unequal, the first of them in a circle.
+fn circles(alloc: Global, symbols: u64) -> Result<PathCond, Fail>
+    requires { 0 < symbols }
+{
+    let mut cond = free(alloc, bits(8), symbols as usize)?;
+    for step in 0..12u64 {
+        cond = with_next(alloc, &cond, step, symbols)?;
+    }
+    Ok(cond)
+}
+
+fn with_bit(alloc: Global, cond: &PathCond, id: u64) -> Result<PathCond, Fail> {
+    let low = Compare(Symbol(id), Rel::Le, Number(1));
+    with(alloc, cond, bits(8), low, true)
+}
+
+/// The same, with each symbol at most 1.
+fn circles_of_bits(alloc: Global, symbols: u64) -> Result<PathCond, Fail>
+    requires { 0 < symbols }
+{
+    let mut cond = circles(alloc, symbols)?;
+    for id in 0..symbols {
+        cond = with_bit(alloc, &cond, id)?;
+    }
+    Ok(cond)
+}
+
+const ALTERNATING: Wanted<'static> = Met(&[0, 1, 0, 1, 0, 1, 0, 1, 0, 1]);
+
+#[test]
+fn choices_over_ten_symbols_by_the_thousand(rt: HostRuntime) -> Result<(), Fail> {
+    let ten = circles(rt.alloc(), 10)?;
+    check_decision(&rt, &ten, ALTERNATING)
+}
+
+#[test]
+fn choices_over_nine_bits_are_refuted(rt: HostRuntime) -> Result<(), Fail> {
+    let nine = circles_of_bits(rt.alloc(), 9)?;
+    check_decision(&rt, &nine, Refuted)
+}

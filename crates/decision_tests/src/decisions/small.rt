@@ -1,0 +1,296 @@
+//! Conditions over two symbols of 2 bits, compared with plain evaluation at all sixteen pairs of values.
+
+ghost use Rattle.std.specs.Prelude.{◌≡◌, ℕ, List, IfOk};
+ghost use Rattle.path_formula.specs.Typed.{IsTyped};
+ghost use Rattle.path_formula.specs.View.{view as tree_of};
+
+use super::decided;
+use crate::build::Atom::*;
+use crate::build::Side::*;
+use crate::build::{Atom, Side, bits, formula_of, free, with, with_formula};
+use crate::plain::is_true;
+use path_cond::PathCond;
+use path_formula::Formula;
+use path_solver::Decided;
+use refutation_check::check;
+use sn_width::{NoMemory, Num, Rel};
+use std::alloc::{AllocError, Global};
+use std::process::Abort;
+use std::test::Fail;
+
+/// Each relation of each of these sides.
+fn atoms_of(alloc: Global, all: &[(Side, Side)]) -> Result<Vec<Atom>, AllocError> {
+    let mut atoms = Vec::new(alloc);
+    for (left, right) in all {
+        for rel in [Rel::Eq, Rel::Ne, Rel::Lt, Rel::Le, Rel::Gt, Rel::Ge] {
+            atoms.push(Compare(*left, rel, *right))?;
+        }
+    }
+    Ok(atoms)
+}
+
+/// The values of the two symbols.
+type Point = [Num; 2];
+
+fn is_true_at(atom: Atom, at: Point) -> bool {
+    is_true(atom, &at, 3)
+}
+
+/// How many conditions were met, and how many refuted.
+#[derive(Drop)]
+struct Tally {
+    met: u32,
+    refuted: u32,
+}
+
+/// Counts the decision, and asserts that it is that of these least values, or of none.
+fn count<R: Abort + AllocGlobal>(
+    rt: &R,
+    cond: &PathCond,
+    least: Option<Point>,
+    tally: &mut Tally,
+) -> Result<(), Fail> {
+    match decided(rt.alloc(), cond)? {
+        Decided::Sat { values } => {
+            tally.met = tally.met.wrapping_add(1);
+            assert!(rt; is_point(values.as_slice(), least));
+        }
+        Decided::Unsat { refutation } => {
+            tally.refuted = tally.refuted.wrapping_add(1);
+            let is_accepted = check(rt.alloc(), &refutation, cond)?;
+            assert!(rt; least.is_none() && is_accepted);
+        }
+        Decided::Undecided { .. } => panic!(rt; "undecided"),
+    }
+    Ok(())
+}
+
+fn is_point(values: &[Num], point: Option<Point>) -> bool {
+    match point {
+        None => false,
+        Some(at) => values == at.as_slice(),
+    }
+}
+
+/// The values of a number below 16, in the order of words.
+fn point_of(number: u8) -> Point {
+    [Num::from(number / 4), Num::from(number % 4)]
+}
+
+/// The least values at which each of the atoms is true.
+fn least_of_all(atoms: &[Atom]) -> Option<Point> {
+    for number in 0..16u8 {
+        let at = point_of(number);
+        if atoms.iter().all(|atom| is_true_at(*atom, at)) {
+            return Some(at);
+        }
+    }
+    None
+}
+
+/// The condition with an atom of 2 bits.
+fn with_atom(alloc: Global, cond: &PathCond, atom: Atom) -> Result<PathCond, Fail> {
+    with(alloc, cond, bits(2), atom, true)
+}
+
+/// Asserts the decision of the condition with the last of three atoms.
+fn check_third<R: Abort + AllocGlobal>(
+    rt: &R,
+    cond: &PathCond,
+    atoms: [Atom; 3],
+    tally: &mut Tally,
+) -> Result<(), Fail> {
+    let all = with_atom(rt.alloc(), cond, atoms[2])?;
+    count(rt, &all, least_of_all(&atoms), tally)
+}
+
+/// Asserts the decision of the condition of these two atoms, and with each of the third ones.
+fn check_thirds<R: Abort + AllocGlobal>(
+    rt: &R,
+    cond: &PathCond,
+    two: [Atom; 2],
+    thirds: &[Atom],
+    tally: &mut Tally,
+) -> Result<(), Fail> {
+    count(rt, cond, least_of_all(&two), tally)?;
+    for third in thirds {
+        check_third(rt, cond, [two[0], two[1], *third], tally)?;
+    }
+    Ok(())
+}
+
+/// Asserts the decisions of the condition with the first of the rest, and with one or two of them.
+fn check_second<R: Abort + AllocGlobal>(
+    rt: &R,
+    cond: &PathCond,
+    first: Atom,
+    rest: &[Atom],
+    tally: &mut Tally,
+) -> Result<(), Fail> {
+    match rest {
+        [] => Ok(()),
+        [second, ..] => {
+            let two = with_atom(rt.alloc(), cond, *second)?;
+            check_thirds(rt, &two, [first, *second], rest, tally)
+        }
+    }
+}
+
+/// Asserts the decision of the condition of this atom, and with each one or two of the others.
+fn check_others<R: Abort + AllocGlobal>(
+    rt: &R,
+    cond: &PathCond,
+    first: Atom,
+    others: &[Atom],
+    tally: &mut Tally,
+) -> Result<(), Fail> {
+    count(rt, cond, least_of_all(&[first]), tally)?;
+    for index in 0..others.len() {
+        check_second(rt, cond, first, &others[index..], tally)?;
+    }
+    Ok(())
+}
+
+/// Asserts the decisions of the conditions of the first of the rest, and with one or two of them.
+fn check_first<R: Abort + AllocGlobal>(
+    rt: &R,
+    free: &PathCond,
+    rest: &[Atom],
+    tally: &mut Tally,
+) -> Result<(), Fail> {
+    match rest {
+        [] => Ok(()),
+        [first, ..] => {
+            let one = with_atom(rt.alloc(), free, *first)?;
+            check_others(rt, &one, *first, rest, tally)
+        }
+    }
+}
+
+/// Asserts the decision of each condition of one, two or three of the atoms.
+fn check_all<R: Abort + AllocGlobal>(
+    rt: &R,
+    free: &PathCond,
+    atoms: &[Atom],
+    tally: &mut Tally,
+) -> Result<(), Fail> {
+    for index in 0..atoms.len() {
+        check_first(rt, free, &atoms[index..], tally)?;
+    }
+    Ok(())
+}
+
+const FIVE: &[(Side, Side)] = &[
+    (Symbol(0), Symbol(1)),
+    (Plus(0, 3), Plus(1, 2)),
+    (Plus(0, 1), Symbol(0)),
+    (Plus(0, 2), Number(1)),
+    (Symbol(1), Number(2)),
+];
+
+#[test]
+fn each_condition_of_up_to_three_of_thirty_atoms(rt: HostRuntime) -> Result<(), Fail> {
+    let atoms = atoms_of(rt.alloc(), FIVE)?;
+    let free = free(rt.alloc(), bits(2), 2)?;
+    let mut tally = Tally { met: 0, refuted: 0 };
+    check_all(&rt, &free, atoms.as_slice(), &mut tally)?;
+    assert_eq!(rt; (tally.met, tally.refuted), (3_632, 1_823));
+    Ok(())
+}
+
+fn negated(alloc: Global, part: Formula) -> Result<Formula, NoMemory>
+    ensures { IfOk result (λ f. (widths : List ℕ) → IsTyped widths (tree_of part) → IsTyped widths (tree_of f)) }
+{
+    Ok(Formula::Not(Box::new(alloc, part)?))
+}
+
+fn both(alloc: Global, first: Formula, second: Formula) -> Result<Formula, NoMemory>
+    ensures { IfOk result (λ f. (widths : List ℕ) → IsTyped widths (tree_of first)
+        → IsTyped widths (tree_of second) → IsTyped widths (tree_of f)) }
+{
+    Ok(Formula::And(vec![in alloc; first, second]?))
+}
+
+fn either(alloc: Global, first: Formula, second: Formula) -> Result<Formula, NoMemory>
+    ensures { IfOk result (λ f. (widths : List ℕ) → IsTyped widths (tree_of first)
+        → IsTyped widths (tree_of second) → IsTyped widths (tree_of f)) }
+{
+    Ok(Formula::Or(vec![in alloc; first, second]?))
+}
+
+/// The second atom and not the third.
+fn inner(alloc: Global, free: &PathCond, atoms: [Atom; 3]) -> Result<Formula, Fail>
+    ensures { IfOk result (λ f. IsTyped free.now.widths (tree_of f)) }
+{
+    let second = formula_of(alloc, free, bits(2), atoms[1])?;
+    let third = formula_of(alloc, free, bits(2), atoms[2])?;
+    Ok(both(alloc, second, negated(alloc, third)?)?)
+}
+
+/// The condition of one formula: the first atom, or the second and not the third.
+fn of_compound(
+    alloc: Global,
+    free: &PathCond,
+    atoms: [Atom; 3],
+    holds: bool,
+) -> Result<PathCond, Fail> {
+    let first = formula_of(alloc, free, bits(2), atoms[0])?;
+    let inner = inner(alloc, free, atoms)?;
+    let formula = either(alloc, first, inner)?;
+    with_formula(alloc, free, formula, holds)
+}
+
+/// The least values at which this formula has the truth.
+fn least_of_compound(atoms: [Atom; 3], holds: bool) -> Option<Point> {
+    for number in 0..16u8 {
+        let at = point_of(number);
+        let inner = is_true_at(atoms[1], at) && !is_true_at(atoms[2], at);
+        if (is_true_at(atoms[0], at) || inner) == holds {
+            return Some(at);
+        }
+    }
+    None
+}
+
+/// Asserts the decision of the condition of such a formula.
+fn check_compound<R: Abort + AllocGlobal>(
+    rt: &R,
+    free: &PathCond,
+    atoms: [Atom; 3],
+    holds: bool,
+    tally: &mut Tally,
+) -> Result<(), Fail> {
+    let cond = of_compound(rt.alloc(), free, atoms, holds)?;
+    count(rt, &cond, least_of_compound(atoms, holds), tally)
+}
+
+/// Asserts the decisions of the conditions of such formulas of any three of the atoms.
+fn check_compounds<R: Abort + AllocGlobal>(
+    rt: &R,
+    free: &PathCond,
+    atoms: &[Atom],
+    tally: &mut Tally,
+) -> Result<(), Fail> {
+    for first in atoms {
+        for second in atoms {
+            for third in atoms {
+                let all = [*first, *second, *third];
+                check_compound(rt, free, all, true, tally)?;
+                check_compound(rt, free, all, false, tally)?;
+            }
+        }
+    }
+    Ok(())
+}
+
+const TWO: &[(Side, Side)] = &[(Plus(0, 3), Plus(1, 2)), (Plus(1, 2), Number(1))];
+
+#[test]
+fn or_and_not_of_three_of_twelve_atoms(rt: HostRuntime) -> Result<(), Fail> {
+    let atoms = atoms_of(rt.alloc(), TWO)?;
+    let free = free(rt.alloc(), bits(2), 2)?;
+    let mut tally = Tally { met: 0, refuted: 0 };
+    check_compounds(&rt, &free, atoms.as_slice(), &mut tally)?;
+    assert_eq!(rt; (tally.met, tally.refuted), (3_382, 74));
+    Ok(())
+}

@@ -1,0 +1,27 @@
+//! Tests of sets, terms, formulas, conditions and decisions.
+#![tactic(auto)]
+
+#[cfg(test)]
+mod build;
+#[cfg(test)]
+mod cases;
+#[cfg(test)]
+mod conditions;
+#[cfg(test)]
+mod counts;
+#[cfg(test)]
+mod decisions;
+#[cfg(test)]
+mod formulas;
+#[cfg(test)]
+mod intervals;
+#[cfg(test)]
+mod plain;
+#[cfg(test)]
+mod ranges;
+#[cfg(test)]
+mod refutations;
+#[cfg(test)]
+mod terms;
+#[cfg(test)]
+mod widths;

@@ -1,4 +1,0 @@
-mod build;
-mod limits;
-mod rules;
-mod sites;

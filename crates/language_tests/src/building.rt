@@ -1,0 +1,114 @@
+//! What texts are made into.
+
+use crate::jobs::{joined, repeated};
+use sefl_builder::build;
+use sefl_lex::tokens;
+use sefl_syntax::{Job, print_job};
+use std::alloc::AllocGlobal;
+use std::process::Abort;
+
+/// A job in the first version of the text.
+const OLD: &str = "symnet 1; node in 1 -> 0x2 { in 0 { tag L3 = -5; untag L3; set head L3-4:8 = (1 +
+(global g:8)) - 2; if [not true] and $x:8 in {1..2, 3, 7..0} or [1 != 2 or true] { noop; { } } else {
+fork; fork 0, 1; } } out 0 { } } link in.0 -> in.1; inject in.0 { tag L3 = 5; field global g:8; field
+head 3:8 = 0x7; where true; } ask reach in in.0; ask invariant local l:1 at out a.1;";
+
+/// The same job in the second version.
+const OLD_AS_NEW: &str = "symnet 2;
+node in 1 -> 2 {
+  in 0 {
+    retag L3 = -5;
+    untag L3;
+    set head L3-4:8 = (1 + global g:8) - 2;
+    if not true and $x:8 in {1..2, 3, 7..0} or [1 != 2 or true] {
+      noop;
+      {
+      }
+    } else {
+      fork;
+      fork 0, 1;
+    }
+  }
+  out 0 {
+  }
+}
+link in.0 -> in.1;
+inject in.0 {
+  tag L3 = 5;
+  field global g:8;
+  field head 3:8 = 7;
+  where true;
+}
+ask reach in in.0;
+ask invariant local l:1 at out a.1;
+";
+
+/// A canonical text of the second version.
+const NEW: &str = "symnet 2;
+node set = mac \"set.mac\" egress;
+node f = fib \"f\" chain;
+node g = fib \"\" grouped;
+node b 0 -> 0 {
+  in 0 {
+    retag head = any+1;
+    tag not = 0;
+    allocate head -1:8;
+    deallocate local m:8;
+    set $v:8 = any;
+    set $v:8 = 1 - 2 + head true+0:128 - (3 + 4);
+    constrain 1 + 2 <= 3 and [$v:8 > 4 and 5 >= 6] and 7 < 8;
+    constrain not [not 1 == 2 or 3 != 4];
+    fail \"dead\";
+    for o in \"^opt\" {
+      forward 1;
+    }
+  }
+}
+inject b.0 {
+  field head L3+4:8;
+}
+ask visible head 0:8 at in b.0;
+ask reach out b.0 with 1 == 1;
+";
+
+/// The job that is made of a text, where one is.
+fn built(rt: &(impl Abort + AllocGlobal), text: &str) -> Option<Job> {
+    let found = tokens(rt.alloc(), text).expect(rt, "tokens");
+    build(rt.alloc(), text, &found).expect(rt, "memory")
+}
+
+/// Checks that a job is made of the text, with this text in the second version.
+fn check_printed(rt: &(impl Abort + AllocGlobal), text: &str, canonical: &str) {
+    let job = built(rt, text).expect(rt, "a job");
+    let printed = print_job(rt.alloc(), &job).expect(rt, "memory");
+    assert_eq!(rt; printed.as_str(), canonical);
+}
+
+#[test]
+fn jobs_are_made_of_their_texts(rt: HostRuntime) {
+    for (text, canonical) in [(OLD, OLD_AS_NEW), (OLD_AS_NEW, OLD_AS_NEW), (NEW, NEW)] {
+        check_printed(&rt, text, canonical);
+    }
+}
+
+/// A job with a test within so many parentheses.
+fn nested(rt: &(impl Abort + AllocGlobal), count: u32) -> String {
+    let (open, close) = (repeated(rt, "(", count), repeated(rt, ")", count));
+    let front = "symnet 2; inject a.0 { where ";
+    joined(rt, &[front, open.as_str(), "1", close.as_str(), " == 1; }"])
+}
+
+#[test]
+fn parentheses_nest_to_64(rt: HostRuntime) {
+    let canonical = "symnet 2;\ninject a.0 {\n  where 1 == 1;\n}\n";
+    check_printed(&rt, nested(&rt, 64).as_str(), canonical);
+    assert!(rt; built(&rt, nested(&rt, 65).as_str()).is_none());
+}
+
+#[test]
+fn a_long_job_is_made_in_one_pass(rt: HostRuntime) {
+    let asks = repeated(&rt, " ask reach in a.0 with 1 in {1, 2};", 20_000);
+    let text = joined(&rt, &["symnet 2; inject a.0 { }", asks.as_str()]);
+    let job = built(&rt, text.as_str()).expect(&rt, "a job");
+    assert_eq!(rt; job.asks.len(), 20_000);
+}

@@ -1,0 +1,33 @@
+//! Tests of what stands outside, of the language and of acceptance.
+#![tactic(auto)]
+
+#[cfg(test)]
+mod acceptance;
+#[cfg(test)]
+mod building;
+#[cfg(test)]
+mod disk;
+#[cfg(test)]
+mod grammar;
+#[cfg(test)]
+mod jobs;
+#[cfg(test)]
+mod lexing;
+#[cfg(test)]
+mod names;
+#[cfg(test)]
+mod outside;
+#[cfg(test)]
+mod packets;
+#[cfg(test)]
+mod patterns;
+#[cfg(test)]
+mod reading;
+#[cfg(test)]
+mod rules;
+#[cfg(test)]
+mod syntax;
+#[cfg(test)]
+mod tables;
+#[cfg(test)]
+mod thin;

@@ -1,6 +1,0 @@
-use Rattle.std.proofs.Common.{drop}
-use Rattle.path_formula.specs.Typed.{PartsAreTyped}
-use Rattle.path_solver.proofs.tests.is_term_of.Given as goal
-
-abbrev pub invariant-loop-index : goal.invariant-loop-index
-invariant-loop-index l = PartsAreTyped l.cond.widths l.term.width (drop l.index l.term.parts) → PartsAreTyped l.cond.widths l.term.width l.term.parts

@@ -1,0 +1,85 @@
+//! Runs worked rows of the program `symnet`, from the tables that the words name.
+#![tactic(auto)]
+
+mod compare;
+mod flaw;
+mod line;
+mod piece;
+mod row;
+mod run;
+mod table;
+
+use compare::differences;
+use row::Row;
+use run::run_given;
+use std::process::ExitCode;
+use std::rt::Files;
+use std::{env, fs, io};
+use table::read_table;
+
+/// Runs a row, and prints what differs. Whether nothing does.
+fn run_row<R: Print + AllocGlobal>(rt: &R, table: &str, row: Row) -> io::Result<bool> {
+    let alloc = rt.alloc();
+    let Row {
+        name,
+        line,
+        given,
+        wanted,
+    } = row;
+    let came = run_given(alloc, given)?;
+    if wanted.is_same(&came) {
+        return Ok(true);
+    }
+    for difference in &differences(alloc, &wanted, &came)? {
+        println!(rt; "{table}:{line}: {name}: {difference}")?;
+    }
+    Ok(false)
+}
+
+/// Runs all rows of a table, and prints how many there are. Whether each ended as wanted.
+fn run_rows<R: Print + AllocGlobal>(rt: &R, table: &str, rows: Vec<Row>) -> io::Result<bool> {
+    let count = rows.len();
+    let mut agrees = true;
+    for row in rows {
+        agrees &= run_row(rt, table, row)?;
+    }
+    println!(rt; "{table}: {count} rows")?;
+    Ok(agrees)
+}
+
+/// Runs the table in a file.
+fn run_table<R: Files + Print + AllocGlobal>(rt: &R, table: &str) -> io::Result<bool> {
+    let Ok(bytes) = fs::read(rt, table) else {
+        println!(rt; "{table}: the file cannot be read")?;
+        return Ok(false);
+    };
+    match read_table(rt.alloc(), &bytes) {
+        Ok(rows) => run_rows(rt, table, rows),
+        Err(fault) => {
+            println!(rt; "{table}:{}: {}", fault.line, fault.flaw.text())?;
+            Ok(false)
+        }
+    }
+}
+
+/// Runs the tables in files of these names, of which there is one at least.
+fn run_tables<R: Files + Print + AllocGlobal>(rt: &R, tables: &[String]) -> io::Result<bool> {
+    if tables.is_empty() {
+        println!(rt; "no table is named")?;
+        return Ok(false);
+    }
+    let mut agrees = true;
+    for table in tables {
+        agrees &= run_table(rt, table.as_str())?;
+    }
+    Ok(agrees)
+}
+
+fn main(rt: HostRuntime) -> io::Result<ExitCode> {
+    let tables: Vec<String> = env::args(&rt)?.skip(1).collect(rt.alloc())?;
+    if run_tables(&rt, &tables)? {
+        Ok(ExitCode::SUCCESS)
+    } else {
+        Ok(ExitCode::FAILURE)
+    }
+}

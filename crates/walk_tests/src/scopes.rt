@@ -1,0 +1,156 @@
+//! Metadata, global and local.
+
+use crate::cells::{Act, Answer, answered, values_are, width_of};
+use metadata_scopes::{Scopes, laws};
+use sn_width::{LayoutFault, NameId, NodeId, Num, Width};
+use std::alloc::Global;
+use std::process::Abort;
+
+/// What is done with metadata, by its owner and its name, at as many bits, and its answer.
+pub type Row = (Act, Option<NodeId>, NameId, u8, Answer);
+
+const ROUTER: NodeId = NodeId(0);
+
+const SWITCH: NodeId = NodeId(1);
+
+const COLOR: NameId = NameId(0);
+
+const PRICE: NameId = NameId(1);
+
+const VLAN: NameId = NameId(2);
+
+fn answer(
+    rt: &impl Abort,
+    alloc: Global,
+    scopes: &mut Scopes<Num>,
+    act: Act,
+    owner: Option<NodeId>,
+    name: NameId,
+    width: Width,
+) -> Answer {
+    match act {
+        Act::Allocate => answered(rt, scopes.allocate(alloc, owner, name, width)),
+        Act::Deallocate => answered(rt, scopes.deallocate(alloc, owner, name, width)),
+        Act::Assign(value) => answered(rt, scopes.assign(alloc, owner, name, width, value)),
+        Act::Read => Ok(*scopes.read(owner, name, width)?),
+    }
+}
+
+pub fn assert_rows(rt: &impl Abort, alloc: Global, scopes: &mut Scopes<Num>, rows: &[Row]) {
+    for (row, (act, owner, name, bits, wanted)) in rows.iter().enumerate() {
+        let width = width_of(rt, *bits);
+        let found = answer(rt, alloc, scopes, *act, *owner, *name, width);
+        assert!(rt; found == *wanted, "row {row}");
+    }
+}
+
+/// Allocates each metadata with 8 bits and sets its value.
+fn with(rt: &impl Abort, alloc: Global, values: &[(Option<NodeId>, NameId, Num)]) -> Scopes<Num> {
+    let byte = width_of(rt, 8);
+    let mut scopes = Scopes::new();
+    for (owner, name, value) in values {
+        let made = scopes.allocate(alloc, *owner, *name, byte);
+        assert!(rt; made == Ok(()));
+        let set = scopes.assign(alloc, *owner, *name, byte, *value);
+        assert!(rt; set == Ok(()));
+    }
+    scopes
+}
+
+#[test]
+fn local_of_two_boxes_is_read_in_its_own(rt: HostRuntime) {
+    let alloc = rt.alloc();
+    let values = [(Some(ROUTER), COLOR, 3), (Some(SWITCH), COLOR, 4)];
+    let mut scopes = with(&rt, alloc, &values);
+    let rows = [
+        (Act::Read, Some(ROUTER), COLOR, 8, Ok(3)),
+        (Act::Read, Some(SWITCH), COLOR, 8, Ok(4)),
+        (Act::Read, None, COLOR, 8, Err(LayoutFault::NoMeta)),
+    ];
+    assert_rows(&rt, alloc, &mut scopes, &rows);
+}
+
+#[test]
+fn snapshot_has_globals_and_then_locals_of_the_box(rt: HostRuntime) {
+    let alloc = rt.alloc();
+    let values = [
+        (Some(ROUTER), VLAN, 1),
+        (Some(ROUTER), COLOR, 2),
+        (Some(SWITCH), PRICE, 3),
+        (None, VLAN, 4),
+        (None, COLOR, 5),
+    ];
+    let scopes = with(&rt, alloc, &values);
+    let names = [COLOR, PRICE, VLAN];
+    let present = scopes.present(alloc, ROUTER, &names).expect(&rt, "memory");
+    let wanted = [
+        (None, COLOR),
+        (None, VLAN),
+        (Some(ROUTER), COLOR),
+        (Some(ROUTER), VLAN),
+    ];
+    assert!(rt; present.as_slice() == wanted.as_slice());
+}
+
+/// The cells of the only metadata, which is the global PRICE.
+fn assert_prices(rt: &impl Abort, alloc: Global, scopes: &Scopes<Num>, wanted: &[Option<Num>]) {
+    let metas = scopes.metas(alloc).expect(rt, "memory");
+    assert_eq!(rt; metas.len(), 1);
+    for (owner, name, cells) in metas.iter() {
+        assert!(rt; (*owner, *name) == (None, PRICE));
+        assert!(rt; values_are(cells, wanted));
+    }
+}
+
+#[test]
+fn cells_at_one_name_lie_on_one_another(rt: HostRuntime) {
+    let alloc = rt.alloc();
+    let mut scopes = with(&rt, alloc, &[(None, PRICE, 6), (None, PRICE, 7)]);
+    assert_prices(&rt, alloc, &scopes, &[Some(6), Some(7)]);
+    let rows = [
+        (Act::Read, None, PRICE, 8, Ok(7)),
+        (Act::Deallocate, None, PRICE, 8, Ok(0)),
+        (Act::Read, None, PRICE, 8, Ok(6)),
+    ];
+    assert_rows(&rt, alloc, &mut scopes, &rows);
+}
+
+#[test]
+fn fork_keeps_what_its_copy_deallocates(rt: HostRuntime) {
+    let alloc = rt.alloc();
+    let mut scopes = with(&rt, alloc, &[(Some(SWITCH), VLAN, 9)]);
+    let mut copy = scopes.fork().expect(&rt, "a copy");
+    let rows = [
+        (Act::Deallocate, Some(SWITCH), VLAN, 8, Ok(0)),
+        (Act::Read, Some(SWITCH), VLAN, 8, Err(LayoutFault::NoMeta)),
+    ];
+    assert_rows(&rt, alloc, &mut copy, &rows);
+    let kept = [(Act::Read, Some(SWITCH), VLAN, 8, Ok(9))];
+    assert_rows(&rt, alloc, &mut scopes, &kept);
+}
+
+#[test]
+fn faults_of_absent_other_and_unset_metadata(rt: HostRuntime) {
+    let mut scopes = Scopes::new();
+    let absent = Err(LayoutFault::NoMeta);
+    let differs = Err(LayoutFault::WidthDiffers);
+    let rows = [
+        (Act::Assign(1), None, COLOR, 8, absent),
+        (Act::Deallocate, None, COLOR, 8, absent),
+        (Act::Allocate, None, COLOR, 8, Ok(0)),
+        (Act::Allocate, None, COLOR, 16, differs),
+        (Act::Assign(1), None, COLOR, 16, differs),
+        (Act::Deallocate, None, COLOR, 16, differs),
+        (Act::Read, None, COLOR, 16, differs),
+        (Act::Read, None, COLOR, 8, Err(LayoutFault::Unset)),
+    ];
+    assert_rows(&rt, rt.alloc(), &mut scopes, &rows);
+}
+
+#[test]
+fn laws_are_there_to_cite() {
+    laws::valuing_commutes::<u64, u8>();
+    laws::assign_then_read::<u64>();
+    laws::allocate_then_deallocate::<u64>();
+    laws::snapshot_ascends::<u64>();
+}
