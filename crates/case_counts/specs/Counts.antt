@@ -1,5 +1,6 @@
 -- The number of choices of cases of a condition.
-use Rattle.std.specs.Prelude.{ℕ, ◌*◌, List, [], ◌∷◌, map, length, slice_index, if◌then◌else◌}
+use Rattle.std.specs.Prelude.{ℕ, ◌*◌, ◌==◌, Bool, List, [], ◌∷◌, Option, map, length, slice_index, if◌then◌else◌}
+use Rattle.std.specs.List.{position_from}
 use Rattle.sn_width.specs.declared.ids.SymId.{SymId}
 use Rattle.sn_ranges.specs.Ranges.{Range}
 use Rattle.path_formula.specs.View.{view}
@@ -42,3 +43,11 @@ range_choices cond = product (map (range_count cond) (coupled_symbols cond))
 -- 2^64 - 1 where there are more
 abbrev pub choice_count : Condition → ℕ
 choice_count cond = capped (formula_choices cond * range_choices cond)
+
+-- the formula is inside and has no cases
+abbrev pub has_no_cases : Entry → Bool
+has_no_cases entry = entry_case_count entry == 0
+
+-- the least pick of a formula without cases
+abbrev pub first_without_cases : Condition → Option ℕ
+first_without_cases cond = position_from has_no_cases 0 cond.entries

@@ -4,7 +4,7 @@ ghost use Rattle.std.specs.Prelude.{◌≡◌, ◌<◌, ◌*◌, length, map, If
 ghost use Rattle.path_cond.specs.Conditions.{Condition};
 ghost use Rattle.path_cases.specs.Counts.{capped};
 ghost use Rattle.case_counts.specs.Coupled.{coupled_symbols as symbols_coupled};
-ghost use Rattle.case_counts.specs.Counts.{entry_case_count, formula_choices, product, range_count, choice_count};
+ghost use Rattle.case_counts.specs.Counts.{entry_case_count, formula_choices, product, range_count, choice_count, has_no_cases, first_without_cases};
 
 use crate::coupled::{coupled_symbols, formula_count};
 use crate::marks::is_inside;
@@ -104,4 +104,26 @@ pub fn case_count(alloc: Global, cond: &PathCond) -> Result<u64, NoMemory>
 {
     let counts = count_all_ranges(alloc, cond)?;
     case_count_with(alloc, cond, &counts)
+}
+
+/// Whether the formula of the pick is inside and has no cases.
+fn is_without_cases(alloc: Global, cond: &PathCond, pick: u32) -> Result<bool, NoMemory>
+    requires { pick < length cond.now.entries }
+    ensures { IfSome (slice_get cond.now.entries pick)
+        (λ entry. IfOk result (λ without. without ≡ has_no_cases entry)) }
+{
+    Ok(count_at(alloc, cond, pick)? == 0)
+}
+
+/// The least pick of an inside formula without cases: no values give it the truth that it must have.
+pub fn first_without_cases(alloc: Global, cond: &PathCond) -> Result<Option<u32>, NoMemory>
+    ensures { IfOk result (λ first. first ≡ first_without_cases cond.now) }
+{
+    for pick in 0..formula_count(cond)? {
+        let without = is_without_cases(alloc, cond, pick)?;
+        if without {
+            return Ok(Some(pick));
+        }
+    }
+    Ok(None)
 }

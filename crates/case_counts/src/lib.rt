@@ -7,6 +7,6 @@ pub mod laws;
 mod marks;
 mod picks;
 
-pub use count::{case_count, case_count_with};
+pub use count::{case_count, case_count_with, first_without_cases};
 pub use coupled::{coupled_count, coupled_symbols, formula_count};
 pub use picks::{domain_of, values_meeting};

@@ -16,6 +16,8 @@ mod formulas;
 #[cfg(test)]
 mod intervals;
 #[cfg(test)]
+mod members;
+#[cfg(test)]
 mod plain;
 #[cfg(test)]
 mod ranges;

@@ -8,6 +8,7 @@ ghost use Rattle.path_cases.specs.Splits.{CanSplit, EachCanSplit};
 
 use crate::atoms::{agree, comparison, constant, membership};
 use crate::bound::SymBound;
+use crate::count::count_all;
 use path_formula::Formula;
 use sn_width::NoMemory;
 use std::alloc::Global;
@@ -53,6 +54,9 @@ fn cases_all(
     requires { EachCanSplit (views parts.now.items) }
     ensures { IfOk result (λ cases. lists_of cases.items ≡ cases_of_all (views parts.now.items) holds) }
 {
+    if count_all(alloc, parts, holds)? == 0 {
+        return Ok(Vec::new(alloc));
+    }
     let mut choices = constant(alloc, true)?;
     for part in parts {
         let more = cases(alloc, part, holds)?;

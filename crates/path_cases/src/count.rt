@@ -55,7 +55,7 @@ pub fn case_count_of(alloc: Global, formula: &Formula, holds: bool) -> Result<u6
 
 /// The product of the numbers of cases of the formulas.
 #[cycle(count)]
-fn count_all(alloc: Global, parts: &Vec<Formula>, holds: bool) -> Result<u64, NoMemory>
+pub(crate) fn count_all(alloc: Global, parts: &Vec<Formula>, holds: bool) -> Result<u64, NoMemory>
     requires { EachCanSplit (views parts.now.items) }
     ensures { IfOk result (λ count. count ≡ capped (length (cases_of_all (views parts.now.items) holds))) }
 {

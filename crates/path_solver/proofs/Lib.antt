@@ -2,6 +2,7 @@ pub mod Ascending
 pub mod Atoms
 pub mod Bridge
 pub mod Candidates
+pub mod Caseless
 pub mod Entries
 pub mod Exact
 pub mod Fragment

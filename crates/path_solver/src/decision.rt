@@ -16,9 +16,10 @@ use crate::laws::{
 };
 use crate::outside::first_broken_outside;
 use crate::solve::{Solved, solve_cases};
-use case_counts::{case_count, coupled_symbols};
+use case_counts::{case_count, coupled_symbols, first_without_cases};
 use interval_solver::{Domains, SimpleVerdict, decide_simple};
 use path_cond::PathCond;
+use path_cond::laws::each_formula_is_typed;
 use refutation_check::{Cause, Listed, MOST_CHOICES, MOST_COUPLED, Refutation, Refute};
 use sn_width::{NoMemory, Num};
 use std::alloc::{AllocError, Global};
@@ -110,6 +111,16 @@ fn decide_open(
         return Ok(Decided::Undecided {
             cause: Cause::Cases { count },
         });
+    }
+    // No choice at all: a formula without cases is not looked into, nor are the cases of the others.
+    if count == 0 {
+        facts();
+        each_formula_is_typed();
+        cond.formulas_are_typed();
+        if let Some(pick) = first_without_cases(alloc, cond)? {
+            let refutation = one_step(alloc, Refute::Split { pick })?;
+            return Ok(Decided::Unsat { refutation });
+        }
     }
     match solve_cases(alloc, cond, domains, symbols.as_slice(), leasts)? {
         Solved::Refuted { refutation } => Ok(Decided::Unsat { refutation }),

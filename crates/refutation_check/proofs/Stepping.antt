@@ -1,8 +1,8 @@
 -- Steps of refutations, and the alternatives that the checker keeps.
-use Rattle.std.proofs.Common.{◌≡◌, ℕ, zero, suc, ◌≤◌, ◌↔◌, List, [], ◌∷◌, ◌++◌, length, length-append, take, map, refl, sym, ap, ap₂, ◌∙◌, subst, append_assoc, arith}
+use Rattle.std.proofs.Common.{◌≡◌, ℕ, zero, suc, ◌≤◌, ◌+◌, ◌<◌, ◌↔◌, List, [], ◌∷◌, ◌++◌, length, length-append, take, map, refl, sym, ap, ap₂, ◌∙◌, subst, append_assoc, arith}
 use Rattle.std.specs.Prelude.{reverse}
 use Rattle.std.specs.Global.{Vec}
-use Rattle.std.proofs.lemmas.List.{reverse-append, length-take}
+use Rattle.std.proofs.lemmas.List.{reverse-append, length-take, length-map, length-reverse}
 use Rattle.path_formula.specs.View.{view}
 use Rattle.path_cond.specs.Conditions.{Condition, Entry}
 use Rattle.path_cases.specs.Bounds.{Case, lists_of}
@@ -51,11 +51,19 @@ refutes_next c before next step steps rest is h = (
   λ k. subst (Refutes c before) (sym is) (refutes_from c before next step rest h k),
 )
 
--- where the first step is not right, the steps refute nothing
-pub refutes_not : (c : Condition) (before : List Case) (step : Refute) (steps rest : List Refute) → steps ≡ step ∷ rest → ((next : List Case) → Advances c before step next → ⊥) → Refutes c before steps → ⊥
-refutes_not c before step steps rest is not k =
+-- each step takes one alternative away
+pub steps_bound : (c : Condition) (alternatives : List Case) (steps : List Refute) → Refutes c alternatives steps → length alternatives ≤ length steps
+steps_bound c [] [] h = omega arith
+steps_bound c [] (step ∷ steps) h = absurd h
+steps_bound c (g ∷ alternatives) [] h = absurd h
+steps_bound c (g ∷ alternatives) (step ∷ steps) h =
+    omega (arith, steps_bound c (with_bounds h.0 g ++ alternatives) steps h.2, length-append (with_bounds h.0 g) alternatives)
+
+-- where the first step is not right, or leaves more alternatives than there are steps left, the steps refute nothing
+pub refutes_not : (c : Condition) (before : List Case) (step : Refute) (steps rest : List Refute) (left : ℕ) → steps ≡ step ∷ rest → length rest ≡ left → ((next : List Case) → Advances c before step next → length next ≤ left → ⊥) → Refutes c before steps → ⊥
+refutes_not c before step steps rest left is count not k =
     let first = refutes_first c before step rest (subst (Refutes c before) is k) in
-    not first.0 first.1
+    not first.0 first.1 (omega (arith, steps_bound c first.0 rest first.2, count))
 
 -- Alternatives
 
@@ -121,14 +129,32 @@ divided c step g alternatives rest a gathered cases later is nested begun leaves
       nested = subst (AreNested (length gathered)) (sym pushed) (nested-cases (length gathered) cases (reverse rest) (nested-most a.kept (length gathered) (reverse rest) room nest.1));
     }
 
--- the step is not right for the last of the alternatives
-pub not_divided : (c : Condition) (step : Refute) (g : Case) (alternatives rest : List Alternative) (a : Alternative) (gathered : Case)
-    → alternatives ≡ rest ++ a ∷ [] → gathered ≡ take a.kept g ++ a.case.items → ((cases : List Case) → Leaves c gathered step cases → ⊥)
-    → (after : List Case) → Advances c (starts g (reverse alternatives)) step after → ⊥
-not_divided c step g alternatives rest a gathered is begun not after h =
+length_starts : (g : Case) (xs : List Alternative) → length (starts g xs) ≡ length xs
+length_starts g [] = refl
+length_starts g (x ∷ xs) = ap suc (length_starts g xs)
+
+-- more alternatives are open than may be
+pub no_room : (c : Condition) (step : Refute) (g : Case) (alternatives rest : List Alternative) (a : Alternative) (left : ℕ)
+    → alternatives ≡ rest ++ a ∷ [] → left < length rest
+    → (after : List Case) → Advances c (starts g (reverse alternatives)) step after → length after ≤ left → ⊥
+no_room c step g alternatives rest a left is lt after h le =
+    let k = subst (λ ps. Advances c ps step after) (ap (starts g) (last_first alternatives rest a is)) h in
+    let first = with_bounds k.0 (take a.kept g ++ a.case.items) in
+    let other = starts g (reverse rest) in
+    let count : length after ≡ length first + length other = ap length k.2 ∙ length-append first other in
+    omega (arith, le, lt, count, length_starts g (reverse rest), length-reverse rest)
+
+-- the step is not right for the last of the alternatives, or leaves more than there is room for
+pub not_divided : (c : Condition) (step : Refute) (g : Case) (alternatives rest : List Alternative) (a : Alternative) (gathered : Case) (left room : ℕ)
+    → alternatives ≡ rest ++ a ∷ [] → gathered ≡ take a.kept g ++ a.case.items → length rest + room ≡ left → ((cases : List Case) → Leaves c gathered step cases → length cases ≤ room → ⊥)
+    → (after : List Case) → Advances c (starts g (reverse alternatives)) step after → length after ≤ left → ⊥
+not_divided c step g alternatives rest a gathered left room is begun fits not after h le =
     let before = ap (starts g) (last_first alternatives rest a is) ∙ ap (λ z. z ∷ starts g (reverse rest)) (sym begun) in
     let k = subst (λ ps. Advances c ps step after) before h in
-    not k.0 k.1
+    let first = with_bounds k.0 gathered in
+    let other = starts g (reverse rest) in
+    let count : length after ≡ length first + length other = ap length k.2 ∙ length-append first other in
+    not k.0 k.1 (omega (arith, le, fits, count, length-map k.0 (λ (x : Case). gathered ++ x), length_starts g (reverse rest), length-reverse rest))
 
 none_left : (g : Case) (xs : List Alternative) → starts g xs ≡ [] → xs ≡ []
 none_left g [] h = refl

@@ -74,24 +74,30 @@ impl Agenda {
         Ok(())
     }
 
-    /// Refutes the next alternative by the step, or divides it into others; false where the step is not right there.
+    /// Refutes the next alternative by the step, or divides it into others; false where the step is not
+    /// right there, or more alternatives than `left` would be open behind it.
     pub(crate) fn advance(
         &mut self,
         alloc: Global,
         cond: &PathCond,
         step: &Refute,
+        left: usize,
     ) -> Result<bool, NoMemory>
         requires { IsNested self.old }
         ensures advances { IfOk result (λ yes. MatchBool yes
             (Advances cond.now (pending self.old) step.now (pending self.new))
-            ((after : List Case) → Advances cond.now (pending self.old) step.now after → ⊥)) }
+            ((after : List Case) → Advances cond.now (pending self.old) step.now after → length after ≤ left → ⊥)) }
         ensures nested { IfOk result (λ yes. yes ≡ true → IsNested self.new) }
     {
         let Some(alternative) = self.alternatives.pop() else {
             return Ok(false);
         };
+        if self.alternatives.len() > left {
+            return Ok(false);
+        }
+        let room = left - self.alternatives.len();
         self.begin(&alternative)?;
-        match cases_left(alloc, cond, &self.gathered, step)? {
+        match cases_left(alloc, cond, &self.gathered, step, room)? {
             None => Ok(false),
             Some(cases) => {
                 self.push_cases(cases)?;

@@ -16,8 +16,10 @@ fn is_accepted(alloc: Global, refutation: &Refutation, cond: &PathCond) -> Resul
     ensures { IfOk result (λ yes. IsTrue yes ↔ IsAccepted cond.now refutation.now) }
 {
     let mut agenda = Agenda::new(alloc)?;
+    let mut left = refutation.as_slice().len();
     for step in refutation.as_slice() {
-        if !agenda.advance(alloc, cond, step)? {
+        left -= 1;
+        if !agenda.advance(alloc, cond, step, left)? {
             return Ok(false);
         }
     }

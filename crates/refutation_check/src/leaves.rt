@@ -1,6 +1,6 @@
 //! What a step of a refutation leaves to be refuted.
 
-ghost use Rattle.std.specs.Prelude.{◌≡◌, ◌↔◌, true, false, [], List, IsTrue, IfOk, MatchOption};
+ghost use Rattle.std.specs.Prelude.{◌≡◌, ◌≤◌, length, ◌↔◌, true, false, [], List, IsTrue, IfOk, MatchOption};
 ghost use Rattle.path_cases.specs.Bounds.{Case, lists_of};
 ghost use Rattle.case_counts.specs.Counts.{domain_cases};
 ghost use Rattle.case_counts.specs.Picks.{are_simple_picks, is_simple_pick};
@@ -12,7 +12,7 @@ use crate::cycle::is_negative_cycle;
 use crate::steps::Refute;
 use case_counts::{domain_of, values_meeting};
 use path_cases::laws::a_set_has_the_ranges_of_its_test;
-use path_cases::{SymBound, can_split, cases, range_cases};
+use path_cases::{SymBound, can_split, case_count_of, cases, range_cases};
 use path_cond::PathCond;
 use path_formula::Kind;
 use sn_width::{NoMemory, SymId};
@@ -75,8 +75,10 @@ fn cases_of_domain(
     alloc: Global,
     cond: &PathCond,
     symbol: SymId,
+    room: usize,
 ) -> Result<Option<Vec<Vec<SymBound>>>, NoMemory>
-    ensures { IfOk result (λ found. MatchOption found (IsDivisible cond.now symbol → ⊥)
+    ensures { IfOk result (λ found. MatchOption found
+        (IsDivisible cond.now symbol → length (domain_cases cond.now symbol) ≤ room → ⊥)
         (λ cases. IsDivisible cond.now symbol × (lists_of cases.items ≡ domain_cases cond.now symbol))) }
 {
     a_set_has_the_ranges_of_its_test();
@@ -87,6 +89,9 @@ fn cases_of_domain(
         return Ok(None);
     }
     let set = domain_of(alloc, cond, symbol)?;
+    if set.len() > room {
+        return Ok(None);
+    }
     let cases = range_cases(alloc, symbol, &set)?;
     Ok(Some(cases))
 }
@@ -96,15 +101,19 @@ fn cases_of_formula(
     alloc: Global,
     cond: &PathCond,
     pick: u32,
+    room: usize,
 ) -> Result<Option<Vec<Vec<SymBound>>>, NoMemory>
     ensures { IfOk result (λ found. MatchOption found
-        ((cases : List Case) → IsSplitInto cond.now pick cases → ⊥)
+        ((cases : List Case) → IsSplitInto cond.now pick cases → length cases ≤ room → ⊥)
         (λ cases. IsSplitInto cond.now pick (lists_of cases.items))) }
 {
     match cond.entry(pick) {
         None => Ok(None),
         Some((formula, holds)) => {
             if !can_split(formula) {
+                return Ok(None);
+            }
+            if case_count_of(alloc, formula, holds)? > room as u64 {
                 return Ok(None);
             }
             let found = cases(alloc, formula, holds)?;
@@ -126,9 +135,10 @@ pub(crate) fn cases_left(
     cond: &PathCond,
     gathered: &[SymBound],
     step: &Refute,
+    room: usize,
 ) -> Result<Option<Vec<Vec<SymBound>>>, NoMemory>
     ensures { IfOk result (λ found. MatchOption found
-        ((cases : List Case) → Leaves cond.now gathered.now step.now cases → ⊥)
+        ((cases : List Case) → Leaves cond.now gathered.now step.now cases → length cases ≤ room → ⊥)
         (λ cases. Leaves cond.now gathered.now step.now (lists_of cases.items))) }
 {
     match step {
@@ -136,8 +146,8 @@ pub(crate) fn cases_left(
             let yes = is_unmeetable(alloc, cond, *symbol, picks.as_slice())?;
             Ok(none_where(alloc, yes))
         }
-        Refute::Domain { symbol } => cases_of_domain(alloc, cond, *symbol),
-        Refute::Split { pick } => cases_of_formula(alloc, cond, *pick),
+        Refute::Domain { symbol } => cases_of_domain(alloc, cond, *symbol, room),
+        Refute::Split { pick } => cases_of_formula(alloc, cond, *pick, room),
         Refute::Cycle { bounds } => {
             let yes = is_negative_cycle(gathered, bounds.as_slice())?;
             Ok(none_where(alloc, yes))

@@ -1,5 +1,5 @@
-use Rattle.std.proofs.Common.{◌≡◌, ◌+◌, ◌∷◌, List, true, drop, sym, ap, ◌∙◌, rules}
-use Rattle.std.proofs.lemmas.List.{drop_more}
+use Rattle.std.proofs.Common.{◌≡◌, ◌+◌, ◌-◌, ◌≤◌, ◌∷◌, List, true, drop, length, arith, sym, ap, ◌∙◌, rules}
+use Rattle.std.proofs.lemmas.List.{drop_more, length-drop}
 use Rattle.path_cases.specs.Bounds.{Case}
 use Rattle.refutation_check.specs.Accepted.{Advances, IsAccepted}
 use Rattle.refutation_check.specs.Agenda.{pending}
@@ -14,8 +14,9 @@ returns-then-not-branch c =
     let step = c.step-item.result in
     let rest = drop (l.step-index + 1) steps in
     let here : drop l.step-index steps ≡ step ∷ rest = drop_more steps l.step-index step c.loop-step-test.true ∙ ap (λ s. s ∷ rest) (sym c.step-item.is) in
-    let not : (after : List Case) → Advances c.args.cond.now (pending l.agenda) step after → ⊥ = search rules in
-    answer_no (IsAccepted c.args.cond.now c.args.refutation.now) (λ h. refutes_not c.args.cond.now (pending l.agenda) step (drop l.step-index steps) rest here not (l.invariant.rest.0 h))
+    let not : (after : List Case) → Advances c.args.cond.now (pending l.agenda) step after → length after ≤ l.left - 1 → ⊥ = search rules in
+    let count : length rest ≡ l.left - 1 = omega (arith, length-drop (l.step-index + 1) steps, l.invariant.left) in
+    answer_no (IsAccepted c.args.cond.now c.args.refutation.now) (λ h. refutes_not c.args.cond.now (pending l.agenda) step (drop l.step-index steps) rest (l.left - 1) here count not (l.invariant.rest.0 h))
 
 pub loop-step-preserved : goal.loop-step-preserved
 loop-step-preserved c =
@@ -30,4 +31,5 @@ loop-step-preserved c =
     record {
       rest = (λ h. next.0 (l.invariant.rest.0 h), λ h. l.invariant.rest.1 (next.1 h));
       nested = c.in_ok-advance.ensures.nested yes;
+      left = omega (arith, l.invariant.left, c.loop-step-test.true);
     }
