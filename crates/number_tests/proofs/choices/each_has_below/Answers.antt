@@ -1,7 +1,7 @@
 use Rattle.std.proofs.Common.{◌∙◌, subst, ap, arith, get_or, length}
 use Rattle.case_search.specs.Choices.{Case, HasBelow, items_of}
-use Rattle.bound_tests.proofs.Testing.{below_more}
-use Rattle.bound_tests.proofs.choices.each_has_below.Goals as goal
+use Rattle.number_tests.proofs.Testing.{below_more}
+use Rattle.number_tests.proofs.choices.each_has_below.Goals as goal
 
 pub loop-case-preserved : goal.loop-case-preserved
 loop-case-preserved c =

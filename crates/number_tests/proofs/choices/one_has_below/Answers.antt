@@ -1,5 +1,5 @@
-use Rattle.bound_tests.proofs.Testing.{one_below_at}
-use Rattle.bound_tests.proofs.choices.one_has_below.Goals as goal
+use Rattle.number_tests.proofs.Testing.{one_below_at}
+use Rattle.number_tests.proofs.choices.one_has_below.Goals as goal
 
 pub returns-then-each_has_below : goal.returns-then-each_has_below
 returns-then-each_has_below c = λ _.

@@ -3,7 +3,7 @@ use Rattle.std.proofs.lemmas.List.{take_all}
 use Rattle.std.proofs.lemmas.List.Elements.{All-more}
 use Rattle.std.specs.Prelude.{All}
 use Rattle.difference_solver.specs.Bound.{IsInRange}
-use Rattle.bound_tests.proofs.bounds.are_in_range.Goals as goal
+use Rattle.number_tests.proofs.bounds.are_in_range.Goals as goal
 
 pub loop-bound-preserved : goal.loop-bound-preserved
 loop-bound-preserved c =

@@ -4,7 +4,6 @@ ghost use Rattle.std.specs.Prelude.{◌≡◌};
 ghost use Rattle.sn_edge.specs.RegexPatterns.{refusals_after};
 
 use crate::disk::{Disk, Fault, Sevens};
-use crate::jobs::{one, string_of, two};
 use sn_edge::{
     DirFolder, Folder, Found, Loaded, MemFolder, MemPatterns, MemSink, OutSink, Patterns, Put,
     RegexPatterns, Sink,
@@ -15,6 +14,22 @@ use std::fmt::Display;
 use std::io::ErrorKind;
 use std::process::Abort;
 use std::{env, fs, io, process};
+
+fn string_of(rt: &(impl Abort + AllocGlobal), text: &str) -> String {
+    String::from_str(rt.alloc(), text).expect(rt, "memory")
+}
+
+fn one<T: Drop>(rt: &(impl Abort + AllocGlobal), item: T) -> Vec<T> {
+    let mut items = Vec::new(rt.alloc());
+    items.push(item).expect(rt, "memory");
+    items
+}
+
+fn two<T: Drop>(rt: &(impl Abort + AllocGlobal), first: T, second: T) -> Vec<T> {
+    let mut items = one(rt, first);
+    items.push(second).expect(rt, "memory");
+    items
+}
 
 fn assert_bytes(rt: &impl Abort, answer: Loaded, want: &[u8]) {
     match answer {
