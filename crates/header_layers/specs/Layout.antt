@@ -1,7 +1,8 @@
 -- What a packet carries in its headers: tags and cells, what each call leaves, and why it is refused.
-use Rattle.std.specs.Prelude.{ℕ, ◌≤◌, length, Bool, if◌then◌else◌, ◌&&◌, List, [], ◌∷◌, Option, Some, None, Result, Ok, Err, ℤ, pos, negsuc, ◌+ℤ◌, int_lt, int_le, map, reverse}
+use Rattle.std.specs.Prelude.{ℕ, ◌≤◌, length, Bool, if◌then◌else◌, List, [], ◌∷◌, Option, Some, None, Result, Ok, Err, ℤ, pos, ◌+ℤ◌, map, reverse}
 use Rattle.std.specs.List.{AllByRecursion}
 use Rattle.std.specs.Ordering.{nat_cmp, int_cmp}
+use Rattle.sn_width.specs.Address.{is_address}
 use Rattle.sn_width.specs.declared.faults.LayoutFault.{LayoutFault}
 use Rattle.sn_width.specs.declared.faults.LayoutFault.TheVariants.{NoTag, AddressRange, NoField, Overlap}
 use Rattle.sn_width.specs.declared.ids.TagId.{TagId}
@@ -16,10 +17,6 @@ use Rattle.header_layers.specs.Spaced.{overlaps}
 pub record Layout (V : Type 0) : Type 0 where
   pub tags : List (ℕ × List ℤ)
   pub heads : List (ℤ × List (Cell V))
-
--- whether a number is an address
-abbrev pub is_address : ℤ → Bool
-is_address address = int_le (negsuc 1048575) address && int_lt address (pos 1048576)
 
 abbrev pub in_range : ℤ → Result ℤ LayoutFault
 in_range address = if is_address address then Ok address else Err AddressRange

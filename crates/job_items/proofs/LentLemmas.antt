@@ -6,7 +6,8 @@ use Rattle.std.specs.declared.cmp.Ordering.TheVariants.{Less, Equal, Greater}
 use Rattle.std.specs.Cmp.Lexicographic.{slice_cmp}
 use Rattle.std.specs.Map.{lookup}
 use Rattle.std.specs.BTreeMap.{insert_entry}
-use Rattle.job_items.specs.Tags.{tag_address, is_address, with_address}
+use Rattle.sn_width.specs.Address.{is_address}
+use Rattle.job_items.specs.Tags.{tag_address, with_address}
 use Rattle.job_items.specs.LentTags.{lent_tag, lent_tags}
 
 pub lent_insert_tag : (entries : List (Bor (List ℕ) × ℤ)) (key : Bor (List ℕ)) (a : ℤ)

@@ -20,7 +20,8 @@ use Rattle.job_items.specs.declared.rule.Breach.{Breach}
 use Rattle.job_items.specs.declared.rule.Breach.TheVariants.{Breaks, Passes}
 use Rattle.job_items.specs.Atoms.{Atom, instr_atoms, field_atoms, ask_atoms, cond_atoms}
 use Rattle.job_items.specs.AtomRules.{width_of, is_mixed, is_too_wide, is_reversed, has_loose, meta_name, ranges_in}
-use Rattle.job_items.specs.Tags.{Tags, resolved, is_address}
+use Rattle.sn_width.specs.Address.{is_address}
+use Rattle.job_items.specs.Tags.{Tags, resolved}
 use Rattle.job_items.specs.Items.{Item, node_item, port_item, instr_item, link_item, injection_item, tag_item, field_item, test_item, ask_item, job_items}
 use Rattle.job_items.specs.declared.ports.Ports.{Ports}
 use Rattle.job_items.specs.Nodes.{node_named, is_same_output, ports_of}

@@ -1,9 +1,10 @@
 -- The tags of an injection and the addresses that they have.
-use Rattle.std.specs.Prelude.{ℕ, ℤ, pos, negsuc, ◌+ℤ◌, int_le, Bool, ◌&&◌, if◌then◌else◌, List, [], ◌∷◌, Option, Some, None, option_map}
+use Rattle.std.specs.Prelude.{ℕ, ℤ, ◌+ℤ◌, if◌then◌else◌, List, [], ◌∷◌, Option, Some, None, option_map}
 use Rattle.std.specs.Ordering.{nat_cmp}
 use Rattle.std.specs.Cmp.Lexicographic.{slice_cmp}
 use Rattle.std.specs.Map.{lookup}
 use Rattle.std.specs.BTreeMap.{is_at, insert_entry}
+use Rattle.sn_width.specs.Address.{is_address}
 use Rattle.sefl_syntax.specs.declared.reference.Addr.{Addr}
 
 -- tags with their addresses, each once, ascending by bytes
@@ -20,10 +21,6 @@ resolved_by tags (Some name) offset = option_map (λ base. base +ℤ offset) (ta
 
 abbrev pub resolved : Tags → Addr → Option ℤ
 resolved tags addr = resolved_by tags addr.tag addr.offset
-
--- addresses lie in -2^20 to 2^20 - 1
-abbrev pub is_address : ℤ → Bool
-is_address a = int_le (negsuc 1048575) a && int_le a (pos 1048575)
 
 abbrev pub with_address : Tags → List ℕ → Option ℤ → Tags
 with_address tags name None = tags

@@ -5,7 +5,8 @@ ghost use Rattle.job_items.specs.Items.{tag_item, tag_items};
 ghost use Rattle.job_items.specs.LentTags.{lent_tags};
 ghost use Rattle.job_items.specs.Progress.{progress_of, outcome_from, Follows};
 ghost use Rattle.job_items.specs.Rules.{lacks_tag, begins_outside, is_outside};
-ghost use Rattle.job_items.specs.Tags.{resolved, is_address, with_address, with_tag, tags_after, tag_address};
+ghost use Rattle.sn_width.specs.Address.{is_address};
+ghost use Rattle.job_items.specs.Tags.{resolved, with_address, with_tag, tags_after, tag_address};
 
 use crate::halt::Halt;
 use crate::rule::{Breach, Rule};

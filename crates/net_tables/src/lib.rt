@@ -11,4 +11,5 @@ mod sizes;
 mod tables;
 
 pub use place::CodePlace;
+pub use sizes::{behind_code, behind_instr, behind_item};
 pub use tables::NetTables;

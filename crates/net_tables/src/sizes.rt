@@ -7,8 +7,8 @@ ghost use Rattle.net_tables.specs.Places.{code_size, instr_size};
 use sefl_syntax::Instr;
 use sn_width::{NoMemory, NodeId};
 
-/// The site behind one item.
-pub(crate) fn behind_item(site: u32) -> Result<u32, NoMemory>
+/// The site behind one item; an error where its number would not fit.
+pub fn behind_item(site: u32) -> Result<u32, NoMemory>
     ensures { IfOk result (λ end. end ≡ site + 1) }
 {
     if site == u32::MAX {
@@ -19,7 +19,7 @@ pub(crate) fn behind_item(site: u32) -> Result<u32, NoMemory>
 
 /// The site behind instructions, where this is that of the first.
 #[cycle(behind_code)]
-pub(crate) fn behind_code(site: u32, code: &[Instr]) -> Result<u32, NoMemory>
+pub fn behind_code(site: u32, code: &[Instr]) -> Result<u32, NoMemory>
     ensures { IfOk result (λ end. end ≡ site + code_size (code_tree code.now)) }
 {
     let mut end = site;
@@ -31,7 +31,7 @@ pub(crate) fn behind_code(site: u32, code: &[Instr]) -> Result<u32, NoMemory>
 
 /// The site behind an instruction and those in its blocks.
 #[cycle(behind_code)]
-fn behind_instr(site: u32, instr: &Instr) -> Result<u32, NoMemory>
+pub fn behind_instr(site: u32, instr: &Instr) -> Result<u32, NoMemory>
     ensures { IfOk result (λ end. end ≡ site + instr_size (instr_tree instr.now)) }
 {
     let inner = behind_item(site)?;

@@ -10,6 +10,7 @@ pub fn is_blank(byte: u8) -> bool
     matches!(byte, b' ' | b'\t' | b'\r' | b'\n')
 }
 
+/// Whether the byte is a letter or an underscore.
 pub fn is_name_start(byte: u8) -> bool
     ensures { result ≡ is_name_start byte }
 {
@@ -22,13 +23,15 @@ pub fn is_decimal(byte: u8) -> bool
     matches!(byte, b'0'..=b'9')
 }
 
-fn is_name_byte(byte: u8) -> bool
+/// Whether the byte is a letter, an underscore or a digit.
+pub fn is_name_byte(byte: u8) -> bool
     ensures { result ≡ is_name_byte byte }
 {
     is_name_start(byte) || is_decimal(byte)
 }
 
-fn is_text_byte(byte: u8) -> bool
+/// Whether the byte may stand between the quotes of a text.
+pub fn is_text_byte(byte: u8) -> bool
     ensures { result ≡ is_text_byte byte }
 {
     byte >= 32 && byte != b'"' && byte != 127

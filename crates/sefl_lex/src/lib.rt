@@ -10,6 +10,7 @@ mod number;
 mod parts;
 mod token;
 
+pub use bytes::{is_name_byte, is_name_start, is_text_byte};
 pub use fault::LexFault;
 pub use lex::tokens;
 pub use parts::{number_value, text_body, token_text};

@@ -8,8 +8,10 @@ ghost use Rattle.std.specs.Cmp.{partial_equiv_from_equiv};
 ghost use Rattle.std.specs.Hash as fed;
 ghost use Rattle.std.specs.Ordering.{nat_cmp};
 ghost use Rattle.std.specs.List.{list_all};
-ghost use Rattle.sefl_syntax.specs.Name.{is_name, is_name_start, is_name_byte, starts_name};
+ghost use Rattle.sefl_lex.specs.Bytes.{begins, is_name_byte, is_name_start};
+ghost use Rattle.sefl_syntax.specs.Name.{is_name};
 
+use sefl_lex::{is_name_byte, is_name_start};
 use sn_width::NoMemory;
 use std::alloc::{AllocError, Global};
 use std::cmp::Ordering;
@@ -126,20 +128,8 @@ impl fmt::Display for Name {
     }
 }
 
-fn is_name_start(byte: u8) -> bool
-    ensures { result ≡ is_name_start byte }
-{
-    matches!(byte, b'A'..=b'Z' | b'a'..=b'z' | b'_')
-}
-
-fn is_name_byte(byte: u8) -> bool
-    ensures { result ≡ is_name_byte byte }
-{
-    is_name_start(byte) || matches!(byte, b'0'..=b'9')
-}
-
 fn starts_name(bytes: &[u8]) -> bool
-    ensures { result ≡ starts_name bytes.now }
+    ensures { result ≡ begins is_name_start bytes.now }
 {
     match bytes {
         [] => false,

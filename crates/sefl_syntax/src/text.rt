@@ -7,8 +7,9 @@ ghost use Rattle.std.specs.Cmp.Lexicographic.{nat_list_cmp_total, nat_list_eq_eq
 ghost use Rattle.std.specs.Cmp.{partial_equiv_from_equiv};
 ghost use Rattle.std.specs.Hash as fed;
 ghost use Rattle.std.specs.Ordering.{nat_cmp};
-ghost use Rattle.sefl_syntax.specs.Text.{is_quotable, is_quotable_byte};
+ghost use Rattle.sefl_syntax.specs.Text.{is_quotable};
 
+use sefl_lex::is_text_byte;
 use sn_width::NoMemory;
 use std::alloc::{AllocError, Global};
 use std::cmp::Ordering;
@@ -54,14 +55,8 @@ impl Text {
         self.text()
             .as_bytes()
             .iter()
-            .all(|byte| is_quotable_byte(*byte))
+            .all(|byte| is_text_byte(*byte))
     }
-}
-
-fn is_quotable_byte(byte: u8) -> bool
-    ensures { result ≡ is_quotable_byte byte }
-{
-    byte >= b' ' && byte != b'"' && byte != 127
 }
 
 impl PartialEq for Text {

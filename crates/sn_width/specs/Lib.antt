@@ -1,3 +1,4 @@
 pub mod Width
 pub mod Rel
 pub mod Faults
+pub mod Address

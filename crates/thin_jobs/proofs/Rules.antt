@@ -19,7 +19,8 @@ use Rattle.job_items.specs.AtomRules.{exceeds}
 use Rattle.job_items.specs.Items.{Item, Place, code_items, decl_items, field_item, injection_item, injection_items, instr_item, job_items, node_item, port_item, tag_item}
 use Rattle.job_items.specs.Nodes.{node_named, nodes_after}
 use Rattle.job_items.specs.Rules.{counted, is_outside, no_counts}
-use Rattle.job_items.specs.Tags.{Tags, is_address, tag_address, tags_after}
+use Rattle.sn_width.specs.Address.{is_address}
+use Rattle.job_items.specs.Tags.{Tags, tag_address, tags_after}
 use Rattle.job_items.specs.declared.ports.Ports.{Ports}
 use Rattle.net_check.specs.Keeping.{KeepsLimits, KeepsRules}
 use Rattle.thin_jobs.specs.Thins.{arm_code, thin_code, thin_decl, thin_field, thin_injection, thin_job, thin_net}
