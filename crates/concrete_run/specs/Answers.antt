@@ -81,6 +81,7 @@ pub record IsAtStart (i : Entry) (allowed : ℕ) (s : Carried ℕ) (p : Pending)
   pub decisions : p.packet.decisions.items ≡ []
   pub places : p.places.items ≡ []
   pub state : carried_of p.packet.state ≡ s
-  pub choices : p.packet.choices ≡ 0
+  pub choices : p.packet.choices.items ≡ []
+  pub begun : p.packet.begun ≡ 0
   pub hops : p.hops ≡ allowed
   pub stage : p.stage ≡ Arriving i.node i.own.port

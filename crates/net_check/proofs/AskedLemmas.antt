@@ -32,7 +32,7 @@ pub asked_ascend : {S : Type 0} (step : S → List ℕ → List ℕ → Found �
     → AsksAll step names s patterns lists t → AllByRecursion (AreIds (length names)) lists
 asked_ascend step names s t patterns lists (no_patterns u) = tt
 asked_ascend step names s t patterns lists (asks u m v pattern others ids rest now later) =
-    (names_ascend step pattern.0 u m 0 (length names) names ids now refl, asked_ascend step names m v others rest later)
+    (names_ascend step pattern.0 u m 0 (length names) names ids now (omega arith), asked_ascend step names m v others rest later)
 
 pub by_pattern : (bad : Option ℕ) (number : ℕ) (fault : AcceptFault) → bad ≡ Some number → IsBadPattern number fault → IsByPatterns bad (Err fault)
 by_pattern bad number (Refused site rule) is (at, same) = (is ∙ ap Some (sym at), same)

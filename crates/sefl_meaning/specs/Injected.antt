@@ -1,5 +1,5 @@
 -- The injected packet: its unknown fields, what it carries at its start, and which numbers it may have.
-use Rattle.std.specs.Prelude.{ℕ, ◌+◌, ◌≡◌, Bool, true, List, [], ◌∷◌, length, Option, None, Some, Result, Ok}
+use Rattle.std.specs.Prelude.{ℕ, ◌+◌, ◌≡◌, Bool, true, List, [], ◌∷◌, length, map, Option, None, Some, Result, Ok}
 use Rattle.std.specs.List.{AllByRecursion}
 use Rattle.sn_width.specs.Width.{FitsWidth}
 use Rattle.sn_width.specs.declared.faults.LayoutFault.{LayoutFault}
@@ -14,7 +14,8 @@ use Rattle.sefl_meaning.specs.Network.{Network, Entry}
 use Rattle.sefl_meaning.specs.Carried.{Carried, Scene, scene_at, nothing}
 use Rattle.sefl_meaning.specs.Terms.{truth_in}
 use Rattle.sefl_meaning.specs.Steps.{allocated, assigned, tag_set}
-use Rattle.sefl_meaning.specs.Walks.{Trail, enter}
+use Rattle.sefl_meaning.specs.Runs.{starting}
+use Rattle.sefl_meaning.specs.Walks.{Trail, Passage, shown, enter}
 
 module _ {V F : Type 0} (o : Values V F) (at : Scene) where
   abbrev pub with_tags : List (List ℕ × Addr) → Carried V → Result (Carried V) LayoutFault
@@ -60,5 +61,9 @@ abbrev pub Meets : Network → Entry → List ℕ → Type 0
 Meets net i v = (s : Carried ℕ) × Starts net i v s
 
 -- all walks of a packet that starts so
+abbrev pub passages_from : Network → Entry → List ℕ → ℕ → Carried ℕ → List Passage
+passages_from net i v hops s = enter net v (unknown_count i) hops i.node i.own.port (starting s)
+
+-- what they show
 abbrev pub walks_from : Network → Entry → List ℕ → ℕ → Carried ℕ → List Trail
-walks_from net i v hops s = enter net v (unknown_count i) hops i.node i.own.port s 0
+walks_from net i v hops s = map shown (passages_from net i v hops s)

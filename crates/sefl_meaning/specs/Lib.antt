@@ -17,3 +17,5 @@ pub mod Order
 pub mod View
 pub mod Examples
 pub mod Routes
+pub mod Start
+pub mod Ids

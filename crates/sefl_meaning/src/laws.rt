@@ -1,16 +1,16 @@
 //! Laws of the meaning. Each is the contract of a function that does nothing.
 
-ghost use Rattle.std.specs.Prelude.{◌≡◌, ◌+◌, ℕ, Bool, List, IfOk, Ok, length, option_map};
+ghost use Rattle.std.specs.Prelude.{◌≡◌, ◌+◌, ◌++◌, ◌∷◌, ◌⊎◌, ◌↔◌, [], ℕ, Bool, List, IfOk, Ok, None, Some, map, option_map};
 ghost use Rattle.sn_width.specs.declared.ids.NodeId.{NodeId};
 ghost use Rattle.sefl_syntax.specs.Trees.{CodeTree, CondTree, ExprTree, InjectionTree};
 ghost use Rattle.cell_stacks.specs.Outcome as outcome;
 ghost use Rattle.job_items.specs.Atoms.{expr_reads, cond_atoms};
 ghost use Rattle.sefl_meaning.specs.Values.{Values, numbers, number_fits};
 ghost use Rattle.sefl_meaning.specs.Faults.{fault_of, reads_fault, atoms_fault};
-ghost use Rattle.sefl_meaning.specs.Order.{WalksAscend};
+ghost use Rattle.sefl_meaning.specs.Order.{Ascend, BeginsWith, Has, Parts, Precedes, WalksAscend};
 ghost use Rattle.std.specs.List.{AllByRecursion};
 ghost use Rattle.net_check.specs.Keeping.{HasWidth};
-ghost use Rattle.net_check.specs.Sound.{AreOfOneJob};
+ghost use Rattle.net_check.specs.Sound.{AreOfOneJob, IsAcceptedNet};
 ghost use Rattle.sefl_meaning.specs.Network.{Network, Entry};
 ghost use Rattle.sefl_meaning.specs.Carried.{Carried, Scene, carried_valued, scene_at};
 ghost use Rattle.sefl_meaning.specs.Terms.{value_in, truth_in};
@@ -20,9 +20,9 @@ ghost use Rattle.sefl_meaning.specs.Injected.{injected};
 ghost use Rattle.sefl_meaning.specs.Courses.{Progress, Course, after, course_code};
 ghost use Rattle.sefl_meaning.specs.Trees as trees;
 ghost use Rattle.sefl_meaning.specs.Trees.{Tree};
-ghost use Rattle.sefl_meaning.specs.Walks.{Trail};
+ghost use Rattle.sefl_meaning.specs.Walks.{Passage, shown};
 ghost use Rattle.sefl_meaning.specs.declared.walk.Decision.{Decision};
-ghost use Rattle.sefl_meaning.specs.Routes.{IsWay, Has, route, route_valued};
+ghost use Rattle.sefl_meaning.specs.Routes.{IsFirstClosed, IsOpen, IsWay, Route, Splits, behind, offers, route, route_valued};
 ghost use Rattle.sefl_meaning.specs.Laws.{StackLaws, StateLaws};
 ghost use Rattle.sefl_meaning.specs.Taken.{taken, walks_of};
 ghost use Rattle.sefl_meaning.specs.Valued.{Fits, CarriedFits, CourseFits, Keeps, Respects, course_valued, progress_valued, tree_valued};
@@ -38,10 +38,10 @@ use sn_width::{NameId, NodeId as NodeNumber, Num};
 /// walks are the ways through the tree.
 pub fn runs_are_ways()
     ensures code { (v : List ℕ) (unknowns site : ℕ) (at : Scene) (code : CodeTree) (p : Progress ℕ)
-        → taken (course_code (numbers v unknowns) at site code p) ≡ run_code v unknowns at site code p.state (length p.choices) }
+        → taken (course_code (numbers v unknowns) at site code p) ≡ run_code v unknowns at site code p }
     ensures walks { (net : Network) (v : List ℕ) (unknowns hops port : ℕ) (node : NodeId) (p : Progress ℕ)
         → walks_of (trees.enter (numbers v unknowns) net hops node port p)
-        ≡ walks.enter net v unknowns hops node port p.state (length p.choices) }
+        ≡ walks.enter net v unknowns hops node port p }
 {}
 
 /// Functions that respect the operations commute with the values of expressions, the truths of
@@ -103,25 +103,35 @@ pub fn numbers_fit()
     ensures operations { (v : List ℕ) (unknowns : ℕ) → Keeps number_fits (numbers v unknowns) }
     ensures choices { (v : List ℕ) (unknowns width number : ℕ)
         → (numbers v unknowns).choice width number ≡ (numbers v unknowns).unknown width (unknowns + number) }
-    ensures runs { (v : List ℕ) (unknowns site choices : ℕ) (at : Scene) (code : CodeTree) (s : Carried ℕ) → CarriedFits number_fits s
-        → CarriedFits number_fits (run_code v unknowns at site code s choices).state }
-    ensures walks { (net : Network) (v : List ℕ) (unknowns hops port choices : ℕ) (node : NodeId) (s : Carried ℕ)
-        → CarriedFits number_fits s
-        → AllByRecursion (λ t. CarriedFits number_fits t.state) (walks.enter net v unknowns hops node port s choices) }
+    ensures runs { (v : List ℕ) (unknowns site : ℕ) (at : Scene) (code : CodeTree) (p : Progress ℕ) → CarriedFits number_fits p.state
+        → CarriedFits number_fits (run_code v unknowns at site code p).progress.state }
+    ensures walks { (net : Network) (v : List ℕ) (unknowns hops port : ℕ) (node : NodeId) (p : Progress ℕ)
+        → CarriedFits number_fits p.state
+        → AllByRecursion (λ t. CarriedFits number_fits t.progress.state) (walks.enter net v unknowns hops node port p) }
 {
     widths_are_kept::<Num, bool>();
 }
 
 /// The walks of a packet ascend by their decisions, and none has decisions that another one's begin with.
 pub fn walks_ascend()
-    ensures { (net : Network) (v : List ℕ) (unknowns hops port choices : ℕ) (node : NodeId) (s : Carried ℕ)
-        → WalksAscend (walks.enter net v unknowns hops node port s choices) }
+    ensures { (net : Network) (v : List ℕ) (unknowns hops port : ℕ) (node : NodeId) (p : Progress ℕ)
+        → WalksAscend (map shown (walks.enter net v unknowns hops node port p)) }
+{}
+
+/// Decisions are ordered as words, a list before all that begin with it: of two lists one comes first,
+/// or they are the same. Lists that part are those of which neither begins with the other.
+pub fn decisions_are_ordered()
+    ensures irreflexive { (ds : List Decision) → Precedes ds ds → ⊥ }
+    ensures transitive { (cs ds es : List Decision) → Precedes cs ds → Precedes ds es → Precedes cs es }
+    ensures total { (cs ds : List Decision) → Precedes cs ds ⊎ ((cs ≡ ds) ⊎ Precedes ds cs) }
+    ensures prefix { (ds es : List Decision) → BeginsWith ds es → Precedes ds es ⊎ (ds ≡ es) }
+    ensures parts { (cs ds : List Decision) → Parts cs ds ↔ Precedes cs ds × (BeginsWith cs ds → ⊥) }
 {}
 
 /// Of three runs or courses one after another the first two or the last two may be taken together.
 pub fn sequences_associate<V: Drop, F: Drop>()
-    ensures runs { (r : Ran) (first second : Carried ℕ → ℕ → Ran)
-        → then_run (then_run r first) second ≡ then_run r (λ s k. then_run (first s k) second) }
+    ensures runs { (r : Ran) (first second : Progress ℕ → Ran)
+        → then_run (then_run r first) second ≡ then_run r (λ p. then_run (first p) second) }
     ensures courses { (c : Course V F) (first second : Progress V → Course V F)
         → after (after c first) second ≡ after c (λ p. after (first p) second) }
 {}
@@ -130,7 +140,7 @@ pub fn sequences_associate<V: Drop, F: Drop>()
 /// from the start to an end, and no more.
 pub fn walks_are_routes()
     ensures ways { (t : Tree ℕ Bool) → AllByRecursion (IsWay (route t)) (walks_of t) }
-    ensures walks { (t : Tree ℕ Bool) (w : Trail) → IsWay (route t) w → Has (walks_of t) w }
+    ensures walks { (t : Tree ℕ Bool) (w : Passage) → IsWay (route t) w → Has (walks_of t) w }
 {}
 
 /// Functions of values and truths commute with routes.
@@ -138,6 +148,37 @@ pub fn routes_commute<V: Drop, F: Drop, W: Drop, G: Drop>()
     ensures { (f : V → W) (g : F → G) (t : Tree V F) (decisions : List Decision)
         → route (tree_valued f g t) decisions ≡ option_map (route_valued f g) (route t decisions) }
 {}
+
+/// Routes compose: that of decisions and more is the first, and then that of what is left.
+pub fn routes_compose<V: Drop, F: Drop>()
+    ensures composed { (t : Tree V F) (ds es : List Decision) (r : Route V F) → route t ds ≡ Some r
+        → route t (ds ++ es) ≡ option_map (behind r.arrivals r.tests) (route r.left es) }
+    ensures prefix { (t : Tree V F) (ds es : List Decision) → IsOpen t (ds ++ es) → IsOpen t ds }
+    ensures more { (t : Tree V F) (ds : List Decision) (d : Decision) (r : Route V F) → route t ds ≡ Some r
+        → (IsOpen t (ds ++ d ∷ []) ↔ Has (offers r.left) d) }
+{}
+
+/// A node offers exactly the decisions that go on from it, in their order.
+pub fn offers_go_on<V: Drop, F: Drop>()
+    ensures exact { (t : Tree V F) (d : Decision) → (IsOpen t (d ∷ []) ↔ Has (offers t) d) }
+    ensures ascend { (t : Tree V F) → Ascend (λ d. d ∷ []) (offers t) }
+{}
+
+/// Decisions lead along a route, or one of them is the first that is not offered.
+pub fn the_first_closed_decision_is_one<V: Drop, F: Drop>()
+    ensures found { (t : Tree V F) (ds : List Decision) → route t ds ≡ None → (index : ℕ) × IsFirstClosed t ds index }
+    ensures closed { (t : Tree V F) (ds : List Decision) (index : ℕ) → IsFirstClosed t ds index → route t ds ≡ None }
+    ensures one { (t : Tree V F) (ds : List Decision) (first second : ℕ)
+        → IsFirstClosed t ds first → IsFirstClosed t ds second → first ≡ second }
+{}
+
+/// In the tree of an accepted net each split has a copy.
+pub fn accepted_forks_have_copies<V: Drop, F: Drop>()
+    ensures { (o : Values V F) (net : Network) (hops port : ℕ) (node : NodeId) (p : Progress V) → IsAcceptedNet net
+        → Splits (trees.enter o net hops node port p) }
+{
+    accepted_parts_keep_the_rules();
+}
 
 /// The injection of a job that breaks no rule puts what it says into the packet, whatever the values
 /// are, and each of its tests is true or false.

@@ -1,4 +1,4 @@
-use Rattle.std.proofs.Common.{ℕ, List, Option, None, Some, refl, length, ◌≡◌}
+use Rattle.std.proofs.Common.{ℕ, List, [], Option, None, Some, refl, length, ◌≡◌}
 use Rattle.std.specs.Prelude.{bytes_eq, position, slice_get, unwrap_or}
 use Rattle.std.specs.Map.{keys_of}
 use Rattle.std.specs.List.{AllByRecursion}
