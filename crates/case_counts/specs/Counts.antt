@@ -8,7 +8,7 @@ use Rattle.path_cond.specs.Conditions.{Condition, Entry, in_domain}
 use Rattle.path_cases.specs.Bounds.{Case}
 use Rattle.path_cases.specs.Cases.{cases_of, single_cases}
 use Rattle.path_cases.specs.Counts.{capped}
-use Rattle.path_cases.specs.Ranges.{ranges_where}
+use Rattle.sn_ranges.specs.Sets.{ranges_where}
 use Rattle.case_counts.specs.Coupled.{is_inside, coupled_symbols}
 
 -- the ranges of the values of the symbol's width that meet each formula that is simple on the symbol
