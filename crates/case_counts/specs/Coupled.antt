@@ -1,74 +1,30 @@
 -- The symbols that the formulas of a condition couple.
-use Rattle.std.specs.Prelude.{◌≡◌, ℕ, ◌≤◌, zero, suc, ◌==◌, Some, slice_get, Bool, true, false, ◌&&◌, ◌||◌, List, [], ◌∷◌, length, if◌then◌else◌}
-use Rattle.std.specs.List.{list_any}
+use Rattle.std.specs.Prelude.{◌≡◌, ℕ, ◌≤◌, Some, slice_get, Bool, List}
 use Rattle.sn_width.specs.declared.ids.SymId.{SymId}
-use Rattle.lin_term.specs.Terms.{Part}
-use Rattle.path_formula.specs.Atoms.{comparison_kind, membership_kind}
-use Rattle.path_formula.specs.Formulas.{FormulaTree, always, compared, belongs, all_of, any_of, opposite, Formulas, no_formulas, formula}
-use Rattle.path_formula.specs.Kinds.{is_constant_kind, kind_of}
 use Rattle.path_formula.specs.View.{view}
-use Rattle.path_formula.specs.declared.kinds.Kind.{Kind}
-use Rattle.path_formula.specs.declared.kinds.Kind.TheVariants.{Constant, Simple, Inside, Outside}
 use Rattle.path_cond.specs.Conditions.{Condition, Entry}
-
--- the part is one of the symbol
-abbrev pub is_part_of : SymId → Part → Bool
-is_part_of s part = part.0.0 == s.0
-
--- the symbol is that of one of the parts
-abbrev pub stands_in : SymId → List Part → Bool
-stands_in s parts = list_any (is_part_of s) parts
-
-abbrev mutual
-  -- the symbol stands in a comparison or a membership that is not constant
-  pub occurs_in : SymId → FormulaTree → Bool
-  occurs_in s (always truth) = false
-  occurs_in s (compared rel left right) = if is_constant_kind (comparison_kind left right) then false else stands_in s left.parts || stands_in s right.parts
-  occurs_in s (belongs term set) = if is_constant_kind (membership_kind term) then false else stands_in s term.parts
-  occurs_in s (all_of fs) = occurs_among s fs
-  occurs_in s (any_of fs) = occurs_among s fs
-  occurs_in s (opposite f) = occurs_in s f
-
-  -- the same of one of several formulas
-  pub occurs_among : SymId → Formulas → Bool
-  occurs_among s no_formulas = false
-  occurs_among s (formula f fs) = occurs_in s f || occurs_among s fs
-
-abbrev pub is_inside_kind : Kind → Bool
-is_inside_kind (Constant truth) = false
-is_inside_kind (Simple s) = false
-is_inside_kind Inside = true
-is_inside_kind Outside = false
+use Rattle.case_counts.specs.Seen as any
+pub use Rattle.case_counts.specs.Occurring.{is_part_of, stands_in, occurs_in, occurs_among, is_inside_kind, symbol_at, symbols_from}
 
 -- the formula is inside
 abbrev pub is_inside : Entry → Bool
-is_inside entry = is_inside_kind (kind_of (view entry.0))
+is_inside = any.is_inside view
 
 -- the formula is inside, and the symbol occurs in it
 abbrev pub couples : SymId → Entry → Bool
-couples s entry = is_inside entry && occurs_in s (view entry.0)
+couples = any.couples view
 
 -- the symbol occurs in an inside formula of the condition
 abbrev pub is_coupled : Condition → SymId → Bool
-is_coupled cond s = list_any (couples s) cond.entries
-
--- the symbol of a place
-abbrev pub symbol_at : ℕ → SymId
-symbol_at place = record { 0 = place }
-
--- the symbols that pass the test, among so many from a place on, ascending
-abbrev pub symbols_from : (SymId → Bool) → ℕ → ℕ → List SymId
-symbols_from test place zero = []
-symbols_from test place (suc count) =
-    if test (symbol_at place) then symbol_at place ∷ symbols_from test (suc place) count else symbols_from test (suc place) count
+is_coupled = any.is_coupled view
 
 -- the symbols of the condition that occur in its inside formulas, ascending
 abbrev pub coupled_symbols : Condition → List SymId
-coupled_symbols cond = symbols_from (is_coupled cond) 0 (length cond.widths)
+coupled_symbols = any.coupled_symbols view
 
 -- their number
 abbrev pub coupled_count : Condition → ℕ
-coupled_count cond = length (coupled_symbols cond)
+coupled_count = any.coupled_count view
 
 -- the symbol has one of these widths, of at most 64 bits
 abbrev pub IsNarrow : List ℕ → SymId → Type 0

@@ -1,3 +1,5 @@
+pub mod Occurring
+pub mod Seen
 pub mod Coupled
 pub mod Picks
 pub mod Counts

@@ -5,14 +5,16 @@ use Rattle.std.specs.List.{list_all}
 use Rattle.std.proofs.lemmas.Bool.{cases_lt}
 use Rattle.std.proofs.lemmas.Bool.Decides.{nat_tests}
 use Rattle.sn_width.specs.declared.ids.SymId.{SymId}
-use Rattle.path_cond.specs.Conditions.{Condition, first_broken, in_domain}
+use Rattle.path_cond.specs.Conditions.{AllTyped, Condition, first_broken, holds_at, in_domain}
 use Rattle.case_counts.specs.Coupled.{coupled_count, symbol_at}
 use Rattle.case_counts.specs.Counts.{choice_count}
+use Rattle.refutation_check.specs.Accepted.{IsAccepted}
 use Rattle.refutation_check.specs.Decisions.{most_coupled, most_choices, is_possible, HasEmptyDomain, IsSimplyOpen, IsWithinLimits, IsRefuted, IsUndecidedBy, IsMetBy}
 use Rattle.refutation_check.specs.Least.{AreLeast, holds_unless_outside, first_broken_outside}
 use Rattle.refutation_check.specs.declared.outcome.Cause.{Cause}
 use Rattle.refutation_check.specs.declared.outcome.Cause.TheVariants.{Outside as OutsideCause, Cases, Coupled}
-use Rattle.path_solver.specs.Decisions.{IsDecisionOn, IsSat, IsUndecided}
+use Rattle.refutation_check.specs.declared.steps.Refute.{Refute}
+use Rattle.path_solver.specs.Decisions.{IsDecisionOn, IsSat, IsUndecided, IsUnsat}
 use Rattle.path_solver.specs.Laws.{Facts}
 use Rattle.path_solver.specs.declared.decision.Decided.{Decided}
 use Rattle.path_solver.specs.declared.decision.Decided.TheVariants.{Sat, Unsat, Undecided}
@@ -161,3 +163,10 @@ undecided_exactly facts c (Sat values) cause h = ((λ u. absurd u), (λ u. absur
 undecided_exactly facts c (Unsat refutation) cause h = ((λ u. absurd u), (λ u. absurd (undecided_apart facts c cause u h.0)))
 undecided_exactly facts c (Undecided found) cause h =
     ((λ e. subst (λ (x : Cause). IsUndecidedBy c x) e h), (λ u. same_cause c found cause h u))
+
+-- where the decision is Unsat, no values make the condition true
+pub unsat_never : ((c : Condition) (steps : List Refute) (values : List ℕ) → AllTyped c.widths c.entries → IsAccepted c steps → holds_at c values ≡ false)
+    → (c : Condition) (d : Decided) → AllTyped c.widths c.entries → IsDecisionOn c d → IsUnsat d → (values : List ℕ) → holds_at c values ≡ false
+unsat_never law c (Sat found) typed h u values = absurd u
+unsat_never law c (Unsat refutation) typed h u values = law c refutation values typed h.1
+unsat_never law c (Undecided cause) typed h u values = absurd u

@@ -1,7 +1,7 @@
 //! The decision of a condition.
 
-ghost use Rattle.std.specs.Prelude.{◌≡◌, ◌↔◌, ◌∷◌, [], ℕ, List, None, IfOk};
-ghost use Rattle.path_cond.specs.Conditions.{first_broken};
+ghost use Rattle.std.specs.Prelude.{◌≡◌, ◌↔◌, ◌∷◌, [], ℕ, false, List, None, IfOk};
+ghost use Rattle.path_cond.specs.Conditions.{first_broken, holds_at};
 ghost use Rattle.interval_solver.specs.Domains.{AreDomainsOf};
 ghost use Rattle.interval_solver.specs.Verdicts.{AreLeastValues};
 ghost use Rattle.refutation_check.specs.Decisions.{IsMetBy, IsRefuted, IsUndecidedBy, IsWithinLimits};
@@ -20,6 +20,7 @@ use case_counts::{case_count, coupled_symbols, first_without_cases};
 use interval_solver::{Domains, SimpleVerdict, decide_simple};
 use path_cond::PathCond;
 use path_cond::laws::each_formula_is_typed;
+use refutation_check::laws::an_accepted_refutation_refutes;
 use refutation_check::{Cause, Listed, MOST_CHOICES, MOST_COUPLED, Refutation, Refute};
 use sn_width::{NoMemory, Num};
 use std::alloc::{AllocError, Global};
@@ -50,12 +51,14 @@ pub fn decide(alloc: Global, cond: &PathCond, domains: &Domains) -> Result<Decid
     ensures undecided { IfOk result (λ decided. (cause : CauseOf) → IsUndecided cause decided ↔ IsUndecidedBy cond.now cause) }
     ensures settled { IfOk result (λ decided. IsInFragment cond.now → IsSettled decided) }
     ensures least { IfOk result (λ decided. HasNoInside cond.now → HasLeastValues cond.now decided) }
+    ensures never { IfOk result (λ decided. IsUnsat decided → (values : List ℕ) → holds_at cond.now values ≡ false) }
 {
     sat_exactly_where_met();
     unsat_exactly_where_refuted();
     undecided_exactly_where_undecided();
     settled_in_the_fragment();
     simple_conditions_have_the_least_values();
+    an_accepted_refutation_refutes();
     cond.formulas_are_typed();
     decide_in_order(alloc, cond, domains)
 }

@@ -3,3 +3,10 @@ pub mod Stepping
 pub mod Testing
 pub mod Reducing
 pub mod Soundness
+pub mod Agreeing
+pub mod Seeing
+pub mod Constants
+pub mod Padding
+pub mod Fronts
+pub mod Widening
+pub mod Staying

@@ -1,9 +1,13 @@
 //! What holds of all refutations. Each is the contract of a function that has nothing to do.
 
 ghost use Rattle.std.specs.Prelude.{◌≡◌, ℕ, false, List, [], ◌∷◌, ◌++◌};
+ghost use Rattle.path_formula.specs.View.{view};
 ghost use Rattle.path_cond.specs.Conditions.{AllTyped, Condition, holds_at};
+ghost use Rattle.path_cond.specs.Seen.{itself};
 ghost use Rattle.path_cases.specs.Bounds.{Case};
 ghost use Rattle.refutation_check.specs.Accepted.{Advances, IsAccepted, Reaches, Refutes};
+ghost use Rattle.refutation_check.specs.Longer.{ConstantsAreFree, LeastStay, WidenFreely};
+ghost use Rattle.refutation_check.specs.Trees.{IsJudgedByTrees};
 ghost use Rattle.refutation_check.specs.declared.steps.Refute.{Refute as Step};
 
 use path_cases::laws::{
@@ -12,7 +16,10 @@ use path_cases::laws::{
     one_range_is_met_exactly_where_the_value_passes,
 };
 use path_cond::laws::each_formula_is_typed;
-use path_formula::laws::a_simple_formula_may_stand_alone;
+use path_formula::laws::{
+    a_constant_formula_has_one_truth, a_simple_formula_has_a_known_symbol,
+    a_simple_formula_may_stand_alone,
+};
 
 /// Where a refutation is accepted, no values make the condition true.
 pub fn an_accepted_refutation_refutes()
@@ -45,3 +52,30 @@ pub fn refutations_join()
         → Refutes cond firsts steps → Refutes cond seconds more
         → Refutes cond (firsts ++ seconds) (steps ++ more) }
 {}
+
+/// What is said of a condition is said of the trees of its formulas, and the other way.
+pub fn a_condition_is_judged_by_its_trees()
+    ensures { (cond : Condition) → IsJudgedByTrees view cond }
+{}
+
+/// What stays where a condition has more formulas, or more symbols: least values that satisfy the further formulas.
+pub fn least_values_stay()
+    ensures formulas { LeastStay view }
+    ensures trees { LeastStay itself }
+{}
+
+/// Symbols that no formula has change no verdict; they are 0 in the least values.
+pub fn symbols_that_no_formula_has_change_nothing()
+    ensures formulas { WidenFreely view }
+    ensures trees { WidenFreely itself }
+{
+    a_simple_formula_has_a_known_symbol();
+}
+
+/// A constant formula that has the truth that it must have changes no verdict.
+pub fn a_true_constant_changes_no_verdict()
+    ensures formulas { ConstantsAreFree view }
+    ensures trees { ConstantsAreFree itself }
+{
+    a_constant_formula_has_one_truth();
+}

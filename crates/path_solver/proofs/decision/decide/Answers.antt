@@ -1,5 +1,6 @@
 use Rattle.std.proofs.lemmas.Result.{IfOk-weaker}
 use Rattle.path_solver.specs.Decisions.{IsDecisionOn}
+use Rattle.path_solver.proofs.Verdicts.{unsat_never}
 use Rattle.path_solver.proofs.decision.decide.Goals as goal
 
 pub returns-clause-sat : goal.returns-clause-sat
@@ -26,3 +27,8 @@ pub returns-clause-least : goal.returns-clause-least
 returns-clause-least c =
     IfOk-weaker c.decide_in_order.result (IsDecisionOn c.args.cond.now) _
     (λ decided h. c.simple_conditions_have_the_least_values.ensures c.args.cond.now decided c.formulas_are_typed.ensures h) c.decide_in_order.ensures
+
+pub returns-clause-never : goal.returns-clause-never
+returns-clause-never c =
+    IfOk-weaker c.decide_in_order.result (IsDecisionOn c.args.cond.now) _
+    (λ decided h. unsat_never c.an_accepted_refutation_refutes.ensures c.args.cond.now decided c.formulas_are_typed.ensures h) c.decide_in_order.ensures
