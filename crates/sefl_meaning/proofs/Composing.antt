@@ -299,19 +299,22 @@ module _ {V F : Type 0} where
   closed_here : (t : Tree V F) (before : List Decision) (d : Decision) (rest : List Decision) (way : Route V F) →
       route t before ≡ Some way → (x : Option (Route V F)) → route t (before ++ d ∷ []) ≡ x →
       ((next : Route V F) → x ≡ Some next → Closes t (before ++ d ∷ rest)) → Closes t (before ++ d ∷ rest)
-  closed_here t before d rest way e None x k = (length before, record {
-    before = before;
-    closed = d;
-    later = rest;
-    is = refl;
-    at = refl;
-    way = way;
-    leads = e;
-    not_offered = λ offer.
-        let o = more_open t before d way e offer in
-        let bad : None ≡ Some o.0 = sym x ∙ o.1 in
-        cc;
-  })
+  closed_here t before d rest way e None x k = (
+    length before,
+    record {
+      before = before;
+      closed = d;
+      later = rest;
+      is = refl;
+      at = refl;
+      way = way;
+      leads = e;
+      not_offered = λ offer.
+          let o = more_open t before d way e offer in
+          let bad : None ≡ Some o.0 = sym x ∙ o.1 in
+          cc;
+    },
+  )
   closed_here t before d rest way e (Some next) x k = k next refl
 
   closed_behind : (t : Tree V F) (before rest : List Decision) (way : Route V F) → route t before ≡ Some way →

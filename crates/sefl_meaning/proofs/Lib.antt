@@ -18,3 +18,5 @@ pub mod InjectionLemmas
 pub mod OrderLemmas
 pub mod Composing
 pub mod Forking
+pub mod Keeping
+pub mod Typing

@@ -5,4 +5,4 @@ pub mod examples;
 pub mod laws;
 mod walk;
 
-pub use walk::{Decision, End, Failure, Place, State, Turn, Walk};
+pub use walk::{Carried, Decision, End, Failure, Place, State, Turn, Walk};
