@@ -11,8 +11,8 @@ ghost use Rattle.concrete_run.specs.Weights.{code_weight, frames_weight, instr_w
 
 use crate::instrs::{Exit, choose, constrain, exit_after, failed};
 use crate::packet::{Packet, Run};
-use crate::sizes::{behind_code, behind_instr, behind_item};
 use concrete_steps::{allocate, assign, create_tag, deallocate, destroy_tag, set_tag, truth_of};
+use net_tables::{behind_code, behind_instr, behind_item};
 use sefl_meaning::laws::sequences_associate;
 use sefl_meaning::{Decision, Failure, State, Turn};
 use sefl_syntax::{Cond, Instr, Name, Text};

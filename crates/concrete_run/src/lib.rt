@@ -6,7 +6,6 @@ mod injecting;
 mod instrs;
 mod packet;
 mod pending;
-mod sizes;
 mod walks;
 
 pub use injecting::{StartFault, start};

@@ -16,7 +16,7 @@ ghost use Rattle.concrete_run.specs.declared.pending.Stage.TheVariants.{Arriving
 use crate::frames::run_code;
 use crate::instrs::Exit;
 use crate::packet::{Packet, Run};
-use crate::sizes::behind_item;
+use net_tables::behind_item;
 use sefl_meaning::{Decision, End, Failure, Place, State, Walk};
 use sefl_syntax::{Instr, Side};
 use sn_width::{NoMemory, NodeId, Site};
