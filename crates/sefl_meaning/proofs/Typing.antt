@@ -21,7 +21,6 @@ use Rattle.sefl_meaning.specs.Terms.{truth_in, value_in}
 use Rattle.sefl_meaning.specs.Steps.{allocated, deallocated, assigned, evaluated, tag_created, tag_set, tag_destroyed}
 use Rattle.sefl_meaning.specs.Injected.{with_tags, field_value, with_field, with_fields, unknown_width, unknown_widths, injected}
 use Rattle.sefl_meaning.specs.Runs.{Exit, off, go, forked, failed, in_turn, turns_of}
-use Rattle.sefl_meaning.specs.Walks.{place_at}
 use Rattle.sefl_meaning.specs.Courses.{at_if, at_constrain, Progress, begin, chosen, with_state, Course, ends, asks, off_or, after, unless_fault, step, course_turns, course_in, course_code}
 use Rattle.sefl_meaning.specs.Trees.{Tree, Onward, then_tree, port_course, crossed, leave, copies, passed, enter}
 use Rattle.sefl_meaning.specs.Valued.{Fits, HeldFits, CellFits, StacksFit, CarriedFits, KeepsSymbols, ProgressTyped, CourseTyped, TreeTyped, EachTyped}
@@ -231,7 +230,7 @@ module _ {V F : Type 0} (fits : List ℕ → ℕ → V → Bool) (unknowns : Lis
 
     value_typed : (target : Target) (number : ℕ) (value : Option ℕ) (before : List ℕ) (s : Carried V) →
         number ≡ length before → Held before s →
-        IfOk (assigned at target (field_value o at (width_of target) number value) s)
+        IfOk (assigned at target (field_value o (width_of target) number value) s)
         (Held (before ++ width_unless value (width_of target)))
     value_typed target number None before s e h =
         let w = width_of target in
@@ -247,7 +246,7 @@ module _ {V F : Type 0} (fits : List ℕ → ℕ → V → Bool) (unknowns : Lis
         IfOk (with_field o at number f s) (Held (before ++ unknown_width f))
     field_typed number f before s e h =
         of_step (Held before) (Held (before ++ unknown_width f)) (allocated at f.target s)
-        (assigned at f.target (field_value o at (width_of f.target) number f.value))
+        (assigned at f.target (field_value o (width_of f.target) number f.value))
         (allocated_tracks (fits before) (λ x. x) laws at f.target s h).has
         (λ next fit. value_typed f.target number f.value before next e fit)
 
