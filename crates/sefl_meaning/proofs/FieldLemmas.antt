@@ -33,7 +33,8 @@ use Rattle.job_items.specs.AtomRules.{has_loose, width_of}
 use Rattle.job_items.specs.Atoms.{lone}
 use Rattle.job_items.specs.Items.{field_items}
 use Rattle.job_items.specs.Rules.{begins_outside, do_meet, do_overlap, injected_width, is_at, is_outside, is_same_address, is_same_scope, lacks_tag, names_in}
-use Rattle.job_items.specs.Tags.{Tags, is_address, resolved}
+use Rattle.sn_width.specs.Address.{is_address}
+use Rattle.job_items.specs.Tags.{Tags, resolved}
 use Rattle.net_check.specs.Keeping.{HasNamesOf, HasWidth, IsAmong, KeepsRules}
 use Rattle.sefl_meaning.specs.Network.{Network, name_id}
 use Rattle.sefl_meaning.specs.Carried.{Carried, Key, base_tag, owner_of, read_at, scene_at, with_layers, with_scopes}

@@ -1,5 +1,5 @@
 -- The tags of an injection that keeps the rules: each line gives its tag the address that the rules find.
-use Rattle.std.proofs.Common.{◌≡◌, ◌∙◌, refl, sym, ap, subst, ℕ, ℤ, pos, negsuc, ◌+ℤ◌, int_le, int_lt, Bool, true, false, ◌&&◌, cond, if◌then◌else◌, List, [], ◌∷◌, Option, None, Some, option_map, Result, Ok, Err, bytes_eq, true≢false, arith}
+use Rattle.std.proofs.Common.{◌≡◌, ◌∙◌, refl, sym, ap, subst, ℕ, ℤ, ◌+ℤ◌, Bool, true, false, cond, if◌then◌else◌, List, [], ◌∷◌, Option, None, Some, option_map, Result, Ok, Err, bytes_eq, true≢false}
 use Rattle.std.specs.Prelude.{is_none}
 use Rattle.std.specs.BTreeMap.{insert_entry}
 use Rattle.std.specs.Cmp.Lexicographic.{nat_list_eq_equiv, slice_cmp}
@@ -23,7 +23,8 @@ use Rattle.header_layers.specs.Layout as layout
 use Rattle.header_layers.specs.Layout.{address_of, in_range, top_address}
 use Rattle.job_items.specs.Items.{tag_items}
 use Rattle.job_items.specs.Rules.{is_outside}
-use Rattle.job_items.specs.Tags.{Tags, is_address, resolved, resolved_by, tag_address, tags_after, with_address, with_tag}
+use Rattle.sn_width.specs.Address.{is_address}
+use Rattle.job_items.specs.Tags.{Tags, resolved, resolved_by, tag_address, tags_after, with_address, with_tag}
 use Rattle.net_check.specs.Keeping.{HasNamesOf, IsAmong, KeepsRules}
 use Rattle.sefl_meaning.specs.Network.{Network, tag_id}
 use Rattle.sefl_meaning.specs.Carried.{Carried, base_tag, scene_at, with_layers}
@@ -40,11 +41,8 @@ HaveAddresses net known tags =
 
 -- ---- addresses
 
-up_to_last : (a : ℤ) → int_lt a (pos 1048576) ≡ int_le a (pos 1048575)
-up_to_last a = grind (arith, ints)
-
 inside : (a : ℤ) → is_address a ≡ true → in_range a ≡ Ok a
-inside a h = ap (λ b. if b then Ok a else Err AddressRange) (ap (λ b. int_le (negsuc 1048575) a && b) (up_to_last a) ∙ h)
+inside a h = ap (λ b. if b then Ok a else Err AddressRange) h
 
 module _ (net : Network) (known : Tags) (tags : List (ℕ × List ℤ)) (have : HaveAddresses net known tags) where
   pub address_found : (addr : Addr) (a : ℤ) → resolved known addr ≡ Some a → is_address a ≡ true
