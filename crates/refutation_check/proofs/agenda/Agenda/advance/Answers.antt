@@ -1,4 +1,4 @@
-use Rattle.std.proofs.Common.{◌≡◌, ◌++◌, ◌∷◌, [], map, reverse, length, take, sym, subst, rules, List, ◌≤◌, ◌<◌, ◌+◌, ◌-◌}
+use Rattle.std.proofs.Common.{◌≡◌, ◌++◌, ◌∷◌, [], map, reverse, length, take, sym, subst, rules, List, ℕ, ◌≤◌, ◌<◌, ◌+◌, ◌-◌, arith}
 use Rattle.path_cases.specs.Bounds.{Case, lists_of}
 use Rattle.refutation_check.specs.Accepted.{Leaves}
 use Rattle.refutation_check.specs.Agenda.{starts, alternative_with}
