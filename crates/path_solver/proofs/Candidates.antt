@@ -7,17 +7,21 @@ use Rattle.std.proofs.lemmas.Int.{ints}
 use Rattle.sn_width.specs.Width.{FitsWidth}
 use Rattle.sn_width.specs.declared.ids.SymId.{SymId}
 use Rattle.sn_ranges.specs.Ranges.{Range}
+use Rattle.path_formula.specs.Formulas.{FormulaTree}
 use Rattle.path_formula.specs.Kinds.{kind_of}
 use Rattle.path_formula.specs.Solutions.{agrees, alone}
 use Rattle.path_formula.specs.View.{view}
 use Rattle.path_formula.specs.declared.kinds.Kind.{Kind}
 use Rattle.path_formula.specs.declared.kinds.Kind.TheVariants.{Constant, Simple, Inside, Outside}
+use Rattle.path_cond.specs.Seen as seen
+use Rattle.path_cond.specs.Seen.{ConditionOf}
 use Rattle.path_cond.specs.Conditions.{Condition, Entry, AllTyped, entry_holds, in_domain, is_simple_on, is_entry_on, meets, is_broken, is_broken_kind, first_broken}
 use Rattle.path_cases.specs.Bounds.{AreValues, is_one_met, is_case_met}
 use Rattle.path_cases.specs.Cases.{range_case}
 use Rattle.sn_ranges.specs.Sets.{ranges_where}
 use Rattle.case_counts.specs.Coupled.{is_inside_kind, is_inside}
 use Rattle.case_counts.specs.Counts.{domain_cases}
+use Rattle.refutation_check.specs.Seen as any
 use Rattle.refutation_check.specs.Least.{AreCandidates, is_outside_kind, is_outside, holds_unless_outside}
 use Rattle.path_solver.specs.Origins.{entry_cases, cases_from, origins_of}
 use Rattle.path_solver.specs.declared.origin.Origin.{Origin}
@@ -35,9 +39,10 @@ simple_kind s (Simple r) h = let same : r.0 ≡ s.0 = eqb-true r.0 s.0 h in ap (
 simple_kind s Inside h = absurd (cc)
 simple_kind s Outside h = absurd (cc)
 
-pub not_outside : (e : Entry) (values : List ℕ) (k : Kind) → kind_of (view e.0) ≡ k → is_outside_kind k ≡ false
-    → holds_unless_outside values e ≡ true → entry_holds values e ≡ true
-not_outside e values k is inner h = drop_outside (is_outside e) (entry_holds values e) (ap is_outside_kind is ∙ inner) h
+pub not_outside : {X : Type 0} (tree : X → FormulaTree) (e : X × Bool) (values : List ℕ) (k : Kind) → kind_of (tree e.0) ≡ k
+    → is_outside_kind k ≡ false → any.holds_unless_outside tree values e ≡ true → seen.entry_holds tree values e ≡ true
+not_outside tree e values k is inner h =
+    drop_outside (any.is_outside tree e) (seen.entry_holds tree values e) (ap is_outside_kind is ∙ inner) h
   where
     drop_outside : (a b : Bool) → a ≡ false → (a || b) ≡ true → b ≡ true
     drop_outside true b e h = absurd (cc)
@@ -49,19 +54,20 @@ inside_is (Simple s) h = refl
 inside_is Inside h = refl
 inside_is Outside h = absurd (cc)
 
-meets_by : Facts → (s : SymId) (x : List ℕ) (e : Entry) (b : Bool) → is_entry_on s e ≡ b
-    → holds_unless_outside x e ≡ true → cond b (entry_holds (alone s (slice_index x s.0)) e) true ≡ true
-meets_by facts s x e true on h =
-    let kind : kind_of (view e.0) ≡ Simple s = simple_kind s (kind_of (view e.0)) on in
-    ap (agrees e.1) (sym (facts.simple_alone (view e.0) s x kind)) ∙ not_outside e x (Simple s) kind refl h
-meets_by facts s x e false on h = refl
+module _ {X : Type 0} (tree : X → FormulaTree) (facts : Facts) where
+  meets_by : (s : SymId) (x : List ℕ) (e : X × Bool) (b : Bool) → seen.is_entry_on tree s e ≡ b
+      → any.holds_unless_outside tree x e ≡ true → cond b (seen.entry_holds tree (alone s (slice_index x s.0)) e) true ≡ true
+  meets_by s x e true on h =
+      let kind : kind_of (tree e.0) ≡ Simple s = simple_kind s (kind_of (tree e.0)) on in
+      ap (agrees e.1) (sym (facts.simple_alone (tree e.0) s x kind)) ∙ not_outside tree e x (Simple s) kind refl h
+  meets_by s x e false on h = refl
 
--- the value of a symbol meets its simple formulas
-pub candidate_in_domain : Facts → (cond : Condition) (x : List ℕ) (s : SymId) → AreCandidates cond x
-    → in_domain s cond (slice_index x s.0) ≡ true
-candidate_in_domain facts cond x s h =
-    all_at (meets s (alone s (slice_index x s.0))) cond.entries
-    (λ i e is. meets_by facts s x e (is_entry_on s e) refl (at_all (holds_unless_outside x) cond.entries i e h.satisfied is))
+  -- the value of a symbol meets its simple formulas
+  pub candidate_in_domain : (c : ConditionOf X) (x : List ℕ) (s : SymId) → any.AreCandidates tree c x
+      → seen.in_domain tree s c (slice_index x s.0) ≡ true
+  candidate_in_domain c x s h =
+      all_at (seen.meets tree s (alone s (slice_index x s.0))) c.entries
+      (λ i e is. meets_by s x e (seen.is_entry_on tree s e) refl (at_all (any.holds_unless_outside tree x) c.entries i e h.satisfied is))
 
 -- the values meet one of the cases of each choice
 pub candidate_meets : Facts → (cond : Condition) (x : List ℕ) (o : Origin) → AllTyped cond.widths cond.entries
@@ -71,11 +77,11 @@ candidate_meets facts cond x (Ranges s) typed h origin =
     let fits : FitsWidth (slice_index cond.widths s.0) (slice_index x s.0) =
     subst (λ (w : ℕ). FitsWidth w (slice_index x s.0)) (sym (index_at cond.widths s.0 narrow.width narrow.at))
     (h.fitting.fit s.0 narrow.width narrow.at) in
-    facts.ranges_are_test s (slice_index cond.widths s.0) (in_domain s cond) x fits ∙ candidate_in_domain facts cond x s h
+    facts.ranges_are_test s (slice_index cond.widths s.0) (in_domain s cond) x fits ∙ candidate_in_domain view facts cond x s h
 candidate_meets facts cond x (Cases pick) typed h origin =
     let e = origin.entry in
     let holds : entry_holds x e ≡ true =
-    not_outside e x (kind_of (view e.0)) refl (inside_is (kind_of (view e.0)) origin.inside)
+    not_outside view e x (kind_of (view e.0)) refl (inside_is (kind_of (view e.0)) origin.inside)
     (at_all (holds_unless_outside x) cond.entries pick e h.satisfied origin.at) in
     subst (λ (o : Option Entry). is_one_met x (entry_cases o) ≡ true) (sym origin.at)
     (facts.cases_are_truth (view e.0) e.1 cond.widths x (entry_splits facts cond pick e typed origin.at origin.inside)

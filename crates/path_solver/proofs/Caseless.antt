@@ -1,27 +1,23 @@
 -- A formula without cases refutes.
-use Rattle.std.proofs.Common.{◌≡◌, ℕ, zero, suc, ◌+◌, ◌*◌, ◌≤◌, ◌==◌, ◌&&◌, ◌||◌, Bool, true, false, not, cond, List, [], ◌∷◌, ◌++◌, length, map, Option, Some, None, refl, sym, ap, ap₂, ◌∙◌, subst, arith, inl, inr}
+use Rattle.std.proofs.Common.{◌≡◌, ℕ, zero, suc, ◌+◌, ◌*◌, ◌≤◌, ◌==◌, ◌&&◌, ◌||◌, Bool, true, false, cond, List, [], ◌∷◌, length, map, Option, Some, refl, sym, ap, ◌∙◌, subst, arith, inr}
 use Rattle.std.specs.Prelude.{slice_get}
 use Rattle.std.specs.List.{list_all, position_from}
-use Rattle.std.proofs.lemmas.Bool.Decides.{nat_tests}
 use Rattle.std.proofs.lemmas.Bool.{eqb-true}
 use Rattle.std.proofs.lemmas.List.{nil_from_length}
-use Rattle.path_formula.specs.Formulas.{FormulaTree, truth_at}
 use Rattle.path_formula.specs.Kinds.{kind_of}
-use Rattle.path_formula.specs.Solutions.{agrees}
 use Rattle.path_formula.specs.Typed.{IsTyped}
 use Rattle.path_formula.specs.View.{view}
 use Rattle.path_formula.specs.declared.kinds.Kind.{Kind}
 use Rattle.path_formula.specs.declared.kinds.Kind.TheVariants.{Constant, Simple, Inside, Outside}
 use Rattle.path_cond.specs.Conditions.{Condition, Entry, AllTyped, entry_holds}
-use Rattle.path_cases.specs.Bounds.{AreValues, Case, is_one_met}
+use Rattle.path_cases.specs.Bounds.{is_one_met}
 use Rattle.path_cases.specs.Cases.{cases_of}
 use Rattle.path_cases.specs.Counts.{capped}
-use Rattle.path_cases.specs.Splits.{CanSplit}
 use Rattle.case_counts.specs.Counts.{entry_case_count, product, formula_choices, range_choices, choice_count, has_no_cases, first_without_cases}
 use Rattle.case_counts.specs.Coupled.{coupled_count, is_inside, is_inside_kind}
 use Rattle.refutation_check.specs.Accepted.{IsAccepted}
 use Rattle.refutation_check.specs.Decisions.{IsRefuted, most_coupled, most_choices}
-use Rattle.refutation_check.specs.Least.{AreCandidates, is_outside_kind, holds_unless_outside}
+use Rattle.refutation_check.specs.Least.{is_outside_kind, holds_unless_outside}
 use Rattle.refutation_check.specs.declared.steps.Refute.TheVariants.{Split}
 use Rattle.path_solver.specs.Laws.{Facts}
 

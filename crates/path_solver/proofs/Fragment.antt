@@ -95,7 +95,7 @@ never_undecided : (c : Condition) (cause : Cause) → IsUndecidedBy c cause → 
 never_undecided c (Coupled count) h none limits = absurd (omega (arith, limits.coupled, h.is, h.many))
 never_undecided c (Cases count) h none limits = absurd (omega (arith, limits.choices, h.1.is, h.1.many))
 never_undecided c (OutsideCause pick values) h none limits =
-    let breaking = licensed c (OutsideCause pick values) h in
+    let breaking = licensed view c (OutsideCause pick values) h in
     let some : list_any is_outside c.entries ≡ true =
     any_at is_outside c.entries pick breaking.entry breaking.at breaking.outside in cc
 
@@ -109,7 +109,7 @@ fragment_settled c (Undecided cause) h f = never_undecided c cause h f.0 (within
 unbroken_by : Facts → (c : Condition) (values : List ℕ) (broken : Option ℕ) → AreCandidates c values
     → first_broken c ≡ broken → broken ≡ None
 unbroken_by facts c values None h e = refl
-unbroken_by facts c values (Some pick) h e = absurd (refuted_none facts c values (inl (inl record { pick = pick; first = e })) h)
+unbroken_by facts c values (Some pick) h e = absurd (refuted_none view facts c values (inl (inl record { pick = pick; first = e })) h)
 
 unbroken : Facts → (c : Condition) (values : List ℕ) → AreCandidates c values → first_broken c ≡ None
 unbroken facts c values h = unbroken_by facts c values (first_broken c) h refl
@@ -126,7 +126,7 @@ candidate_possible : Facts → (c : Condition) (values : List ℕ) (s : SymId) �
 candidate_possible facts c values s h known =
     record {
       fits = h.fitting.fit s.0 (slice_index c.widths s.0) (get_at c.widths s.0 known);
-      meets = candidate_in_domain facts c values s h;
+      meets = candidate_in_domain view facts c values s h;
     }
 
 possible_with : Facts → (c : Condition) (values : List ℕ) (s : SymId) (value : ℕ) (r : SymId) (b : Bool)

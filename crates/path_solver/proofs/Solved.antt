@@ -7,6 +7,7 @@ use Rattle.std.proofs.lemmas.List.Elements.{All-cons, All-head, All-nil}
 use Rattle.sn_width.specs.declared.ids.SymId.{SymId}
 use Rattle.sn_ranges.specs.Ranges.{Range}
 use Rattle.difference_solver.specs.Bound.{number, Meets, IsInRange}
+use Rattle.path_formula.specs.View.{view}
 use Rattle.path_cond.specs.Conditions.{Condition, AllTyped, in_domain, first_broken}
 use Rattle.path_cases.specs.Bounds.{Case}
 use Rattle.path_cases.specs.Cases.{range_case}
@@ -162,7 +163,7 @@ solved_least facts cond leasts v typed none h is =
           (h.least s (slice_index x s.0) known
           (record {
             fits = candidate.fitting.fit s.0 (slice_index cond.widths s.0) (get_at cond.widths s.0 known);
-            meets = candidate_in_domain facts cond x s candidate;
+            meets = candidate_in_domain view facts cond x s candidate;
           })));
     }
   where

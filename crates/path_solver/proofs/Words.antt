@@ -3,8 +3,9 @@ use Rattle.std.proofs.Common.{◌≡◌, ◌⊎◌, ℕ, zero, suc, ◌+◌, ◌
 use Rattle.std.specs.Prelude.{slice_get, slice_index, slice_set}
 use Rattle.std.proofs.lemmas.Bool.{cases_lt, eqb-true}
 use Rattle.std.proofs.lemmas.Bool.Decides.{nat_tests}
-use Rattle.path_cond.specs.Conditions.{Condition}
-use Rattle.refutation_check.specs.Least.{AreFitting, AreLeast, is_at_most}
+use Rattle.path_formula.specs.Formulas.{FormulaTree}
+use Rattle.path_cond.specs.Seen.{ConditionOf}
+use Rattle.refutation_check.specs.Seen.{AreFitting, AreLeast, is_at_most}
 use Rattle.path_solver.proofs.Ascending.{equal_first, lesser_first}
 use Rattle.path_solver.proofs.Atoms.{or_cases}
 use Rattle.path_solver.proofs.Numbering.{and_left, and_right}
@@ -42,8 +43,8 @@ at_most_both (x ∷ xs) (y ∷ ys) h g =
     ]
 
 -- a condition has one list of least values
-pub same_least : (cond : Condition) (xs ys : List ℕ) → AreLeast cond xs → AreLeast cond ys → xs ≡ ys
-same_least cond xs ys h g = at_most_both xs ys (h.first ys g.candidates) (g.first xs h.candidates)
+pub same_least : {X : Type 0} (tree : X → FormulaTree) (cond : ConditionOf X) (xs ys : List ℕ) → AreLeast tree cond xs → AreLeast tree cond ys → xs ≡ ys
+same_least tree cond xs ys h g = at_most_both xs ys (h.first ys g.candidates) (g.first xs h.candidates)
 
 -- where the list is at most one that differs from it in one place, it has no more there
 pub at_most_set : (xs : List ℕ) (i v : ℕ) → i < length xs → is_at_most xs (slice_set xs i v) ≡ true → slice_index xs i ≤ v

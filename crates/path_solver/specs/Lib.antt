@@ -1,5 +1,6 @@
 pub mod Bounds
 pub mod Decisions
+pub mod Judged
 pub mod Laws
 pub mod Origins
 pub mod Problems

@@ -2,10 +2,12 @@
 
 ghost use Rattle.std.specs.Prelude.{◌≡◌, ◌↔◌, ◌⊎◌, ℕ, true, List};
 ghost use Rattle.path_cond.specs.Conditions.{AllTyped, Condition, holds_at};
+ghost use Rattle.path_cond.specs.Seen.{itself};
 ghost use Rattle.refutation_check.specs.Decisions.{IsMetBy, IsUndecidedBy, IsLicensed, IsRefuted};
 ghost use Rattle.refutation_check.specs.Least.{AreFitting};
 ghost use Rattle.refutation_check.specs.declared.outcome.Cause.{Cause as CauseOf};
 ghost use Rattle.path_solver.specs.Decisions.{IsDecisionOn, IsSat, IsUnsat, IsUndecided, IsSettled, IsInFragment, HasNoInside, HasLeastValues};
+ghost use Rattle.path_solver.specs.Judged.{AreExact};
 ghost use Rattle.path_solver.specs.declared.decision.Decided.{Decided as Decision};
 
 use crate::below::facts;
@@ -34,6 +36,13 @@ pub fn no_condition_is_two_of_refuted_undecided_and_met()
     ensures met { (cond : Condition) (values : List ℕ) → IsRefuted cond → IsMetBy cond values → ⊥ }
     ensures either { (cond : Condition) (cause : CauseOf) (values : List ℕ)
         → IsUndecidedBy cond cause → IsMetBy cond values → ⊥ }
+{
+    facts();
+}
+
+/// The same of conditions of trees: each is exactly one of refuted, undecided and met, and what these three say holds.
+pub fn verdicts_on_trees_are_exact()
+    ensures { AreExact itself }
 {
     facts();
 }

@@ -1,5 +1,5 @@
 -- Values reduced to the widths of their symbols.
-use Rattle.std.proofs.Common.{◌≡◌, ℕ, zero, suc, ◌+◌, ◌*◌, ◌%◌, ◌^◌, ◌<◌, not, ◌&&◌, ◌||◌, List, [], ◌∷◌, Some, refl, sym, ap, ap₂, ◌∙◌, subst}
+use Rattle.std.proofs.Common.{◌≡◌, ℕ, zero, suc, ◌+◌, ◌*◌, ◌%◌, ◌^◌, ◌<◌, Bool, not, ◌&&◌, ◌||◌, List, [], ◌∷◌, Some, refl, sym, ap, ap₂, ◌∙◌, subst}
 use Rattle.std.specs.Prelude.{slice_get, slice_index}
 use Rattle.std.specs.List.{list_all}
 use Rattle.std.proofs.Math.Nat.{mod-add-mod, add-mod-mod}
@@ -10,8 +10,7 @@ use Rattle.sn_ranges.specs.Ranges.{is_member}
 use Rattle.path_formula.specs.Formulas.{FormulaTree, always, compared, belongs, all_of, any_of, opposite, Formulas, no_formulas, formula, truth_at, all_true, any_true}
 use Rattle.path_formula.specs.Solutions.{agrees}
 use Rattle.path_formula.specs.Typed.{PartsAreTyped, IsTyped, AreTyped}
-use Rattle.path_formula.specs.View.{view}
-use Rattle.path_cond.specs.Conditions.{Condition, Entry, AllTyped, entry_holds, holds_at}
+use Rattle.path_cond.specs.Seen.{ConditionOf, AllTyped, entry_holds, holds_at}
 use Rattle.path_cases.specs.Bounds.{AreValues}
 
 -- each value modulo 2 to the width of its symbol
@@ -66,10 +65,10 @@ module _ (widths values : List ℕ) where
     same_any no_formulas typed = refl
     same_any (formula f fs) typed = ap₂ ◌||◌ (same_truth f typed.0) (same_any fs typed.1)
 
-  same_each : (entries : List Entry) → AllTyped widths entries → list_all (entry_holds (reduced widths values)) entries ≡ list_all (entry_holds values) entries
-  same_each [] typed = refl
-  same_each (e ∷ entries) typed = ap₂ ◌&&◌ (ap (agrees e.1) (same_truth (view e.0) typed.0)) (same_each entries typed.1)
+  same_each : {X : Type 0} (tree : X → FormulaTree) (entries : List (X × Bool)) → AllTyped tree widths entries → list_all (entry_holds tree (reduced widths values)) entries ≡ list_all (entry_holds tree values) entries
+  same_each tree [] typed = refl
+  same_each tree (e ∷ entries) typed = ap₂ ◌&&◌ (ap (agrees e.1) (same_truth (tree e.0) typed.0)) (same_each tree entries typed.1)
 
 -- a typed condition goes by the reduced values
-pub reduced_holds : (c : Condition) (values : List ℕ) → AllTyped c.widths c.entries → holds_at c (reduced c.widths values) ≡ holds_at c values
-reduced_holds c values typed = same_each c.widths values c.entries typed
+pub reduced_holds : {X : Type 0} (tree : X → FormulaTree) (c : ConditionOf X) (values : List ℕ) → AllTyped tree c.widths c.entries → holds_at tree c (reduced c.widths values) ≡ holds_at tree c values
+reduced_holds tree c values typed = same_each c.widths values tree c.entries typed

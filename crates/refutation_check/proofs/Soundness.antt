@@ -13,16 +13,15 @@ use Rattle.path_formula.specs.Formulas.{FormulaTree, truth_at}
 use Rattle.path_formula.specs.Kinds.{kind_of}
 use Rattle.path_formula.specs.Solutions.{agrees, alone}
 use Rattle.path_formula.specs.Typed.{IsTyped}
-use Rattle.path_formula.specs.View.{view}
 use Rattle.path_formula.specs.declared.kinds.Kind.{Kind}
 use Rattle.path_formula.specs.declared.kinds.Kind.TheVariants.{Constant, Simple, Inside, Outside}
-use Rattle.path_cond.specs.Conditions.{Condition, Entry, AllTyped, entry_holds, holds_at, in_domain, is_entry_on, is_simple_on, meets}
+use Rattle.path_cond.specs.Seen.{ConditionOf, AllTyped, entry_holds, holds_at, in_domain, is_entry_on, is_simple_on, meets}
 use Rattle.path_cases.specs.Bounds.{Case, AreValues, number, is_met, is_case_met, is_one_met}
 use Rattle.path_cases.specs.Cases.{cases_of, single_cases, with_bounds}
 use Rattle.path_cases.specs.Splits.{CanSplit}
 use Rattle.path_cases.specs.declared.bound.SymBound.{SymBound}
-use Rattle.case_counts.specs.Picks.{passes, is_simple_pick, pick_holds, are_simple_picks, meets_picks}
-use Rattle.refutation_check.specs.Accepted.{IsUnmeetable, Leaves, Refutes, IsAccepted}
+use Rattle.case_counts.specs.Seen.{passes, is_simple_pick, pick_holds, are_simple_picks, meets_picks}
+use Rattle.refutation_check.specs.Seen.{IsUnmeetable, Leaves, Refutes, IsAccepted}
 use Rattle.refutation_check.specs.Cycles.{IsWalk, at_most_of, total, IsNegativeCycle}
 use Rattle.refutation_check.specs.declared.steps.Refute.{Refute}
 use Rattle.refutation_check.specs.declared.steps.Refute.TheVariants.{Empty, Domain, Split, Cycle}
@@ -34,7 +33,6 @@ pub record Laws : Type 0 where
   pub range_is : (s : SymId) (w : ℕ) (test : ℕ → Bool) (values : List ℕ) → FitsWidth w (slice_index values s.0) → is_one_met values (single_cases s w test) ≡ test (slice_index values s.0)
   pub case_is : (f : FormulaTree) (holds : Bool) (widths values : List ℕ) → CanSplit f → IsTyped widths f → AreValues widths values → is_one_met values (cases_of f holds) ≡ agrees holds (truth_at f values)
   pub more_is : (bounds : Case) (cases : List Case) (values : List ℕ) → is_one_met values (with_bounds cases bounds) ≡ (is_case_met values bounds && is_one_met values cases)
-  pub typed_is : (c : Condition) (pick : ℕ) (e : Entry) → AllTyped c.widths c.entries → slice_get c.entries pick ≡ Some e → IsTyped c.widths (view e.0)
 
 and_left : (a b : Bool) → (a && b) ≡ true → a ≡ true
 and_left true b h = refl
@@ -50,11 +48,16 @@ both a b ha hb = ap₂ ◌&&◌ ha hb
 not_both : (b : Bool) → b ≡ true → b ≡ false → ⊥
 not_both b h k = cc
 
--- the formula of a pick has the truth that it must have
-holds_pick : (values : List ℕ) (entries : List Entry) (i : ℕ) (e : Entry) → slice_get entries i ≡ Some e → list_all (entry_holds values) entries ≡ true → entry_holds values e ≡ true
-holds_pick values [] i e is h = cc
-holds_pick values (d ∷ entries) zero e is h = let same : d ≡ e = cc in subst (λ (x : Entry). entry_holds values x ≡ true) same (and_left (entry_holds values d) (list_all (entry_holds values) entries) h)
-holds_pick values (d ∷ entries) (suc i) e is h = holds_pick values entries i e is (and_right (entry_holds values d) (list_all (entry_holds values) entries) h)
+-- what passes at each place passes at one
+passes_at : {E : Type 0} (p : E → Bool) (es : List E) (i : ℕ) (e : E) → slice_get es i ≡ Some e → list_all p es ≡ true → p e ≡ true
+passes_at p [] i e is h = cc
+passes_at p (d ∷ es) zero e is h = let same : d ≡ e = cc in ap p (sym same) ∙ and_left (p d) (list_all p es) h
+passes_at p (d ∷ es) (suc i) e is h = passes_at p es i e is (and_right (p d) (list_all p es) h)
+
+typed_at : {X : Type 0} (tree : X → FormulaTree) (widths : List ℕ) (es : List (X × Bool)) (pick : ℕ) (e : X × Bool) → AllTyped tree widths es → slice_get es pick ≡ Some e → IsTyped widths (tree e.0)
+typed_at tree widths [] pick e typed is = cc
+typed_at {X} tree widths (d ∷ es) zero e typed is = let same : d ≡ e = cc in subst (λ (x : X × Bool). IsTyped widths (tree x.0)) same typed.0
+typed_at tree widths (d ∷ es) (suc pick) e typed is = typed_at tree widths es pick e typed.1 is
 
 kind_simple : (s : SymId) (k : Kind) → is_simple_on s k ≡ true → k ≡ Simple s
 kind_simple s (Constant b) h = cc
@@ -108,53 +111,53 @@ is_false : (b : Bool) → (b ≡ true → ⊥) → b ≡ false
 is_false true h = absurd (h refl)
 is_false false h = refl
 
-module _ (laws : Laws) (c : Condition) (typed : AllTyped c.widths c.entries) (values : List ℕ) (fit : AreValues c.widths values) (holds : holds_at c values ≡ true) where
+module _ {X : Type 0} (tree : X → FormulaTree) (laws : Laws) (c : ConditionOf X) (typed : AllTyped tree c.widths c.entries) (values : List ℕ) (fit : AreValues c.widths values) (holds : holds_at tree c values ≡ true) where
   -- a simple formula that holds, holds of its symbol's value alone
-  alone_holds : (s : SymId) (e : Entry) → is_entry_on s e ≡ true → entry_holds values e ≡ true → entry_holds (alone s (slice_index values s.0)) e ≡ true
-  alone_holds s e on h = ap (agrees e.1) (sym (laws.alone_is (view e.0) s values (kind_simple s (kind_of (view e.0)) on))) ∙ h
+  alone_holds : (s : SymId) (e : X × Bool) → is_entry_on tree s e ≡ true → entry_holds tree values e ≡ true → entry_holds tree (alone s (slice_index values s.0)) e ≡ true
+  alone_holds s e on h = ap (agrees e.1) (sym (laws.alone_is (tree e.0) s values (kind_simple s (kind_of (tree e.0)) on))) ∙ h
 
-  pick_true : (s : SymId) (o : Option Entry) → ((e : Entry) → o ≡ Some e → entry_holds values e ≡ true) → passes (is_entry_on s) o ≡ true → passes (entry_holds (alone s (slice_index values s.0))) o ≡ true
+  pick_true : (s : SymId) (o : Option (X × Bool)) → ((e : X × Bool) → o ≡ Some e → entry_holds tree values e ≡ true) → passes (is_entry_on tree s) o ≡ true → passes (entry_holds tree (alone s (slice_index values s.0))) o ≡ true
   pick_true s None all on = on
   pick_true s (Some e) all on = alone_holds s e on (all e refl)
 
-  picks_true : (s : SymId) (picks : List ℕ) → are_simple_picks s c picks ≡ true → meets_picks s c picks (slice_index values s.0) ≡ true
+  picks_true : (s : SymId) (picks : List ℕ) → are_simple_picks tree s c picks ≡ true → meets_picks tree s c picks (slice_index values s.0) ≡ true
   picks_true s [] on = refl
   picks_true s (pick ∷ picks) on =
-      both (pick_holds c (alone s (slice_index values s.0)) pick) (meets_picks s c picks (slice_index values s.0))
-      (pick_true s (slice_get c.entries pick) (λ e is. holds_pick values c.entries pick e is holds) (and_left (is_simple_pick s c pick) (are_simple_picks s c picks) on))
-      (picks_true s picks (and_right (is_simple_pick s c pick) (are_simple_picks s c picks) on))
+      both (pick_holds tree c (alone s (slice_index values s.0)) pick) (meets_picks tree s c picks (slice_index values s.0))
+      (pick_true s (slice_get c.entries pick) (λ e is. passes_at (entry_holds tree values) c.entries pick e is holds) (and_left (is_simple_pick tree s c pick) (are_simple_picks tree s c picks) on))
+      (picks_true s picks (and_right (is_simple_pick tree s c pick) (are_simple_picks tree s c picks) on))
 
   value_fits : (s : SymId) → s.0 < length c.widths → FitsWidth (slice_index c.widths s.0) (slice_index values s.0)
   value_fits s known = fit s.0 (slice_index c.widths s.0) (width_at c.widths s.0 known)
 
-  no_empty : (s : SymId) (picks : List ℕ) → IsUnmeetable c s picks → ⊥
+  no_empty : (s : SymId) (picks : List ℕ) → IsUnmeetable tree c s picks → ⊥
   no_empty s picks h =
       let w = slice_index c.widths s.0 in
       let x = slice_index values s.0 in
-      not_both (fits_width w x && meets_picks s c picks x) (both (fits_width w x) (meets_picks s c picks x) (lt-ltb x (2 ^ w) (value_fits s h.known)) (picks_true s picks h.simple)) (h.no_value x)
+      not_both (fits_width w x && meets_picks tree s c picks x) (both (fits_width w x) (meets_picks tree s c picks x) (lt-ltb x (2 ^ w) (value_fits s h.known)) (picks_true s picks h.simple)) (h.no_value x)
 
-  meets_by : (s : SymId) (e : Entry) (on : Bool) → is_entry_on s e ≡ on → entry_holds values e ≡ true → cond on (entry_holds (alone s (slice_index values s.0)) e) true ≡ true
+  meets_by : (s : SymId) (e : X × Bool) (on : Bool) → is_entry_on tree s e ≡ on → entry_holds tree values e ≡ true → cond on (entry_holds tree (alone s (slice_index values s.0)) e) true ≡ true
   meets_by s e true is h = alone_holds s e is h
   meets_by s e false is h = refl
 
-  domain_by : (s : SymId) (entries : List Entry) → list_all (entry_holds values) entries ≡ true → list_all (meets s (alone s (slice_index values s.0))) entries ≡ true
+  domain_by : (s : SymId) (entries : List (X × Bool)) → list_all (entry_holds tree values) entries ≡ true → list_all (meets tree s (alone s (slice_index values s.0))) entries ≡ true
   domain_by s [] h = refl
   domain_by s (e ∷ entries) h =
-      both (meets s (alone s (slice_index values s.0)) e) (list_all (meets s (alone s (slice_index values s.0))) entries)
-      (meets_by s e (is_entry_on s e) refl (and_left (entry_holds values e) (list_all (entry_holds values) entries) h))
-      (domain_by s entries (and_right (entry_holds values e) (list_all (entry_holds values) entries) h))
+      both (meets tree s (alone s (slice_index values s.0)) e) (list_all (meets tree s (alone s (slice_index values s.0))) entries)
+      (meets_by s e (is_entry_on tree s e) refl (and_left (entry_holds tree values e) (list_all (entry_holds tree values) entries) h))
+      (domain_by s entries (and_right (entry_holds tree values e) (list_all (entry_holds tree values) entries) h))
 
   -- values that meet the gathered bounds meet those of a case that the step leaves
-  step_sound : (g : Case) (step : Refute) (cases : List Case) → Leaves c g step cases → is_case_met values g ≡ true → is_one_met values cases ≡ true
+  step_sound : (g : Case) (step : Refute) (cases : List Case) → Leaves tree c g step cases → is_case_met values g ≡ true → is_one_met values cases ≡ true
   step_sound g (Empty s picks) cases h met = absurd (no_empty s picks h.0)
   step_sound g (Domain s) cases h met =
-      ap (is_one_met values) h.1 ∙ laws.range_is s (slice_index c.widths s.0) (in_domain s c) values (value_fits s h.0.known) ∙ domain_by s c.entries holds
+      ap (is_one_met values) h.1 ∙ laws.range_is s (slice_index c.widths s.0) (in_domain tree s c) values (value_fits s h.0.known) ∙ domain_by s c.entries holds
   step_sound g (Split pick) cases h met =
-      ap (is_one_met values) h.cases_are ∙ laws.case_is (view h.entry.0) h.entry.1 c.widths values h.splits (laws.typed_is c pick h.entry typed h.at) fit
-      ∙ holds_pick values c.entries pick h.entry h.at holds
+      ap (is_one_met values) h.cases_are ∙ laws.case_is (tree h.entry.0) h.entry.1 c.widths values h.splits (typed_at tree c.widths c.entries pick h.entry typed h.at) fit
+      ∙ passes_at (entry_holds tree values) c.entries pick h.entry h.at holds
   step_sound g (Cycle bounds) cases h met = absurd (no_cycle values g bounds met h.0)
 
-  refutes_sound : (steps : List Refute) (alternatives : List Case) → Refutes c alternatives steps → is_one_met values alternatives ≡ false
+  refutes_sound : (steps : List Refute) (alternatives : List Case) → Refutes tree c alternatives steps → is_one_met values alternatives ≡ false
   refutes_sound [] [] h = refl
   refutes_sound [] (g ∷ alternatives) h = absurd h
   refutes_sound (step ∷ steps) [] h = absurd h
@@ -165,11 +168,11 @@ module _ (laws : Laws) (c : Condition) (typed : AllTyped c.widths c.entries) (va
       list_any-append (is_case_met values) (with_bounds cases g) alternatives ∙ ap (λ b. b || is_one_met values alternatives) (laws.more_is g cases values) in
       pass_by (is_case_met values g) (is_one_met values cases) (is_one_met values alternatives) (step_sound g step cases h.1) (sym split ∙ later)
 
-  accepted_never : (steps : List Refute) → IsAccepted c steps → ⊥
+  accepted_never : (steps : List Refute) → IsAccepted tree c steps → ⊥
   accepted_never steps h = not_both true refl (refutes_sound steps ([] ∷ []) h)
 
 -- no values make a condition true for which a refutation is accepted
-pub accepted_refutes : (laws : Laws) (c : Condition) (steps : List Refute) (values : List ℕ) → AllTyped c.widths c.entries → IsAccepted c steps → holds_at c values ≡ false
-accepted_refutes laws c steps values typed h =
-    is_false (holds_at c values)
-    (λ true_at. accepted_never laws c typed (reduced c.widths values) (reduced_fit c.widths values) (reduced_holds c values typed ∙ true_at) steps h)
+pub accepted_refutes : {X : Type 0} (tree : X → FormulaTree) (laws : Laws) (c : ConditionOf X) (steps : List Refute) (values : List ℕ) → AllTyped tree c.widths c.entries → IsAccepted tree c steps → holds_at tree c values ≡ false
+accepted_refutes tree laws c steps values typed h =
+    is_false (holds_at tree c values)
+    (λ true_at. accepted_never tree laws c typed (reduced c.widths values) (reduced_fit c.widths values) (reduced_holds tree c values typed ∙ true_at) steps h)

@@ -1,5 +1,5 @@
 -- What is said of a condition is said of the trees of its formulas.
-use Rattle.std.specs.Prelude.{◌≡◌, ◌↔◌, ℕ, List}
+use Rattle.std.specs.Prelude.{◌≡◌, ◌↔◌, ℕ, false, List}
 use Rattle.sn_width.specs.declared.ids.SymId.{SymId}
 use Rattle.path_formula.specs.Formulas.{FormulaTree}
 use Rattle.path_cond.specs.Seen.{ConditionOf, itself, seen, holds_at, first_broken, AllTyped}
@@ -31,3 +31,8 @@ pub record IsJudgedByTrees {X : Type 0} (tree : X → FormulaTree) (cond : Condi
   pub undecided : (cause : Cause) → IsUndecidedBy tree cond cause ↔ IsUndecidedBy itself (seen tree cond) cause
   pub licensed : (cause : Cause) → IsLicensed tree cond cause ↔ IsLicensed itself (seen tree cond) cause
   pub accepted : (steps : List Refute) → IsAccepted tree cond steps ↔ IsAccepted itself (seen tree cond) steps
+
+-- where a refutation is accepted, no values make the condition true
+abbrev pub AcceptedRefute : {X : Type 0} → (X → FormulaTree) → Type 0
+AcceptedRefute {X} tree = (cond : ConditionOf X) (steps : List Refute) (values : List ℕ)
+    → AllTyped tree cond.widths cond.entries → IsAccepted tree cond steps → holds_at tree cond values ≡ false

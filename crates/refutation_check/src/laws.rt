@@ -7,7 +7,7 @@ ghost use Rattle.path_cond.specs.Seen.{itself};
 ghost use Rattle.path_cases.specs.Bounds.{Case};
 ghost use Rattle.refutation_check.specs.Accepted.{Advances, IsAccepted, Reaches, Refutes};
 ghost use Rattle.refutation_check.specs.Longer.{ConstantsAreFree, LeastStay, WidenFreely};
-ghost use Rattle.refutation_check.specs.Trees.{IsJudgedByTrees};
+ghost use Rattle.refutation_check.specs.Trees.{AcceptedRefute, IsJudgedByTrees};
 ghost use Rattle.refutation_check.specs.declared.steps.Refute.{Refute as Step};
 
 use path_cases::laws::{
@@ -15,7 +15,6 @@ use path_cases::laws::{
     one_case_is_met_exactly_where_the_formula_has_the_truth,
     one_range_is_met_exactly_where_the_value_passes,
 };
-use path_cond::laws::each_formula_is_typed;
 use path_formula::laws::{
     a_constant_formula_has_one_truth, a_simple_formula_has_a_known_symbol,
     a_simple_formula_may_stand_alone,
@@ -30,7 +29,16 @@ pub fn an_accepted_refutation_refutes()
     one_range_is_met_exactly_where_the_value_passes();
     one_case_is_met_exactly_where_the_formula_has_the_truth();
     bounds_before_cases_are_met_with_one_of_them();
-    each_formula_is_typed();
+}
+
+/// The same of a condition of trees.
+pub fn an_accepted_refutation_of_trees_refutes()
+    ensures { AcceptedRefute itself }
+{
+    a_simple_formula_may_stand_alone();
+    one_range_is_met_exactly_where_the_value_passes();
+    one_case_is_met_exactly_where_the_formula_has_the_truth();
+    bounds_before_cases_are_met_with_one_of_them();
 }
 
 /// Steps may be read one after another: a step that is right where they lead to goes on from there.

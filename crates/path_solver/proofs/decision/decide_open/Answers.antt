@@ -1,4 +1,4 @@
-use Rattle.std.proofs.Common.{◌≡◌, ◌≤◌, ◌∙◌, List, [], ◌∷◌, Some, length, ap, arith, subst, sym}
+use Rattle.std.proofs.Common.{◌≡◌, ◌≤◌, ◌∙◌, List, Some, length, ap, arith, subst, sym}
 use Rattle.case_counts.specs.Counts.{first_without_cases}
 use Rattle.case_counts.specs.Coupled.{coupled_count}
 use Rattle.refutation_check.specs.Accepted.{IsAccepted}

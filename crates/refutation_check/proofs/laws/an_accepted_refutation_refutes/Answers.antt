@@ -1,3 +1,4 @@
+use Rattle.path_formula.specs.View.{view}
 use Rattle.refutation_check.proofs.Soundness.{Laws, accepted_refutes}
 use Rattle.refutation_check.proofs.laws.an_accepted_refutation_refutes.Goals as goal
 
@@ -8,6 +9,5 @@ returns c =
       range_is = c.one_range_is_met_exactly_where_the_value_passes.ensures;
       case_is = c.one_case_is_met_exactly_where_the_formula_has_the_truth.ensures;
       more_is = c.bounds_before_cases_are_met_with_one_of_them.ensures;
-      typed_is = c.each_formula_is_typed.ensures;
     } in
-    accepted_refutes laws
+    accepted_refutes view laws
