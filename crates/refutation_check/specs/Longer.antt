@@ -51,7 +51,7 @@ abbrev pub pick_before : ℕ → ℕ → ℕ
 pick_before place pick = if nat_lt pick place then pick else pick - 1
 
 module _ {X : Type 0} (tree : X → FormulaTree) where
-  -- What stays where a condition has more formulas, or more symbols and then more formulas.
+  -- what stays where a condition has more formulas, or more symbols and then more formulas
   pub record LeastStay : Type 0 where
     -- least values that satisfy each further formula that is not outside are the least of the longer condition
     pub least : (cond : ConditionOf X) (more : List (X × Bool)) (values : List ℕ) → AreLeast tree cond values
@@ -66,13 +66,13 @@ module _ {X : Type 0} (tree : X → FormulaTree) where
     -- no candidates stay none
     pub none : (cond : ConditionOf X) (more : List (X × Bool)) → HasNoCandidates tree cond → HasNoCandidates tree (with_entries cond more)
 
-  -- Symbols that no formula has change nothing: they are 0 in the least values.
+  -- symbols that no formula has change no verdict, and are 0 in the least values
   pub record WidenFreely : Type 0 where
     pub refuted : (cond : ConditionOf X) (more : List ℕ) → AllTyped tree cond.widths cond.entries → IsRefuted tree (with_widths cond more) ↔ IsRefuted tree cond
     pub met : (cond : ConditionOf X) (more values : List ℕ) → AllTyped tree cond.widths cond.entries → IsMetBy tree cond values → IsMetBy tree (with_widths cond more) (values ++ zeros more)
     pub undecided : (cond : ConditionOf X) (more : List ℕ) (cause : Cause) → AllTyped tree cond.widths cond.entries → IsUndecidedBy tree cond cause → IsUndecidedBy tree (with_widths cond more) (with_zeros more cause)
 
-  -- A constant formula that has the truth that it must have changes no verdict, wherever it stands.
+  -- a constant formula that has the truth that it must have changes no verdict, wherever it stands
   pub record ConstantsAreFree : Type 0 where
     pub refuted : (widths : List ℕ) (before after : List (X × Bool)) (entry : X × Bool) → kind_of (tree entry.0) ≡ Constant entry.1
         → IsRefuted tree (condition_of widths (before ++ entry ∷ after)) ↔ IsRefuted tree (condition_of widths (before ++ after))
