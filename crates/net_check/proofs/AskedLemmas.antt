@@ -1,5 +1,5 @@
 -- What the answers of patterns say of an acceptance.
-use Rattle.std.proofs.Common.{◌≡◌, ◌∙◌, sym, ap, refl, subst, ℕ, suc, ◌+◌, ◌≤◌, List, [], ◌∷◌, length, Option, Some, Err, arith}
+use Rattle.std.proofs.Common.{◌≡◌, ◌∙◌, sym, ap, refl, ℕ, suc, ◌+◌, ◌≤◌, List, [], ◌∷◌, length, Option, Some, Err, arith}
 use Rattle.std.specs.List.{AllByRecursion}
 use Rattle.sn_width.specs.declared.ids.NameId.{NameId}
 use Rattle.sn_edge.specs.declared.patterns.Found.{Found}
@@ -22,9 +22,12 @@ from_less count first more (id ∷ ids) le h = (omega (arith, le, h.0), h.1, h.2
 names_ascend : {S : Type 0} (step : S → List ℕ → List ℕ → Found → S → Type 0) (pattern : List ℕ) (s t : S) (id count : ℕ) (names : List (List ℕ)) (ids : List NameId)
     → AsksNames step pattern s id names ids t → count ≡ id + length names → AreIdsFrom count id ids
 names_ascend step pattern s t id count names ids (no_names u i) end = tt
-names_ascend step pattern s t id count names ids (finds u m v i name others rest now later) end =
-    (omega arith, omega (arith, end), from_less count (suc id) (id + 1) rest (omega arith)
-    (names_ascend step pattern m v (id + 1) count others rest later (omega (arith, end))))
+names_ascend step pattern s t id count names ids (finds u m v i name others rest now later) end = (
+  omega arith,
+  omega (arith, end),
+  from_less count (suc id) (id + 1) rest (omega arith)
+      (names_ascend step pattern m v (id + 1) count others rest later (omega (arith, end))),
+)
 names_ascend step pattern s t id count names ids (misses u m v i name others rest now later) end =
     from_less count id (id + 1) rest (omega arith) (names_ascend step pattern m v (id + 1) count others rest later (omega (arith, end)))
 

@@ -354,7 +354,7 @@ pub fields_go : {V F : Type 0} (laws : StackLaws V) (o : Values V F) (net : Netw
 fields_go laws o net node known number before [] s have keeps names widths =
     record { next = s; goes = refl; have = subst (λ fs. HaveCells net node known fs s) (sym (append-nil before)) have }
 fields_go laws o net node known number before (f ∷ fields) s have keeps names widths =
-    let one = target_goes laws net node known before f.value (field_value o (scene_at net node) (width_of f.target) number f.value) s have f.target
+    let one = target_goes laws net node known before f.value (field_value o (width_of f.target) number f.value) s have f.target
     keeps.0.bound keeps.0.address keeps.0.apart names.0.metas widths.0.0 in
     let rest = fields_go laws o net node known (number + length (unknown_width f)) (before ++ f ∷ []) fields one.next one.have keeps.1 names.1 widths.1 in
     record {

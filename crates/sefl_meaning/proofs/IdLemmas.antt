@@ -438,7 +438,7 @@ module _ {V F : Type 0} (o : Values V F) (at : Scene) (scene : IsOwnScene at) wh
   fields_own tags before [] names number s h = h
   fields_own tags before (f ∷ fs) names number s h =
       let named = first_named at.net f.target [] names.0.metas in
-      let value = field_value o at (width_of f.target) number f.value in
+      let value = field_value o (width_of f.target) number f.value in
       and_own (with_field o at number f s) (with_fields o at (number + length (unknown_width f)) fs)
       (and_own (allocated at f.target s) (assigned at f.target value) (allocated_own at scene s h f.target named) (λ next k. assigned_own at scene next k value f.target named))
       (λ next k. fields_own tags (before ++ f ∷ []) fs names.1 (number + length (unknown_width f)) next k)

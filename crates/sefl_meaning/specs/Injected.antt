@@ -17,20 +17,20 @@ use Rattle.sefl_meaning.specs.Steps.{allocated, assigned, tag_set}
 use Rattle.sefl_meaning.specs.Runs.{starting}
 use Rattle.sefl_meaning.specs.Walks.{Trail, Passage, shown, enter}
 
+-- the given value, or the unknown field of that number
+abbrev pub field_value : {V F : Type 0} → Values V F → ℕ → ℕ → Option ℕ → V
+field_value o width number None = o.unknown width number
+field_value o width number (Some n) = o.constant width n
+
 module _ {V F : Type 0} (o : Values V F) (at : Scene) where
   abbrev pub with_tags : List (List ℕ × Addr) → Carried V → Result (Carried V) LayoutFault
   with_tags [] s = Ok s
   with_tags (line ∷ lines) s = and_then (tag_set at line.0 line.1 s) (with_tags lines)
 
-  -- the given value, or the unknown field of that number
-  abbrev pub field_value : ℕ → ℕ → Option ℕ → V
-  field_value width number None = o.unknown width number
-  field_value width number (Some n) = o.constant width n
-
   -- a field is one cell
   abbrev pub with_field : ℕ → RawField → Carried V → Result (Carried V) LayoutFault
   with_field number f s =
-      and_then (allocated at f.target s) (assigned at f.target (field_value (width_of f.target) number f.value))
+      and_then (allocated at f.target s) (assigned at f.target (field_value o (width_of f.target) number f.value))
 
   -- the first unknown field has this number
   abbrev pub with_fields : ℕ → List RawField → Carried V → Result (Carried V) LayoutFault
