@@ -20,3 +20,5 @@ pub mod Composing
 pub mod Forking
 pub mod StartLemmas
 pub mod IdLemmas
+pub mod Keeping
+pub mod Typing

@@ -18,21 +18,23 @@ ghost use Rattle.sefl_meaning.specs.Valued.{Respects};
 ghost use Rattle.sefl_meaning.specs.Values.{Values, numbers};
 ghost use Rattle.sefl_meaning.specs.Walks as walks;
 
-use crate::laws::{accepted_injections_go, runs_are_ways, valuing_commutes, widths_are_kept};
+use crate::laws::{
+    Truths, accepted_injections_go, runs_are_ways, valuing_commutes, widths_are_kept,
+};
 use net_check::laws::{found_names_ascend, names_are_known, packets_enter_a_node};
 use net_tables::laws::{codes_have_places, links_are_told, positions_have_names};
 
 /// What is explored from an injection: the walks of a packet are those of its tree over numbers, a packet
 /// starts exactly where all tests are true there, functions that respect the operations commute with it,
 /// and an accepted injection has one.
-pub fn injections_have_a_start<V: Drop, F: Drop, W: Drop, G: Drop>()
+pub fn injections_have_a_start<V: Drop, F: Truths, W: Drop, G: Truths>()
     ensures walks { (net : Network) (i : Entry) (v : List ℕ) (hops : ℕ) (s : Carried ℕ)
         → walks_of (tree_from (numbers v (unknown_count i)) net i hops s) ≡ passages_from net i v hops s }
     ensures starts { (net : Network) (i : Entry) (v : List ℕ) (hops : ℕ) (s : Carried ℕ) → Starts net i v s ↔ StartsAt net i v hops s }
-    ensures valued { (fits : ℕ → V → Bool) (o : Values V F) (p : Values W G) (f : V → W) (g : F → G) → Respects fits o p f g
+    ensures valued { (fits : ℕ → V → Bool) (o : Values V F.Truth) (p : Values W G.Truth) (f : V → W) (g : F.Truth → G.Truth) → Respects fits o p f g
         → (net : Network) (i : Entry) (hops : ℕ) → start_of p net i hops ≡ outcome.on_ok (start_valued f g) (start_of o net i hops) }
-    ensures goes { (o : Values V F) (net : Network) (i : Entry) (hops : ℕ) → AreOfOneJob net i → AllByRecursion HasWidth i.own.fields
-        → (start : Start V F) × (start_of o net i hops ≡ Ok start) }
+    ensures goes { (o : Values V F.Truth) (net : Network) (i : Entry) (hops : ℕ) → AreOfOneJob net i → AllByRecursion HasWidth i.own.fields
+        → (start : Start V F.Truth) × (start_of o net i hops ≡ Ok start) }
 {
     runs_are_ways();
     valuing_commutes::<V, F, W, G>();
@@ -42,10 +44,10 @@ pub fn injections_have_a_start<V: Drop, F: Drop, W: Drop, G: Drop>()
 
 /// The nodes, tags and metadata names that a run of an accepted net names are the net's own: from an
 /// injection of its job, at each port, in all that is carried on the way, and on each walk of a packet.
-pub fn ids_are_the_nets_own<V: Drop, F: Drop>()
-    ensures injection { (o : Values V F) (net : Network) (i : Entry) → AreOfOneJob net i
+pub fn ids_are_the_nets_own<V: Drop, F: Truths>()
+    ensures injection { (o : Values V F.Truth) (net : Network) (i : Entry) → AreOfOneJob net i
         → (s : Carried V) → injected o (scene_at net i.node) i.own ≡ Ok s → IsNode net i.node × CarriesOwn net s }
-    ensures trees { (o : Values V F) (net : Network) → IsAcceptedNet net
+    ensures trees { (o : Values V F.Truth) (net : Network) → IsAcceptedNet net
         → (hops port : ℕ) (node : NodeId) (p : Progress V) → IsNode net node → CarriesOwn net p.state
         → HasOwnIds net (trees.enter o net hops node port p) }
     ensures walks { (net : Network) → IsAcceptedNet net
