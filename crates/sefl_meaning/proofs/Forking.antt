@@ -1,5 +1,5 @@
 -- Where each Fork lists a port, each split has a copy; and so it is in an accepted net.
-use Rattle.std.proofs.Common.{◌≡◌, ℕ, zero, suc, ◌+◌, Bool, true, false, cond, List, [], ◌∷◌, ◌++◌, length, refl, sym, ap, ◌∙◌, Option, Some, None, option_map, Result, Ok, Err, find, slice_get}
+use Rattle.std.proofs.Common.{◌≡◌, ℕ, zero, suc, ◌+◌, Bool, true, false, cond, List, [], ◌∷◌, length, refl, Option, Some, None, option_map, Result, Ok, Err, find, slice_get}
 use Rattle.std.specs.Prelude.{unwrap_or}
 use Rattle.std.specs.List.{AllByRecursion}
 use Rattle.sn_width.specs.declared.faults.LayoutFault.{LayoutFault}
@@ -22,7 +22,7 @@ use Rattle.sefl_meaning.specs.Runs.{Exit, off, go, forked, failed, in_turn, turn
 use Rattle.sefl_meaning.specs.Terms.{truth_in}
 use Rattle.sefl_meaning.specs.Steps.{allocated, deallocated, assigned, evaluated, tag_created, tag_set, tag_destroyed}
 use Rattle.sefl_meaning.specs.Courses.{step, chosen, at_if, at_constrain, Progress, begin, Course, ends, asks, off_or, after, unless_fault, course_turns, course_in, course_code}
-use Rattle.sefl_meaning.specs.Trees.{Tree, Copies, then_tree, Onward, port_course, crossed, leave, copies, passed, enter}
+use Rattle.sefl_meaning.specs.Trees.{Tree, then_tree, Onward, port_course, crossed, leave, copies, passed, enter}
 use Rattle.sefl_meaning.specs.Routes.{Splits, EachSplits, HasCopy}
 use Rattle.sefl_meaning.proofs.AllLemmas.{all_first, all_later}
 

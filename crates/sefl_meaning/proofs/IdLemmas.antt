@@ -1,6 +1,6 @@
 -- What a net does names its own nodes, tags and metadata alone.
-use Rattle.std.proofs.Common.{◌≡◌, ◌∙◌, refl, sym, ap, subst, ℕ, ℤ, zero, suc, ◌+◌, ◌<◌, Bool, true, false, not, ◌||◌, cond, if◌then◌else◌, List, [], ◌∷◌, ◌++◌, length, Option, None, Some, option_map, Result, Ok, Err, map, bytes_eq, true≢false, arith}
-use Rattle.std.specs.Prelude.{IfOk, drop, filter, flat_map, slice_get, unwrap_or}
+use Rattle.std.proofs.Common.{◌≡◌, refl, sym, subst, ℕ, ℤ, zero, suc, ◌+◌, ◌<◌, Bool, true, false, not, ◌||◌, cond, if◌then◌else◌, List, [], ◌∷◌, ◌++◌, length, Option, None, Some, option_map, Result, Ok, Err, map, bytes_eq, true≢false, arith}
+use Rattle.std.specs.Prelude.{IfOk, drop, filter, flat_map, unwrap_or}
 use Rattle.std.specs.Option.{IfSome}
 use Rattle.std.specs.List.{AllByRecursion, list_any, position_or_len}
 use Rattle.std.specs.declared.cmp.Ordering.{Ordering}
@@ -20,7 +20,7 @@ use Rattle.header_layers.specs.Layout as layout
 use Rattle.header_layers.specs.Layout.{Layout, address_of, top_address}
 use Rattle.metadata_scopes.specs.Scopes as scopes
 use Rattle.metadata_scopes.specs.Scopes.{Metadata, key_cmp}
-use Rattle.metadata_scopes.specs.Snapshot.{is_allocated, present_of, snapshot}
+use Rattle.metadata_scopes.specs.Snapshot.{is_allocated, present_of}
 use Rattle.sefl_syntax.specs.declared.net.Side.{Side}
 use Rattle.sefl_syntax.specs.declared.net.Side.TheVariants.{Inward, Outward}
 use Rattle.sefl_syntax.specs.declared.reference.Addr.{Addr}
@@ -45,7 +45,6 @@ use Rattle.net_tables.specs.Places as places
 use Rattle.net_tables.specs.Places.{Port, code_place, link_from, node_position}
 use Rattle.net_check.specs.Keeping.{HasNamesOf, IsAmong, line_items}
 use Rattle.net_check.specs.Sound.{AreIdsFrom}
-use Rattle.sefl_meaning.specs.declared.walk.Place.{Place}
 use Rattle.sefl_meaning.specs.declared.walk.Turn.{Turn}
 use Rattle.sefl_meaning.specs.declared.walk.Failure.TheVariants.{Constraint}
 use Rattle.sefl_meaning.specs.Values.{Values}
@@ -54,7 +53,7 @@ use Rattle.sefl_meaning.specs.Carried.{Carried, Key, Scene, base_tag, bound_key,
 use Rattle.sefl_meaning.specs.Runs.{Exit, off, go, forked, failed, in_turn, turns_of}
 use Rattle.sefl_meaning.specs.Terms.{truth_in, value_in}
 use Rattle.sefl_meaning.specs.Steps.{allocated, assigned, deallocated, evaluated, tag_created, tag_destroyed, tag_set}
-use Rattle.sefl_meaning.specs.Courses.{Course, Progress, after, asks, at_constrain, at_if, begin, chosen, course_code, course_in, course_turns, ends, off_or, step, unless_fault, with_state}
+use Rattle.sefl_meaning.specs.Courses.{Course, Progress, after, asks, at_constrain, at_if, begin, chosen, course_code, course_in, course_turns, ends, off_or, step, unless_fault}
 use Rattle.sefl_meaning.specs.Trees.{Copies, Onward, Tree, arrives, copies, copy_and, crossed, enter, leave, no_copies, over, passed, port_course, splits, tests, then_tree}
 use Rattle.sefl_meaning.specs.Taken.{decision_at, walks_of, walks_of_copies}
 use Rattle.sefl_meaning.specs.Walks.{by_way_of, decided}

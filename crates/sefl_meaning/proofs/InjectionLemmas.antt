@@ -1,13 +1,12 @@
 -- The injection of a job that breaks no rule gives what a packet carries, and its tests have truths.
-use Rattle.std.proofs.Common.{◌≡◌, ◌∙◌, refl, sym, ap, subst, ℕ, ◌≤◌, false, List, [], ◌∷◌, ◌++◌, Option, None, Some, Result, Ok, Err, map}
+use Rattle.std.proofs.Common.{◌≡◌, ◌∙◌, sym, ap, subst, ◌≤◌, false, [], Some, Result, Ok, Err, map}
 use Rattle.std.specs.List.{AllByRecursion}
 use Rattle.std.proofs.lemmas.Option.{none-some}
 use Rattle.sn_width.specs.declared.ids.NodeId.{NodeId}
 use Rattle.cell_stacks.specs.Cells as cells
 use Rattle.cell_stacks.specs.Outcome.{and_then}
 use Rattle.cell_stacks.specs.Stacks.{stack_at}
-use Rattle.sefl_syntax.specs.declared.job.RawField.{RawField}
-use Rattle.sefl_syntax.specs.Trees.{CondTree, InjectionTree}
+use Rattle.sefl_syntax.specs.Trees.{InjectionTree}
 use Rattle.job_items.specs.Items.{Item, field_items, tag_items, test_item, value_items}
 use Rattle.job_items.specs.Rules.{do_meet, item_atoms}
 use Rattle.job_items.specs.Tags.{Tags, tags_after}
@@ -15,13 +14,13 @@ use Rattle.metadata_scopes.specs.Scopes.{key_cmp}
 use Rattle.net_check.specs.Keeping.{HasNamesOf, HasWidth, KeepsRules, KeepsWidth, line_items}
 use Rattle.sefl_meaning.specs.Network.{Network, name_id}
 use Rattle.sefl_meaning.specs.Carried.{Carried, nothing, owner_of, scene_at}
-use Rattle.sefl_meaning.specs.Injected.{injected, with_fields, with_tags}
+use Rattle.sefl_meaning.specs.Injected.{injected, with_fields}
 use Rattle.sefl_meaning.specs.Laws.{StackLaws}
 use Rattle.sefl_meaning.specs.Terms.{truth_in}
 use Rattle.sefl_meaning.specs.Values.{Values}
 use Rattle.sefl_meaning.proofs.AllLemmas.{all_first, all_later}
 use Rattle.sefl_meaning.proofs.FieldLemmas.{CellsGo, HaveCells, fields_go}
-use Rattle.sefl_meaning.proofs.TagLemmas.{HaveAddresses, TagsGo, tags_go}
+use Rattle.sefl_meaning.proofs.TagLemmas.{HaveAddresses, tags_go}
 use Rattle.sefl_meaning.proofs.TestLemmas.{tests_go}
 
 no_cells : {V : Type 0} (net : Network) (node : NodeId) (known : Tags) (s : Carried V) → HaveAddresses net known s.layers.tags → s.layers.heads ≡ [] → s.scopes ≡ []

@@ -1,5 +1,5 @@
 -- What operations keep, expressions and conditions keep.
-use Rattle.std.proofs.Common.{◌≡◌, ℕ, ◌≤◌, Bool, List, [], ◌∷◌, Result, Ok, Err, IfOk}
+use Rattle.std.proofs.Common.{ℕ, ◌≤◌, Bool, ◌∷◌, Result, Ok, Err, IfOk}
 use Rattle.std.specs.List.{AllByRecursion}
 use Rattle.sn_width.specs.declared.rel.Rel.{Rel}
 use Rattle.sefl_syntax.specs.declared.expr.Sign.{Sign}
@@ -10,7 +10,7 @@ use Rattle.job_items.specs.Atoms.{comparison, membership, cond_atoms, conds_atom
 use Rattle.job_items.specs.AtomRules.{atom_width}
 use Rattle.sefl_meaning.specs.Values.{Values}
 use Rattle.sefl_meaning.specs.Carried.{Carried, Scene}
-use Rattle.sefl_meaning.specs.Terms.{joined, value_in, sum_in, compared, looked_up, truth_in, truths_in}
+use Rattle.sefl_meaning.specs.Terms.{joined, value_in, sum_in, compared, truth_in, truths_in}
 use Rattle.sefl_meaning.specs.Valued.{Fits, IsGood, KeepsSums, KeepsTests, CarriedFits, HasSomeWidth}
 use Rattle.sefl_meaning.specs.Laws.{StateLaws}
 use Rattle.sefl_meaning.proofs.AllLemmas.{all_first, all_later}

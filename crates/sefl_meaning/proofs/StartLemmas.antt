@@ -3,7 +3,7 @@ use Rattle.std.proofs.Common.{◌≡◌, ◌∙◌, refl, sym, ap, subst, ℕ, B
 use Rattle.std.specs.Prelude.{IfOk}
 use Rattle.std.specs.List.{AllByRecursion}
 use Rattle.sn_width.specs.declared.faults.LayoutFault.{LayoutFault}
-use Rattle.sefl_syntax.specs.Trees.{CondTree, InjectionTree}
+use Rattle.sefl_syntax.specs.Trees.{CondTree}
 use Rattle.cell_stacks.specs.Outcome.{and_then, on_ok}
 use Rattle.sefl_meaning.specs.Values.{Values}
 use Rattle.sefl_meaning.specs.Network.{Network, Entry}

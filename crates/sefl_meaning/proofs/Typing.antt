@@ -21,7 +21,6 @@ use Rattle.sefl_meaning.specs.Terms.{truth_in, value_in}
 use Rattle.sefl_meaning.specs.Steps.{allocated, deallocated, assigned, evaluated, tag_created, tag_set, tag_destroyed}
 use Rattle.sefl_meaning.specs.Injected.{with_tags, field_value, with_field, with_fields, unknown_width, unknown_widths, injected}
 use Rattle.sefl_meaning.specs.Runs.{Exit, off, go, forked, failed, in_turn, turns_of}
-use Rattle.sefl_meaning.specs.Walks.{place_at}
 use Rattle.sefl_meaning.specs.Courses.{at_if, at_constrain, Progress, begin, chosen, with_state, Course, ends, asks, off_or, after, unless_fault, step, course_turns, course_in, course_code}
 use Rattle.sefl_meaning.specs.Trees.{Tree, Onward, then_tree, port_course, crossed, leave, copies, passed, enter}
 use Rattle.sefl_meaning.specs.Valued.{Fits, HeldFits, CellFits, StacksFit, CarriedFits, KeepsSymbols, ProgressTyped, CourseTyped, TreeTyped, EachTyped}

@@ -1,5 +1,5 @@
 -- The ids in what a net does: its own nodes, tags and metadata names.
-use Rattle.std.specs.Prelude.{ℕ, ◌<◌, length, Option, None, Some}
+use Rattle.std.specs.Prelude.{◌<◌, length, Option, None, Some}
 use Rattle.std.specs.List.{AllByRecursion}
 use Rattle.sn_width.specs.declared.ids.NodeId.{NodeId}
 use Rattle.sefl_meaning.specs.Network.{Network}

@@ -1,5 +1,4 @@
 -- What the values of a program are seen as.
-use Rattle.std.specs.Prelude.{ℕ}
 use Rattle.sefl_meaning.specs.declared.walk.Carried as walk
 use Rattle.sefl_meaning.specs.declared.walk.Walk.{Walk}
 use Rattle.sefl_meaning.specs.Carried.{Carried}

@@ -1,14 +1,12 @@
 use Rattle.std.proofs.Common.{length, subst}
 use Rattle.std.specs.Prelude.{IfOk}
 use Rattle.std.specs.List.{AllByRecursion}
-use Rattle.job_items.specs.Items.{net_items}
 use Rattle.net_check.specs.Keeping.{HasNamesOf}
-use Rattle.net_check.specs.Sound.{IsAcceptedNet}
 use Rattle.sefl_meaning.specs.Values.{numbers}
-use Rattle.sefl_meaning.specs.Network.{Network, names_found}
+use Rattle.sefl_meaning.specs.Network.{names_found}
 use Rattle.sefl_meaning.specs.Carried.{scene_at}
 use Rattle.sefl_meaning.specs.Ids.{CarriesOwn, IsOwnWalk}
-use Rattle.sefl_meaning.proofs.IdLemmas.{IsOwnScene, Own, each_code, enter_own, ids_below, injection_own, link_own, walks_own}
+use Rattle.sefl_meaning.proofs.IdLemmas.{IsOwnScene, each_code, enter_own, ids_below, injection_own, link_own, walks_own}
 use Rattle.sefl_meaning.proofs.starts.ids_are_the_nets_own.Goals as goal
 
 pub returns-clause-injection : goal.returns-clause-injection

@@ -1,11 +1,10 @@
-use Rattle.std.proofs.Common.{◌∙◌, ap, sym, subst}
+use Rattle.std.proofs.Common.{◌∙◌, ap}
 use Rattle.cell_stacks.specs.Outcome.{and_then, on_ok}
 use Rattle.sefl_meaning.specs.Values.{numbers}
 use Rattle.sefl_meaning.specs.Carried.{scene_at}
 use Rattle.sefl_meaning.specs.Injected.{injected, unknown_count, unknown_widths}
 use Rattle.sefl_meaning.specs.Runs.{starting}
 use Rattle.sefl_meaning.specs.Start.{start_from, tree_from}
-use Rattle.sefl_meaning.specs.Valued.{CarriedFits}
 use Rattle.sefl_meaning.proofs.StartLemmas.{all_so, all_true, its_tests, start_from_valued, start_valued_of, truths_go}
 use Rattle.sefl_meaning.proofs.starts.injections_have_a_start.Goals as goal
 
