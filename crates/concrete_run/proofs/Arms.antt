@@ -18,11 +18,11 @@ use Rattle.sefl_meaning.specs.Carried.{Carried, Scene, Key}
 use Rattle.sefl_meaning.specs.Terms.{truth_in}
 use Rattle.sefl_meaning.specs.Values.{numbers}
 use Rattle.sefl_meaning.specs.Runs as runs
-use Rattle.sefl_meaning.specs.Runs.{Ran, noting, then_run, run_code, run_instr, run_turns, in_turn}
+use Rattle.sefl_meaning.specs.Runs.{Progress, Ran, noting, then_run, run_code, run_instr, run_turns, in_turn}
 use Rattle.concrete_run.specs.declared.packet.Run.{Run}
 use Rattle.concrete_run.specs.declared.instrs.Exit.{Exit}
 use Rattle.concrete_run.specs.declared.frames.Frame.{Frame}
-use Rattle.concrete_run.specs.Passing.{RunsBefore, exit_after, of_code, of_turns, run_frames, scene_in}
+use Rattle.concrete_run.specs.Passing.{RunsBefore, at_state, exit_after, of_code, of_turns, run_frames, scene_in}
 use Rattle.concrete_run.proofs.Runs.{Next, ahead, left_at, stepped}
 
 -- the truth of a condition in the scene that a run is in
@@ -33,40 +33,42 @@ truth_seen v v' u u' at at' test s truth ev eu ea h = sym (h ∙ (λ j. truth_in
 -- in the scene that a run is in
 module _ (run : Run) (node : NodeId) (turns : List Turn) (v : List ℕ) (u : ℕ) (at : Scene)
     (ev : v ≡ run.numbers.now) (eu : u ≡ run.unknowns) (ea : at ≡ scene_in run node turns) (site : ℕ) (instr : Instr) (tree : InstrTree) (is : instr_tree instr ≡ tree) where
-  pub run_in : (answer : Result Exit NoMemory) (left : Exit → Ran) (ds : List Decision) (s : Carried ℕ) (k : ℕ) (next : Next)
-      → IfOk answer (λ exit. left exit ≡ noting ds (run_instr v u at site tree s k))
-      → IfOk answer (λ exit. then_run (left exit) next ≡ noting ds (then_run (run_instr run.numbers.now run.unknowns (scene_in run node turns) site (instr_tree instr) s k) next))
-  run_in answer left ds s k next h =
-      ahead answer left ds (run_instr v u at site tree s k) (run_instr run.numbers.now run.unknowns (scene_in run node turns) site (instr_tree instr) s k) next
-      ((λ j. run_instr (ev j) (eu j) (ea j) site tree s k) ∙ ap (λ t. run_instr run.numbers.now run.unknowns (scene_in run node turns) site t s k) (sym is)) h
+  pub run_in : (answer : Result Exit NoMemory) (left : Exit → Ran) (ds : List Decision) (p : Progress ℕ) (next : Next)
+      → IfOk answer (λ exit. left exit ≡ noting ds (run_instr v u at site tree p))
+      → IfOk answer (λ exit. then_run (left exit) next ≡ noting ds (then_run (run_instr run.numbers.now run.unknowns (scene_in run node turns) site (instr_tree instr) p) next))
+  run_in answer left ds p next h =
+      ahead answer left ds (run_instr v u at site tree p) (run_instr run.numbers.now run.unknowns (scene_in run node turns) site (instr_tree instr) p) next
+      ((λ j. run_instr (ev j) (eu j) (ea j) site tree p) ∙ ap (λ t. run_instr run.numbers.now run.unknowns (scene_in run node turns) site t p) (sym is)) h
 
   -- a step on what is carried
-  pub stepped_in : (step : Result (Carried ℕ) LayoutFault) (result : Result (Unit {0}) StepFault) (answer : Result Exit NoMemory) (ds : List Decision) (old new : Carried ℕ) (k : ℕ) (next : Next)
-      → runs.step site step old k ≡ run_instr v u at site tree old k → Meets step result old new → answer ≡ exit_after site result
-      → IfOk answer (λ exit. then_run (left_at ds new k exit) next ≡ noting ds (then_run (run_instr run.numbers.now run.unknowns (scene_in run node turns) site (instr_tree instr) old k) next))
-  stepped_in step result answer ds old new k next so meets an =
-      ahead answer (left_at ds new k) ds (runs.step site step old k) (run_instr run.numbers.now run.unknowns (scene_in run node turns) site (instr_tree instr) old k) next
-      (so ∙ (λ j. run_instr (ev j) (eu j) (ea j) site tree old k) ∙ ap (λ t. run_instr run.numbers.now run.unknowns (scene_in run node turns) site t old k) (sym is))
-      (stepped site step result answer ds old new k meets an)
+  pub stepped_in : (step : Result (Carried ℕ) LayoutFault) (result : Result (Unit {0}) StepFault) (answer : Result Exit NoMemory) (ds : List Decision) (old new : Carried ℕ) (k : List ℕ) (b : ℕ) (next : Next)
+      → runs.step site step (at_state k b old) ≡ run_instr v u at site tree (at_state k b old) → Meets step result old new → answer ≡ exit_after site result
+      → IfOk answer (λ exit. then_run (left_at ds (at_state k b new) exit) next ≡ noting ds (then_run (run_instr run.numbers.now run.unknowns (scene_in run node turns) site (instr_tree instr) (at_state k b old)) next))
+  stepped_in step result answer ds old new k b next so meets an =
+      let p : Progress ℕ = at_state k b old in
+      ahead answer (left_at ds (at_state k b new)) ds (runs.step site step p) (run_instr run.numbers.now run.unknowns (scene_in run node turns) site (instr_tree instr) p) next
+      (so ∙ (λ j. run_instr (ev j) (eu j) (ea j) site tree p) ∙ ap (λ t. run_instr run.numbers.now run.unknowns (scene_in run node turns) site t p) (sym is))
+      (stepped site step result answer ds old new k b meets an)
 
 -- a Block, whose code is put on the frames
-pub block_put : (run : Run) (node : NodeId) (turns : List Turn) (site inner : ℕ) (instr : Instr) (body code : List Instr) (old new : List Frame) (s : Carried ℕ) (k : ℕ)
+pub block_put : (run : Run) (node : NodeId) (turns : List Turn) (site inner : ℕ) (instr : Instr) (body code : List Instr) (old new : List Frame) (p : Progress ℕ)
     → instr_tree instr ≡ block (code_tree body) → inner ≡ site + 1 → code ≡ body
     → RunsBefore (of_code turns inner (code_tree code)) old new
-    → run_frames run node new s k ≡ then_run (run_instr run.numbers.now run.unknowns (scene_in run node turns) site (instr_tree instr) s k) (run_frames run node old)
-block_put run node turns site inner instr body code old new s k is b same before =
+    → run_frames run node new p ≡ then_run (run_instr run.numbers.now run.unknowns (scene_in run node turns) site (instr_tree instr) p) (run_frames run node old)
+block_put run node turns site inner instr body code old new p is b same before =
     let e : inner ≡ suc site = omega arith in
-    before run node s k
-    ∙ (λ j. then_run (of_code turns (e j) (code_tree (same j)) run node s k) (run_frames run node old))
-    ∙ ap (λ t. then_run (run_instr run.numbers.now run.unknowns (scene_in run node turns) site t s k) (run_frames run node old)) (sym is)
+    before run node p
+    ∙ (λ j. then_run (of_code turns (e j) (code_tree (same j)) run node p) (run_frames run node old))
+    ∙ ap (λ t. then_run (run_instr run.numbers.now run.unknowns (scene_in run node turns) site t p) (run_frames run node old)) (sym is)
 
 -- a For, whose turns are put on the frames
-pub turns_put : (run : Run) (node : NodeId) (turns : List Turn) (site inner : ℕ) (var pattern : List ℕ) (body : CodeTree) (found : List NameId) (keys turned : List Key) (old new : List Frame) (s : Carried ℕ) (k : ℕ)
+pub turns_put : (run : Run) (node : NodeId) (turns : List Turn) (site inner : ℕ) (var pattern : List ℕ) (body : CodeTree) (found : List NameId) (keys turned : List Key) (old new : List Frame) (s : Carried ℕ) (k : List ℕ) (begun : ℕ)
     → inner ≡ site + 1 → found ≡ names_found (network run.net.now) pattern → keys ≡ snapshot node found s.scopes → turned ≡ reverse keys
     → RunsBefore (of_turns turns var inner body (reverse turned)) old new
-    → run_frames run node new s k ≡ then_run (run_instr run.numbers.now run.unknowns (scene_in run node turns) site (each var pattern body) s k) (run_frames run node old)
-turns_put run node turns site inner var pattern body found keys turned old new s k b finds are t before =
+    → run_frames run node new (at_state k begun s) ≡ then_run (run_instr run.numbers.now run.unknowns (scene_in run node turns) site (each var pattern body) (at_state k begun s)) (run_frames run node old)
+turns_put run node turns site inner var pattern body found keys turned old new s k begun b finds are t before =
     let e : inner ≡ suc site = omega arith in
+    let p : Progress ℕ = at_state k begun s in
     let all : reverse turned ≡ snapshot node (names_found (network run.net.now) pattern) s.scopes =
     ap reverse t ∙ reverse-reverse keys ∙ are ∙ ap (λ (names : List NameId). snapshot node names s.scopes) finds in
-    before run node s k ∙ (λ j. then_run (of_turns turns var (e j) body (all j) run node s k) (run_frames run node old))
+    before run node p ∙ (λ j. then_run (of_turns turns var (e j) body (all j) run node p) (run_frames run node old))

@@ -10,16 +10,16 @@ use Rattle.sefl_meaning.specs.declared.walk.Decision.{Decision}
 use Rattle.sefl_meaning.specs.declared.walk.Failure.TheVariants.{Layout}
 use Rattle.sefl_meaning.specs.Carried.{Carried}
 use Rattle.sefl_meaning.specs.Runs as runs
-use Rattle.sefl_meaning.specs.Runs.{Ran, ran, noting, off, go, forked, failed, then_next, then_run}
+use Rattle.sefl_meaning.specs.Runs.{Progress, Ran, ran, noting, off, go, forked, failed, then_next, then_run}
 use Rattle.concrete_run.specs.declared.instrs.Exit.{Exit}
-use Rattle.concrete_run.specs.Passing.{exit_of, exit_after}
+use Rattle.concrete_run.specs.Passing.{at_state, exit_of, exit_after}
 
 abbrev pub Next : Type 0
-Next = Carried ℕ → ℕ → Ran
+Next = Progress ℕ → Ran
 
 noted_first : (exit : runs.Exit) (ds : List Decision) (r : Ran) (next : Next) → then_next exit (noting ds r) next ≡ noting ds (then_next exit r next)
 noted_first off ds r next = λ i.
-    record (next r.state r.choices) { decisions = append_assoc ds r.decisions (next r.state r.choices).decisions i }
+    record (next r.progress) { decisions = append_assoc ds r.decisions (next r.progress).decisions i }
 noted_first (go port) ds r next = refl
 noted_first (forked ports) ds r next = refl
 noted_first (failed failure site) ds r next = refl
@@ -29,29 +29,29 @@ pub goes_ahead : (ds : List Decision) (r : Ran) (next : Next) → then_run (noti
 goes_ahead ds r next = noted_first r.exit ds r next
 
 -- with nothing decided
-pub plain : (exit : runs.Exit) (ds : List Decision) (s : Carried ℕ) (k : ℕ) → record { decisions = ds; state = s; choices = k; exit = exit } ≡ noting ds (ran exit s k)
-plain exit ds s k = λ i. record { decisions = sym (append-nil ds) i; state = s; choices = k; exit = exit }
+pub plain : (exit : runs.Exit) (ds : List Decision) (p : Progress ℕ) → record { decisions = ds; progress = p; exit = exit } ≡ noting ds (ran exit p)
+plain exit ds p = λ i. record { decisions = sym (append-nil ds) i; progress = p; exit = exit }
 
-abbrev pub left_at : List Decision → Carried ℕ → ℕ → Exit → Ran
-left_at ds s k exit = record { decisions = ds; state = s; choices = k; exit = exit_of exit }
+abbrev pub left_at : List Decision → Progress ℕ → Exit → Ran
+left_at ds p exit = record { decisions = ds; progress = p; exit = exit_of exit }
 
-stepped_by : (site : ℕ) (step : Result (Carried ℕ) LayoutFault) (result : Result (Unit {0}) StepFault) (ds : List Decision) (old new : Carried ℕ) (k : ℕ)
+stepped_by : (site : ℕ) (step : Result (Carried ℕ) LayoutFault) (result : Result (Unit {0}) StepFault) (ds : List Decision) (old new : Carried ℕ) (k : List ℕ) (b : ℕ)
     → Meets step result old new
-    → IfOk (exit_after site result) (λ exit. left_at ds new k exit ≡ noting ds (runs.step site step old k))
-stepped_by site step (Ok done) ds old new k h = plain off ds new k ∙ ap (λ r. noting ds (runs.step site r old k)) (sym h)
-stepped_by site step (Err (faults.Layout fault)) ds old new k h =
-    plain (failed (Layout fault) site) ds new k
-    ∙ ap (λ s. noting ds (ran (failed (Layout fault) site) s k)) h.1
-    ∙ ap (λ r. noting ds (runs.step site r old k)) (sym h.0)
-stepped_by site step (Err faults.NoMemory) ds old new k h = tt
+    → IfOk (exit_after site result) (λ exit. left_at ds (at_state k b new) exit ≡ noting ds (runs.step site step (at_state k b old)))
+stepped_by site step (Ok done) ds old new k b h = plain off ds (at_state k b new) ∙ ap (λ r. noting ds (runs.step site r (at_state k b old))) (sym h)
+stepped_by site step (Err (faults.Layout fault)) ds old new k b h =
+    plain (failed (Layout fault) site) ds (at_state k b new)
+    ∙ ap (λ s. noting ds (ran (failed (Layout fault) site) (at_state k b s))) h.1
+    ∙ ap (λ r. noting ds (runs.step site r (at_state k b old))) (sym h.0)
+stepped_by site step (Err faults.NoMemory) ds old new k b h = tt
 
 -- a step on what is carried
-pub stepped : (site : ℕ) (step : Result (Carried ℕ) LayoutFault) (result : Result (Unit {0}) StepFault) (answer : Result Exit NoMemory) (ds : List Decision) (old new : Carried ℕ) (k : ℕ)
+pub stepped : (site : ℕ) (step : Result (Carried ℕ) LayoutFault) (result : Result (Unit {0}) StepFault) (answer : Result Exit NoMemory) (ds : List Decision) (old new : Carried ℕ) (k : List ℕ) (b : ℕ)
     → Meets step result old new → answer ≡ exit_after site result
-    → IfOk answer (λ exit. left_at ds new k exit ≡ noting ds (runs.step site step old k))
-stepped site step result answer ds old new k h e =
-    subst (λ (a : Result Exit NoMemory). IfOk a (λ exit. left_at ds new k exit ≡ noting ds (runs.step site step old k))) (sym e)
-    (stepped_by site step result ds old new k h)
+    → IfOk answer (λ exit. left_at ds (at_state k b new) exit ≡ noting ds (runs.step site step (at_state k b old)))
+stepped site step result answer ds old new k b h e =
+    subst (λ (a : Result Exit NoMemory). IfOk a (λ exit. left_at ds (at_state k b new) exit ≡ noting ds (runs.step site step (at_state k b old)))) (sym e)
+    (stepped_by site step result ds old new k b h)
 
 -- and then the others
 pub ahead : (answer : Result Exit NoMemory) (left : Exit → Ran) (ds : List Decision) (x y : Ran) (next : Next)
@@ -61,9 +61,9 @@ ahead (Ok exit) left ds x y next e h = ap (λ r. then_run r next) (h ∙ ap (not
 ahead (Err fault) left ds x y next e h = tt
 
 -- with this exit and nothing else
-pub ends : (exit : Exit) (ds : List Decision) (s : Carried ℕ) (k : ℕ) (y : Ran) (next : Next)
-    → ran (exit_of exit) s k ≡ y → then_run (left_at ds s k exit) next ≡ noting ds (then_run y next)
-ends exit ds s k y next e = ahead (Ok exit) (left_at ds s k) ds (ran (exit_of exit) s k) y next e (plain (exit_of exit) ds s k)
+pub ends : (exit : Exit) (ds : List Decision) (p : Progress ℕ) (y : Ran) (next : Next)
+    → ran (exit_of exit) p ≡ y → then_run (left_at ds p exit) next ≡ noting ds (then_run y next)
+ends exit ds p y next e = ahead (Ok exit) (left_at ds p) ds (ran (exit_of exit) p) y next e (plain (exit_of exit) ds p)
 
 -- the whole said in another way
 pub same_whole : (answer : Result Exit NoMemory) (left : Exit → Ran) (x y : Ran)

@@ -5,10 +5,10 @@ use Rattle.std.specs.List.{AllByRecursion}
 use Rattle.sefl_meaning.specs.declared.walk.Decision.{Decision}
 use Rattle.sefl_meaning.specs.declared.walk.Place.{Place}
 use Rattle.sefl_meaning.specs.Routes.{Has}
-use Rattle.sefl_meaning.specs.View.{carried_of}
-use Rattle.sefl_meaning.specs.Walks.{Trail}
+use Rattle.sefl_meaning.specs.Walks.{Passage, Trail}
 use Rattle.concrete_run.specs.declared.packet.Run.{Run}
 use Rattle.concrete_run.specs.declared.pending.Pending.{Pending}
+use Rattle.concrete_run.specs.Passing.{progress_of}
 use Rattle.concrete_run.specs.Pending.{BeginsWith, Sought, led, walks_at, walks_of, walks_of_all}
 
 has_first : (xs ys : List Trail) (t : Trail) → Has xs t → Has (xs ++ ys) t
@@ -30,7 +30,7 @@ all_of P [] h = tt
 all_of P (t ∷ ts) h = (h t (inl refl), all_of P ts (λ u m. h u (inr m)))
 
 -- walks behind decisions begin with these
-led_begins : (ds : List Decision) (ps : List Place) (ts : List Trail) (t : Trail) → Has (map (led ds ps) ts) t → BeginsWith ds t.decisions
+led_begins : (ds : List Decision) (ps : List Place) (ts : List Passage) (t : Trail) → Has (map (led ds ps) ts) t → BeginsWith ds t.decisions
 led_begins ds ps [] t h = absurd h
 led_begins ds ps (u ∷ us) t (inl e) = (u.decisions, ap (λ (x : Trail). x.decisions) e)
 led_begins ds ps (u ∷ us) t (inr h) = led_begins ds ps us t h
@@ -51,7 +51,7 @@ module _ (run : Run) (ds : List Decision) where
   -- no walk of a packet whose decisions are not the first of those that are sought
   pub none_led : (p : Pending) → (BeginsWith p.packet.decisions.items ds → ⊥) → (t : Trail) → Has (walks_of run p) t → t.decisions ≡ ds → ⊥
   none_led p other t h e =
-      let begins = led_begins p.packet.decisions.items p.places.items (walks_at run p.stage p.hops (carried_of p.packet.state) p.packet.choices) t h in
+      let begins = led_begins p.packet.decisions.items p.places.items (walks_at run p.stage p.hops (progress_of p.packet)) t h in
       other (begins.0, begins.1 ∙ e)
 
 -- the last of a stack is the first of its work

@@ -10,7 +10,7 @@ use Rattle.sefl_meaning.specs.Injected.{Starts, walks_from}
 use Rattle.sefl_meaning.specs.Network.{Network, Entry}
 use Rattle.sefl_meaning.specs.Routes.{Has}
 use Rattle.sefl_meaning.specs.View.{carried_of, trail_of}
-use Rattle.sefl_meaning.specs.declared.walk.State.{State}
+use Rattle.sefl_meaning.specs.declared.walk.Carried.{Carried as State}
 use Rattle.concrete_run.specs.declared.packet.Run.{Run}
 use Rattle.concrete_run.specs.declared.pending.Pending.{Pending}
 use Rattle.concrete_run.specs.declared.pending.Stage.TheVariants.{Arriving}
@@ -70,7 +70,7 @@ abbrev pub SeekAnswer : Run → List Decision → List Pending → List Trail �
 SeekAnswer run decisions work all (Some walk) = Has all (trail_of walk) × (walk.decisions.items ≡ decisions)
 SeekAnswer run decisions work all None = Sought run decisions work all
 
-abbrev pub StartedAnswer : Network → Entry → List ℕ → Result State WalkFault → Type 0
+abbrev pub StartedAnswer : Network → Entry → List ℕ → Result (State ℕ) WalkFault → Type 0
 StartedAnswer net i v (Ok s) = Starts net i v (carried_of s)
 StartedAnswer net i v (Err (Start fault)) = IsRefused net i v fault
 StartedAnswer net i v (Err (TooMany count)) = ⊥
@@ -81,6 +81,7 @@ pub record IsAtStart (i : Entry) (allowed : ℕ) (s : Carried ℕ) (p : Pending)
   pub decisions : p.packet.decisions.items ≡ []
   pub places : p.places.items ≡ []
   pub state : carried_of p.packet.state ≡ s
-  pub choices : p.packet.choices ≡ 0
+  pub choices : p.packet.choices.items ≡ []
+  pub begun : p.packet.begun ≡ 0
   pub hops : p.hops ≡ allowed
   pub stage : p.stage ≡ Arriving i.node i.own.port

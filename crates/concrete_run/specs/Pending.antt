@@ -7,13 +7,14 @@ use Rattle.sefl_meaning.specs.declared.walk.Place.{Place}
 use Rattle.sefl_meaning.specs.declared.walk.End.TheVariants as ends
 use Rattle.sefl_meaning.specs.declared.walk.Walk.{Walk}
 use Rattle.sefl_syntax.specs.declared.net.Side.TheVariants.{Inward, Outward}
-use Rattle.sefl_meaning.specs.Carried.{Carried}
-use Rattle.sefl_meaning.specs.View.{carried_of, trail_of}
+use Rattle.sefl_meaning.specs.View.{trail_of}
+pub use Rattle.sefl_meaning.specs.Order.{BeginsWith}
 use Rattle.sefl_meaning.specs.Network.{Network, link_of}
 use Rattle.sefl_meaning.specs.Routes.{Has}
 use Rattle.sefl_meaning.specs.Runs as runs
-use Rattle.sefl_meaning.specs.Runs.{off, go, forked, failed}
-use Rattle.sefl_meaning.specs.Walks.{Trail, run_port, enter, leave, copies, ended}
+use Rattle.sefl_meaning.specs.Runs.{Progress, off, go, forked, failed}
+use Rattle.sefl_meaning.specs.Walks.{Passage, Trail, shown, run_port, enter, leave, copies, ended}
+use Rattle.concrete_run.specs.Passing.{progress_of}
 use Rattle.concrete_run.specs.declared.packet.Run.{Run}
 use Rattle.concrete_run.specs.declared.packet.Packet.{Packet}
 use Rattle.concrete_run.specs.declared.instrs.Exit.{Exit}
@@ -24,9 +25,10 @@ use Rattle.concrete_run.specs.declared.pending.Stage.TheVariants.{Arriving, Leav
 use Rattle.concrete_run.specs.declared.pending.Next.{Next}
 use Rattle.concrete_run.specs.declared.pending.Next.TheVariants as next
 
--- the walk behind these decisions and places
-abbrev pub led : List Decision → List Place → Trail → Trail
-led decisions places t = record t { decisions = decisions ++ t.decisions; places = places ++ t.places }
+-- what the walk behind these decisions and places shows
+abbrev pub led : List Decision → List Place → Passage → Trail
+led decisions places t =
+    record (shown t) { decisions = decisions ++ t.decisions; places = places ++ (shown t).places }
 
 -- behind the code of an input port
 abbrev pub stage_passed : NodeId → Exit → Stage
@@ -49,57 +51,57 @@ stage_crossed link (Forked ports) = Ended ends.Stopped
 
 -- how many steps are taken from an input port on: one to each port and over its code, one to each copy, and one at each end
 abbrev pub Steps : Type 0
-Steps = NodeId → ℕ → Carried ℕ → ℕ → ℕ
+Steps = NodeId → ℕ → Progress ℕ → ℕ
 
 module _ (net : Network) (v : List ℕ) (unknowns : ℕ) where
   -- behind the code of an output port
-  abbrev pub steps_crossed : Steps → Option (NodeId × ℕ) → runs.Exit → Carried ℕ → ℕ → ℕ
-  steps_crossed onward None off s k = 1
-  steps_crossed onward (Some to) off s k = onward to.0 to.1 s k
-  steps_crossed onward link (go port) s k = 1
-  steps_crossed onward link (forked ports) s k = 1
-  steps_crossed onward link (failed failure site) s k = 1
+  abbrev pub steps_crossed : Steps → Option (NodeId × ℕ) → runs.Exit → Progress ℕ → ℕ
+  steps_crossed onward None off p = 1
+  steps_crossed onward (Some to) off p = onward to.0 to.1 p
+  steps_crossed onward link (go port) p = 1
+  steps_crossed onward link (forked ports) p = 1
+  steps_crossed onward link (failed failure site) p = 1
 
   -- over an output port
-  abbrev pub steps_left : Steps → NodeId → ℕ → Carried ℕ → ℕ → ℕ
-  steps_left onward node port s k =
-      let r = run_port net v unknowns node Outward port s k in
-      suc (steps_crossed onward (link_of net node port) r.exit r.state r.choices)
+  abbrev pub steps_left : Steps → NodeId → ℕ → Progress ℕ → ℕ
+  steps_left onward node port p =
+      let r = run_port net v unknowns node Outward port p in
+      suc (steps_crossed onward (link_of net node port) r.exit r.progress)
 
   -- of the copies for these ports
-  abbrev pub steps_copied : Steps → NodeId → List ℕ → Carried ℕ → ℕ → ℕ
-  steps_copied onward node [] s k = 1
-  steps_copied onward node (port ∷ ports) s k =
-      suc (steps_left onward node port s k + steps_copied onward node ports s k)
+  abbrev pub steps_copied : Steps → NodeId → List ℕ → Progress ℕ → ℕ
+  steps_copied onward node [] p = 1
+  steps_copied onward node (port ∷ ports) p =
+      suc (steps_left onward node port p + steps_copied onward node ports p)
 
   -- behind the code of an input port
-  abbrev pub steps_passed : Steps → NodeId → runs.Exit → Carried ℕ → ℕ → ℕ
-  steps_passed onward node off s k = 1
-  steps_passed onward node (go port) s k = steps_left onward node port s k
-  steps_passed onward node (forked ports) s k = steps_copied onward node ports s k
-  steps_passed onward node (failed failure site) s k = 1
+  abbrev pub steps_passed : Steps → NodeId → runs.Exit → Progress ℕ → ℕ
+  steps_passed onward node off p = 1
+  steps_passed onward node (go port) p = steps_left onward node port p
+  steps_passed onward node (forked ports) p = steps_copied onward node ports p
+  steps_passed onward node (failed failure site) p = 1
 
   -- with so many hops left
   abbrev pub steps_entered : ℕ → Steps
-  steps_entered zero node port s k = 2
-  steps_entered (suc hops) node port s k =
-      let r = run_port net v unknowns node Inward port s k in
-      suc (steps_passed (steps_entered hops) node r.exit r.state r.choices)
+  steps_entered zero node port p = 2
+  steps_entered (suc hops) node port p =
+      let r = run_port net v unknowns node Inward port p in
+      suc (steps_passed (steps_entered hops) node r.exit r.progress)
 
 module _ (run : Run) where
   -- with so many hops left
-  abbrev pub walks_at : Stage → ℕ → Carried ℕ → ℕ → List Trail
-  walks_at (Arriving node port) hops s k = enter (network run.net.now) run.numbers.now run.unknowns hops node port s k
-  walks_at (Leaving node port) hops s k =
-      leave (network run.net.now) run.numbers.now run.unknowns (enter (network run.net.now) run.numbers.now run.unknowns hops) node port s k
-  walks_at (Copying node number ports) hops s k =
+  abbrev pub walks_at : Stage → ℕ → Progress ℕ → List Passage
+  walks_at (Arriving node port) hops p = enter (network run.net.now) run.numbers.now run.unknowns hops node port p
+  walks_at (Leaving node port) hops p =
+      leave (network run.net.now) run.numbers.now run.unknowns (enter (network run.net.now) run.numbers.now run.unknowns hops) node port p
+  walks_at (Copying node number ports) hops p =
       copies (network run.net.now) run.numbers.now run.unknowns (enter (network run.net.now) run.numbers.now run.unknowns hops)
-      node number ports.now s k
-  walks_at (Ended end') hops s k = ended end' s
+      node number ports.now p
+  walks_at (Ended end') hops p = ended end' p
 
   abbrev pub walks_by : Stage → ℕ → List Place → Packet → List Trail
   walks_by stage hops places packet =
-      map (led packet.decisions.items places) (walks_at stage hops (carried_of packet.state) packet.choices)
+      map (led packet.decisions.items places) (walks_at stage hops (progress_of packet))
 
   abbrev pub walks_of : Pending → List Trail
   walks_of p = walks_by p.stage p.hops p.places.items p.packet
@@ -115,18 +117,18 @@ module _ (run : Run) where
   walks_of_all [] = []
   walks_of_all (p ∷ ps) = walks_of p ++ walks_of_all ps
 
-  abbrev pub steps_at : Stage → ℕ → Carried ℕ → ℕ → ℕ
-  steps_at (Arriving node port) hops s k =
-      steps_entered (network run.net.now) run.numbers.now run.unknowns hops node port s k
-  steps_at (Leaving node port) hops s k =
-      steps_left (network run.net.now) run.numbers.now run.unknowns (steps_entered (network run.net.now) run.numbers.now run.unknowns hops) node port s k
-  steps_at (Copying node number ports) hops s k =
+  abbrev pub steps_at : Stage → ℕ → Progress ℕ → ℕ
+  steps_at (Arriving node port) hops p =
+      steps_entered (network run.net.now) run.numbers.now run.unknowns hops node port p
+  steps_at (Leaving node port) hops p =
+      steps_left (network run.net.now) run.numbers.now run.unknowns (steps_entered (network run.net.now) run.numbers.now run.unknowns hops) node port p
+  steps_at (Copying node number ports) hops p =
       steps_copied (network run.net.now) run.numbers.now run.unknowns (steps_entered (network run.net.now) run.numbers.now run.unknowns hops)
-      node ports.now s k
-  steps_at (Ended end') hops s k = 1
+      node ports.now p
+  steps_at (Ended end') hops p = 1
 
   abbrev pub steps_by : Stage → ℕ → Packet → ℕ
-  steps_by stage hops packet = steps_at stage hops (carried_of packet.state) packet.choices
+  steps_by stage hops packet = steps_at stage hops (progress_of packet)
 
   abbrev pub steps_of : Pending → ℕ
   steps_of p = steps_by p.stage p.hops p.packet
@@ -144,10 +146,6 @@ module _ (run : Run) where
 abbrev pub walk_found : Option Walk → List Trail
 walk_found None = []
 walk_found (Some walk) = trail_of walk ∷ []
-
--- the second list of decisions begins with the first
-abbrev pub BeginsWith : List Decision → List Decision → Type 0
-BeginsWith first whole = (rest : List Decision) × (first ++ rest ≡ whole)
 
 -- the work that is left has walks of the whole alone, and all with the decisions
 pub record Sought (run : Run) (ds : List Decision) (work : List Pending) (all : List Trail) : Type 0 where

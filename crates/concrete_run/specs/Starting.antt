@@ -5,7 +5,7 @@ use Rattle.sefl_meaning.specs.Injected.{FitWidths, IsTrueIn, Starts, injected, u
 use Rattle.sefl_meaning.specs.Network.{Network, Entry}
 use Rattle.sefl_meaning.specs.Values.{numbers}
 use Rattle.sefl_meaning.specs.View.{carried_of}
-use Rattle.sefl_meaning.specs.declared.walk.State.{State}
+use Rattle.sefl_meaning.specs.declared.walk.Carried.{Carried as State}
 use Rattle.sn_width.specs.Width.{FitsWidth}
 use Rattle.sn_width.specs.declared.faults.LayoutFault.{LayoutFault}
 use Rattle.sn_width.specs.declared.faults.StepFault.{StepFault}
@@ -42,7 +42,7 @@ IsStartFault net i v (ValueTooWide field) = (unknown_count i ≤ length v) × Is
 IsStartFault net i v (WhereFalse index) = (s : Carried ℕ) × StartsBut net i v index s
 IsStartFault net i v NoMemory = Unit {0}
 
-abbrev pub StartAnswer : Network → Entry → List ℕ → Result State StartFault → Type 0
+abbrev pub StartAnswer : Network → Entry → List ℕ → Result (State ℕ) StartFault → Type 0
 StartAnswer net i v (Ok s) = Starts net i v (carried_of s)
 StartAnswer net i v (Err fault) = IsStartFault net i v fault
 

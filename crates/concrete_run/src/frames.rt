@@ -1,12 +1,12 @@
 //! The run of a port's code.
 
-ghost use Rattle.std.specs.Prelude.{◌≡◌, ◌+◌, ◌<◌, ◌∷◌, [], ℕ, IfOk, OnOk, length, reverse};
+ghost use Rattle.std.specs.Prelude.{◌≡◌, ◌+◌, ◌<◌, ◌∷◌, [], ℕ, List, IfOk, OnOk, length, reverse};
 ghost use Rattle.sefl_syntax.specs.Trees.{branch, each};
 ghost use Rattle.sefl_syntax.specs.Views.{code_tree, cond_tree, instr_tree};
 ghost use Rattle.net_check.specs.Network.{Network, network};
 ghost use Rattle.sefl_meaning.specs.Runs.{noting, run_code, run_instr, then_run};
 ghost use Rattle.sefl_meaning.specs.View.{carried_of};
-ghost use Rattle.concrete_run.specs.Passing.{RunsBefore, of_code, of_turns, ran_of, run_frames, scene_in};
+ghost use Rattle.concrete_run.specs.Passing.{RunsBefore, at_state, progress_of, of_code, of_turns, ran_of, run_frames, scene_in};
 ghost use Rattle.concrete_run.specs.Weights.{code_weight, frames_weight, instr_weight, turns_weight};
 
 use crate::instrs::{Exit, choose, constrain, exit_after, failed};
@@ -87,7 +87,7 @@ pub(crate) fn run_code<'a>(
     packet: &mut Packet,
 ) -> Result<Exit<'a>, NoMemory>
     ensures { IfOk result (λ exit. ran_of packet.new exit
-        ≡ noting packet.old.decisions.items (run_code run.now.numbers.now run.now.unknowns (scene_in run.now node []) site (code_tree code.now) (carried_of packet.old.state) packet.old.choices)) }
+        ≡ noting packet.old.decisions.items (run_code run.now.numbers.now run.now.unknowns (scene_in run.now node []) site (code_tree code.now) (progress_of packet.old))) }
 {
     let mut frames = Vec::new(alloc);
     put_code(&mut frames, Shared::empty(), site, code)?;
@@ -114,7 +114,7 @@ fn run_frame<'a>(
     packet: &mut Packet,
 ) -> Result<Exit<'a>, NoMemory>
     ensures runs { IfOk result (λ exit. then_run (ran_of packet.new exit) (run_frames run.now node (reverse frames.new.items))
-        ≡ noting packet.old.decisions.items (run_frames run.now node (frame.entry ∷ reverse frames.old.items) (carried_of packet.old.state) packet.old.choices)) }
+        ≡ noting packet.old.decisions.items (run_frames run.now node (frame.entry ∷ reverse frames.old.items) (progress_of packet.old))) }
     ensures weight { OnOk result (frames_weight (network run.now.net.now) (reverse frames.new.items)
         < frames_weight (network run.now.net.now) (frame.entry ∷ reverse frames.old.items)) }
 {
@@ -129,6 +129,7 @@ fn run_frame<'a>(
                 return Err(NoMemory);
             };
             put_code(frames, kept, behind, rest)?;
+            packet.begin()?;
             run_instr(alloc, run, node, turns, site, instr, frames, packet)
         }
         Frame::Turns {
@@ -188,7 +189,7 @@ fn run_instr<'a>(
 ) -> Result<Exit<'a>, NoMemory>
     ensures runs { IfOk result (λ exit. then_run (ran_of packet.new exit) (run_frames run.now node (reverse frames.new.items))
         ≡ noting packet.old.decisions.items (then_run
-        (run_instr run.now.numbers.now run.now.unknowns (scene_in run.now node turns) site (instr_tree instr.now) (carried_of packet.old.state) packet.old.choices)
+        (run_instr run.now.numbers.now run.now.unknowns (scene_in run.now node turns) site (instr_tree instr.now) (progress_of packet.old))
         (run_frames run.now node (reverse frames.old.items)))) }
     ensures weight { OnOk result (frames_weight (network run.now.net.now) (reverse frames.new.items)
         < instr_weight (network run.now.net.now) (instr_tree instr.now) + frames_weight (network run.now.net.now) (reverse frames.old.items)) }
@@ -260,8 +261,8 @@ fn each<'a>(
     frames: &mut Vec<Frame<'a>>,
     state: &State,
 ) -> Result<(), NoMemory>
-    ensures runs { OnOk result ((k : ℕ) → run_frames run.now node (reverse frames.new.items) (carried_of state.now) k ≡ then_run
-        (run_instr run.now.numbers.now run.now.unknowns (scene_in run.now node turns) site (each var.now pattern.now (code_tree body.now)) (carried_of state.now) k)
+    ensures runs { OnOk result ((k : List ℕ) (begun : ℕ) → run_frames run.now node (reverse frames.new.items) (at_state k begun (carried_of state.now)) ≡ then_run
+        (run_instr run.now.numbers.now run.now.unknowns (scene_in run.now node turns) site (each var.now pattern.now (code_tree body.now)) (at_state k begun (carried_of state.now)))
         (run_frames run.now node (reverse frames.old.items))) }
     ensures weight { OnOk result (frames_weight (network run.now.net.now) (reverse frames.new.items)
         < instr_weight (network run.now.net.now) (each var.now pattern.now (code_tree body.now)) + frames_weight (network run.now.net.now) (reverse frames.old.items)) }
@@ -287,7 +288,7 @@ fn branch<'a>(
 ) -> Result<Exit<'a>, NoMemory>
     ensures runs { IfOk result (λ exit. then_run (ran_of packet.new exit) (run_frames run.now node (reverse frames.new.items))
         ≡ noting packet.old.decisions.items (then_run
-        (run_instr run.now.numbers.now run.now.unknowns (scene_in run.now node turns) site (branch (cond_tree test.now) (code_tree first.now) (code_tree other.now)) (carried_of packet.old.state) packet.old.choices)
+        (run_instr run.now.numbers.now run.now.unknowns (scene_in run.now node turns) site (branch (cond_tree test.now) (code_tree first.now) (code_tree other.now)) (progress_of packet.old))
         (run_frames run.now node (reverse frames.old.items)))) }
     ensures weight { OnOk result (frames_weight (network run.now.net.now) (reverse frames.new.items)
         < instr_weight (network run.now.net.now) (branch (cond_tree test.now) (code_tree first.now) (code_tree other.now)) + frames_weight (network run.now.net.now) (reverse frames.old.items)) }

@@ -4,13 +4,12 @@ ghost use Rattle.std.specs.Prelude.{◌≡◌, IfOk};
 ghost use Rattle.sefl_syntax.specs.Trees.{assign_any, constrain};
 ghost use Rattle.sefl_syntax.specs.Views.{cond_tree};
 ghost use Rattle.sefl_meaning.specs.Runs.{noting, run_instr};
-ghost use Rattle.sefl_meaning.specs.View.{carried_of};
 ghost use Rattle.concrete_steps.specs.Scenes.{scene_of};
 ghost use Rattle.concrete_run.specs.declared.instrs.Exit.TheVariants.{Failed as FailedAt};
-ghost use Rattle.concrete_run.specs.Passing.{exit_after, ran_of};
+ghost use Rattle.concrete_run.specs.Passing.{exit_after, progress_of, ran_of};
 
 use crate::packet::Packet;
-use concrete_steps::{Scene, assign_any, truth_of};
+use concrete_steps::{Scene, assign_any, truth_of, width_of};
 use sefl_meaning::{Decision, Failure};
 use sefl_syntax::{Cond, Target};
 use sn_width::{NoMemory, StepFault};
@@ -52,15 +51,12 @@ pub(crate) fn choose<'a>(
     packet: &mut Packet,
 ) -> Result<Exit<'a>, NoMemory>
     ensures { IfOk result (λ exit. ran_of packet.new exit
-        ≡ noting packet.old.decisions.items (run_instr at.now.numbers.now at.now.unknowns (scene_of at.now) site (assign_any target.now) (carried_of packet.old.state) packet.old.choices)) }
+        ≡ noting packet.old.decisions.items (run_instr at.now.numbers.now at.now.unknowns (scene_of at.now) site (assign_any target.now) (progress_of packet.old))) }
 {
-    let Some(choices) = packet.choices.checked_add(1) else {
-        return Err(NoMemory);
-    };
-    let number = packet.choices;
+    let number = packet.choices.len();
     match assign_any(alloc, at, &mut packet.state, target, number) {
         Ok(()) => {
-            packet.choices = choices;
+            packet.choices.push(width_of(target))?;
             Ok(Exit::Off)
         }
         Err(StepFault::Layout(fault)) => Ok(failed(site, Failure::Layout(fault))),
@@ -76,7 +72,7 @@ pub(crate) fn constrain<'a>(
     packet: &mut Packet,
 ) -> Result<Exit<'a>, NoMemory>
     ensures { IfOk result (λ exit. ran_of packet.new exit
-        ≡ noting packet.old.decisions.items (run_instr at.now.numbers.now at.now.unknowns (scene_of at.now) site (constrain (cond_tree test.now)) (carried_of packet.old.state) packet.old.choices)) }
+        ≡ noting packet.old.decisions.items (run_instr at.now.numbers.now at.now.unknowns (scene_of at.now) site (constrain (cond_tree test.now)) (progress_of packet.old))) }
 {
     match truth_of(at, &packet.state, test) {
         Err(fault) => Ok(failed(site, Failure::Layout(fault))),

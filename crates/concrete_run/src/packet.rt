@@ -2,13 +2,13 @@
 
 ghost use Rattle.std.specs.Prelude.{◌≡◌, ◌∷◌, [], ◌++◌, OnOk};
 ghost use Rattle.concrete_steps.specs.Scenes.{scene_of};
-ghost use Rattle.concrete_run.specs.Passing.{scene_in};
+ghost use Rattle.concrete_run.specs.Passing.{begun_once, progress_of, scene_in};
 
 use concrete_steps::Scene;
 use net_check::Net;
 use sefl_meaning::{Decision, State, Turn};
 use sn_tree::Shared;
-use sn_width::{NoMemory, NodeId, Num};
+use sn_width::{NoMemory, NodeId, Num, Width};
 
 /// A net and the numbers of a packet: those of its unknown fields and, behind them, its choices.
 #[derive(Clone, Copy)]
@@ -35,22 +35,35 @@ impl<'a> Run<'a> {
     }
 }
 
-/// What a packet carries, what was decided on its way so far, and how many choices were made.
+/// What a packet carries, what was decided on its way so far, the widths of the choices that were made, and how many
+/// instructions have begun.
 #[derive(Drop)]
 pub(crate) struct Packet {
     pub decisions: Vec<Decision>,
     pub state: State,
-    pub choices: usize,
+    pub choices: Vec<Width>,
+    pub begun: u64,
 }
 
 impl Packet {
     /// Notes a decision.
     pub(crate) fn decide(&mut self, decision: Decision) -> Result<(), NoMemory>
         ensures decisions { OnOk result (self.new.decisions.items ≡ self.old.decisions.items ++ decision ∷ []) }
-        ensures state { OnOk result (self.new.state ≡ self.old.state) }
-        ensures choices { OnOk result (self.new.choices ≡ self.old.choices) }
+        ensures progress { OnOk result (progress_of self.new ≡ progress_of self.old) }
     {
         self.decisions.push(decision)?;
+        Ok(())
+    }
+
+    /// Counts an instruction that begins.
+    pub(crate) fn begin(&mut self) -> Result<(), NoMemory>
+        ensures decisions { OnOk result (self.new.decisions.items ≡ self.old.decisions.items) }
+        ensures progress { OnOk result (progress_of self.new ≡ begun_once (progress_of self.old)) }
+    {
+        if self.begun == u64::MAX {
+            return Err(NoMemory);
+        }
+        self.begun += 1;
         Ok(())
     }
 }

@@ -8,7 +8,7 @@ ghost use Rattle.sefl_meaning.specs.Runs.{noting};
 ghost use Rattle.sefl_meaning.specs.declared.walk.End.TheVariants.{Failed as FailedAt};
 ghost use Rattle.sefl_meaning.specs.View.{carried_of, trail_of};
 ghost use Rattle.sefl_meaning.specs.Walks.{run_port};
-ghost use Rattle.concrete_run.specs.Passing.{ran_of};
+ghost use Rattle.concrete_run.specs.Passing.{progress_of, ran_of};
 ghost use Rattle.concrete_run.specs.Pending.{stage_crossed, stage_passed, steps_by, steps_next, steps_of, walks_by, walks_next, walks_of};
 ghost use Rattle.concrete_run.specs.declared.packet.Run.{Run as RunOf};
 ghost use Rattle.concrete_run.specs.declared.pending.Stage.TheVariants.{Arriving as ArrivingAt, Leaving as LeavingBy, Copying as CopyingTo};
@@ -108,6 +108,7 @@ fn ended(places: Vec<Place>, packet: Packet, end: End) -> Walk
         decisions,
         state,
         choices: _,
+        begun: _,
     } = packet;
     Walk {
         decisions,
@@ -219,8 +220,7 @@ fn copy<'a>(
 /// The same packet, with one decision more.
 fn fork(alloc: Global, packet: &Packet, decision: Decision) -> Result<Packet, NoMemory>
     ensures decisions { IfOk result (λ copy. copy.decisions.items ≡ packet.now.decisions.items ++ decision ∷ []) }
-    ensures state { IfOk result (λ copy. carried_of copy.state ≡ carried_of packet.now.state) }
-    ensures choices { IfOk result (λ copy. copy.choices ≡ packet.now.choices) }
+    ensures progress { IfOk result (λ copy. progress_of copy ≡ progress_of packet.now) }
 {
     let mut decisions = copied(alloc, &packet.decisions)?;
     decisions.push(decision)?;
@@ -229,7 +229,8 @@ fn fork(alloc: Global, packet: &Packet, decision: Decision) -> Result<Packet, No
     Ok(Packet {
         decisions,
         state: State { layers, scopes },
-        choices: packet.choices,
+        choices: copied(alloc, &packet.choices)?,
+        begun: packet.begun,
     })
 }
 
@@ -251,7 +252,7 @@ fn run_port<'a>(
     packet: &mut Packet,
 ) -> Result<Exit<'a>, NoMemory>
     ensures { IfOk result (λ exit. ran_of packet.new exit
-        ≡ noting packet.old.decisions.items (run_port (network run.now.net.now) run.now.numbers.now run.now.unknowns node side port (carried_of packet.old.state) packet.old.choices)) }
+        ≡ noting packet.old.decisions.items (run_port (network run.now.net.now) run.now.numbers.now run.now.unknowns node side port (progress_of packet.old))) }
 {
     let site = code_site(run, node, side, port);
     let first = behind_item(site)?;

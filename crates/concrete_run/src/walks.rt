@@ -124,7 +124,8 @@ fn at_start<'a>(alloc: Global, injection: &Injection, state: State, hops: u32) -
         packet: Packet {
             decisions: Vec::new(alloc),
             state,
-            choices: 0,
+            choices: Vec::new(alloc),
+            begun: 0,
         },
         stage: Stage::Arriving { node, port },
     }

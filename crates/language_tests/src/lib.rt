@@ -1,12 +1,10 @@
-//! Tests of what stands outside, of the language and of acceptance.
+//! Tests of the language and of acceptance.
 #![tactic(auto)]
 
 #[cfg(test)]
 mod acceptance;
 #[cfg(test)]
 mod building;
-#[cfg(test)]
-mod disk;
 #[cfg(test)]
 mod grammar;
 #[cfg(test)]
@@ -15,8 +13,6 @@ mod jobs;
 mod lexing;
 #[cfg(test)]
 mod names;
-#[cfg(test)]
-mod outside;
 #[cfg(test)]
 mod packets;
 #[cfg(test)]

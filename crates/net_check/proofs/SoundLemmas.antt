@@ -1,12 +1,12 @@
 -- What is known of the items of a job that breaks no rule.
-use Rattle.std.proofs.Common.{◌≡◌, sym, ap, refl, ◌∙◌, ℕ, ◌+◌, ◌≤◌, Bool, true, false, if◌then◌else◌, List, [], ◌∷◌, ◌++◌, Option, None, Some, length, fold, map, arith}
-use Rattle.std.specs.Prelude.{is_none, bytes_eq, cond}
+use Rattle.std.proofs.Common.{◌≡◌, sym, ap, refl, subst, ◌∙◌, ℕ, zero, suc, ◌+◌, ◌≤◌, Bool, true, false, if◌then◌else◌, List, [], ◌∷◌, ◌++◌, Option, None, Some, length, fold, map, arith}
+use Rattle.std.specs.Prelude.{is_none, bytes_eq, cond, option_map, slice_get, unwrap_or}
 use Rattle.std.specs.List.{AllByRecursion, position_from}
 use Rattle.std.specs.Map.{lookup}
-use Rattle.std.proofs.lemmas.Option.{none-some}
+use Rattle.std.proofs.lemmas.Option.{none-some, slice_get-map}
 use Rattle.std.proofs.lemmas.Bool.{true≢false, ltb-false}
 use Rattle.indexmap.specs.IndexMap.{insert_entry}
-use Rattle.sefl_syntax.specs.Trees.{DeclTree, JobTree}
+use Rattle.sefl_syntax.specs.Trees.{AskTree, DeclTree, JobTree}
 use Rattle.job_items.specs.declared.rule.Breach.{Breach}
 use Rattle.job_items.specs.declared.ports.Ports.{Ports}
 use Rattle.job_items.specs.Nodes.{Nodes, node_named, with_node, nodes_after, ports_of}
@@ -145,6 +145,18 @@ of_injection P j all =
 
 pub of_lines : (P : Item → Type 0) (j : JobTree) → AllByRecursion P (job_items j) → AllByRecursion P (line_items j.injection)
 of_lines P j all = (of_injection P j all).1
+
+pub all_at : {X : Type 0} (P : X → Type 0) (xs : List X) (i : ℕ) (x : X) → AllByRecursion P xs → slice_get xs i ≡ Some x → P x
+all_at P [] i x all is = absurd (none-some _ is)
+all_at P (y ∷ ys) zero x all is = subst P (ap (λ o. unwrap_or o y) is) all.0
+all_at P (y ∷ ys) (suc i) x all is = all_at P ys i x all.1 is
+
+-- a question of the job, by its place
+pub of_ask : (P : Item → Type 0) (j : JobTree) → AllByRecursion P (job_items j) → (index : ℕ) (ask : AskTree) → slice_get j.asks index ≡ Some ask → P (ask_item ask)
+of_ask P j all index ask is =
+    all_at P (map ask_item j.asks) index (ask_item ask)
+    (all_right P (injection_items (nodes_after [] j.net.nodes) j.injection) (map ask_item j.asks) (all_right P (net_items j.net) (behind_net j) all))
+    (slice_get-map ask_item j.asks index ∙ ap (option_map ask_item) is)
 
 -- the injection's node is one of the job's
 injection_is_named : (j : JobTree) → refusal j ≡ None → is_none (node_named (nodes_after [] j.net.nodes) j.injection.node) ≡ false

@@ -1,6 +1,7 @@
 //! Acceptance.
 
 ghost use Rattle.std.specs.Prelude.{◌≡◌, ◌≤◌, ◌<◌, ℕ, length, map, IfOk, OnOk, Some, None, Err};
+ghost use Rattle.std.specs.List.{AllByRecursion};
 ghost use Rattle.std.specs.Option.{ForSome};
 ghost use Rattle.sn_width.specs.declared.ids.Site.{Site as SiteOf};
 ghost use Rattle.sefl_syntax.specs.Trees.{JobTree};
@@ -12,7 +13,7 @@ ghost use Rattle.job_names.specs.Names.{names_of};
 ghost use Rattle.pattern_answers.specs.Asking.{IsStep};
 ghost use Rattle.pattern_answers.specs.Told.{bad_site, found_by};
 ghost use Rattle.net_check.specs.Acceptance.{Asked, IsAcceptedAs, IsBadPattern, IsByPatterns, IsCause, IsRefusedBy};
-ghost use Rattle.net_check.specs.Sound.{IsSound};
+ghost use Rattle.net_check.specs.Sound.{AreIds, IsSound};
 ghost use Rattle.net_check.specs.declared.fault.AcceptFault.TheVariants.{Refused};
 
 use crate::fault::AcceptFault;
@@ -121,6 +122,7 @@ fn assemble(
     requires sound { IsSound (job_tree job) }
     requires names { names ≡ names_of (job_tree job) }
     requires found { length found.items ≡ length names.patterns }
+    requires ids { AllByRecursion (AreIds (length names.metas)) (map (λ ids. ids.items) found.items) }
     ensures parts { IfOk result (IsAcceptedAs (job_tree job)) }
     ensures found { IfOk result (λ a. a.net.found ≡ map (λ ids. ids.items) found.items) }
 {

@@ -1,13 +1,18 @@
 //! What follows from breaking no rule. These functions do nothing: their contracts are the laws.
 
-ghost use Rattle.std.specs.Prelude.{◌≡◌, ◌<◌, fold, length};
+ghost use Rattle.std.specs.Prelude.{◌≡◌, ◌<◌, ℕ, List, Some, fold, length, slice_get};
 ghost use Rattle.std.specs.List.{AllByRecursion};
-ghost use Rattle.sefl_syntax.specs.Trees.{JobTree};
-ghost use Rattle.job_items.specs.Items.{Item, job_items, net_items};
+ghost use Rattle.sefl_syntax.specs.Trees.{AskTree, JobTree};
+ghost use Rattle.sefl_syntax.specs.Views.{ask_tree};
+ghost use Rattle.sefl_syntax.specs.declared.job.Ask.{Ask};
+ghost use Rattle.job_items.specs.Atoms.{ask_atoms};
+ghost use Rattle.job_items.specs.Items.{Item, ask_item, job_items, net_items};
 ghost use Rattle.job_items.specs.Rules.{counted, item_atoms, no_counts};
 ghost use Rattle.net_check.specs.Keeping.{HasNamesOf, KeepsLimits, KeepsRules, KeepsWidth, line_items};
-ghost use Rattle.net_check.specs.Network.{Entry, Network};
-ghost use Rattle.net_check.specs.Sound.{AreOfOneJob, IsAcceptedEntry, IsAcceptedNet, IsSound};
+ghost use Rattle.net_check.specs.Network.{Entry, Network, entry, names_found, network};
+ghost use Rattle.net_check.specs.Acceptance.{IsAcceptedAs};
+ghost use Rattle.net_check.specs.declared.acceptance.Accepted.{Accepted};
+ghost use Rattle.net_check.specs.Sound.{AreIds, AreOfOneJob, IsAcceptedEntry, IsAcceptedNet, IsAskOf, IsSound};
 
 use job_names::laws::sets_ascend;
 use net_tables::laws::positions_have_names;
@@ -43,6 +48,23 @@ pub fn packets_enter_a_node()
 pub fn names_are_known()
     ensures net { (net : Network) → IsAcceptedNet net → AllByRecursion (HasNamesOf net.names) (net_items net.own) }
     ensures injection { (net : Network) (i : Entry) → AreOfOneJob net i → AllByRecursion (HasNamesOf net.names) (line_items i.own) }
+{
+    sets_ascend();
+}
+
+/// What a pattern finds in an accepted net are ids of the net's metadata names, ascending.
+pub fn found_names_ascend()
+    ensures { (net : Network) → IsAcceptedNet net → (pattern : List ℕ) → AreIds (length net.names.metas) (names_found net pattern) }
+{}
+
+/// The questions that are accepted are those of the job that the net and the injection are of. They
+/// keep the rules, each of their atoms has one width, and their names are among those of the net.
+pub fn questions_keep_the_rules()
+    ensures told { (j : JobTree) (a : Accepted) → IsAcceptedAs j a → (index : ℕ) (ask : Ask) → slice_get a.asks.items index ≡ Some ask
+        → IsAskOf (network a.net) (entry a.injection) (ask_tree ask) }
+    ensures rules { (net : Network) (i : Entry) (ask : AskTree) → IsAskOf net i ask → KeepsRules (ask_item ask) }
+    ensures widths { (net : Network) (i : Entry) (ask : AskTree) → IsAskOf net i ask → AllByRecursion KeepsWidth (ask_atoms ask) }
+    ensures names { (net : Network) (i : Entry) (ask : AskTree) → IsAskOf net i ask → HasNamesOf net.names (ask_item ask) }
 {
     sets_ascend();
 }

@@ -17,3 +17,11 @@ pub all_weaker : {X : Type 0} (P Q : X → Type 0) (xs : List X) → ((x : X) �
     AllByRecursion Q xs
 all_weaker P Q [] k h = tt
 all_weaker P Q (x ∷ xs) k h = (k x h.0, all_weaker P Q xs k h.1)
+
+pub all_first : {X : Type 0} (P : X → Type 0) (xs ys : List X) → AllByRecursion P (xs ++ ys) → AllByRecursion P xs
+all_first P [] ys h = tt
+all_first P (x ∷ xs) ys h = (h.0, all_first P xs ys h.1)
+
+pub all_later : {X : Type 0} (P : X → Type 0) (xs ys : List X) → AllByRecursion P (xs ++ ys) → AllByRecursion P ys
+all_later P [] ys h = h
+all_later P (x ∷ xs) ys h = all_later P xs ys h.1

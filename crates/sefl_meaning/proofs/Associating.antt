@@ -1,29 +1,28 @@
 -- One run or course after another, and a third one after both.
 use Rattle.std.proofs.Common.{◌≡◌, ℕ, List, refl, append_assoc}
 use Rattle.sefl_meaning.specs.declared.walk.Decision.{Decision}
-use Rattle.sefl_meaning.specs.Carried.{Carried}
 use Rattle.sefl_meaning.specs.Runs.{Exit, off, go, forked, failed, Ran, noting, then_next, then_run}
 use Rattle.sefl_meaning.specs.Courses.{Progress, Course, ends, asks, off_or, after}
 
-noted_first : (exit : Exit) (ds : List Decision) (r : Ran) (next : Carried ℕ → ℕ → Ran) →
+noted_first : (exit : Exit) (ds : List Decision) (r : Ran) (next : Progress ℕ → Ran) →
     then_next exit (noting ds r) next ≡ noting ds (then_next exit r next)
 noted_first off ds r next = λ i.
-    record (next r.state r.choices) { decisions = append_assoc ds r.decisions (next r.state r.choices).decisions i }
+    record (next r.progress) { decisions = append_assoc ds r.decisions (next r.progress).decisions i }
 noted_first (go port) ds r next = refl
 noted_first (forked ports) ds r next = refl
 noted_first (failed failure site) ds r next = refl
 
-by_exit : (exit : Exit) (ds : List Decision) (s : Carried ℕ) (k : ℕ) (first second : Carried ℕ → ℕ → Ran) →
-    then_run (then_run (record { decisions = ds; state = s; choices = k; exit = exit }) first) second
-    ≡ then_run (record { decisions = ds; state = s; choices = k; exit = exit }) (λ t j. then_run (first t j) second)
-by_exit off ds s k first second = noted_first (first s k).exit ds (first s k) second
-by_exit (go port) ds s k first second = refl
-by_exit (forked ports) ds s k first second = refl
-by_exit (failed failure site) ds s k first second = refl
+by_exit : (exit : Exit) (ds : List Decision) (p : Progress ℕ) (first second : Progress ℕ → Ran) →
+    then_run (then_run (record { decisions = ds; progress = p; exit = exit }) first) second
+    ≡ then_run (record { decisions = ds; progress = p; exit = exit }) (λ q. then_run (first q) second)
+by_exit off ds p first second = noted_first (first p).exit ds (first p) second
+by_exit (go port) ds p first second = refl
+by_exit (forked ports) ds p first second = refl
+by_exit (failed failure site) ds p first second = refl
 
-pub runs_associate : (r : Ran) (first second : Carried ℕ → ℕ → Ran) →
-    then_run (then_run r first) second ≡ then_run r (λ s k. then_run (first s k) second)
-runs_associate r first second = by_exit r.exit r.decisions r.state r.choices first second
+pub runs_associate : (r : Ran) (first second : Progress ℕ → Ran) →
+    then_run (then_run r first) second ≡ then_run r (λ p. then_run (first p) second)
+runs_associate r first second = by_exit r.exit r.decisions r.progress first second
 
 module _ {V F : Type 0} where
   off_associates : (exit : Exit) (p : Progress V) (first second : Progress V → Course V F) →

@@ -1,5 +1,5 @@
 -- A cell that is put under a key without cells, and then set.
-use Rattle.std.proofs.Common.{◌≡◌, ◌∙◌, refl, sym, ap, subst, ℕ, Bool, true, false, cond, if◌then◌else◌, List, [], ◌∷◌, ◌++◌, Option, None, Some, option_map, Result, Ok, Err, filter, true≢false}
+use Rattle.std.proofs.Common.{◌≡◌, ◌∙◌, refl, sym, ap, ℕ, Bool, true, false, cond, if◌then◌else◌, List, [], ◌∷◌, option_map, Result, Ok, Err, filter, true≢false}
 use Rattle.std.specs.Prelude.{ok_or, unwrap_or}
 use Rattle.std.specs.List.{AllByRecursion}
 use Rattle.std.specs.Ordering.{is_eq, is_gt, is_lt}
@@ -9,7 +9,7 @@ use Rattle.std.proofs.lemmas.Bool.{eq-eqb}
 use Rattle.sn_width.specs.declared.faults.LayoutFault.{LayoutFault}
 use Rattle.sn_width.specs.declared.faults.LayoutFault.TheVariants.{WidthDiffers, Unset}
 use Rattle.sn_tree.specs.Ends.{first, tail}
-use Rattle.sn_tree.specs.Pairs.{pairs_after, pairs_at, pairs_before}
+use Rattle.sn_tree.specs.Pairs.{pairs_after, pairs_before}
 use Rattle.cell_stacks.specs.declared.cell.Cell.{Cell}
 use Rattle.cell_stacks.specs.Cells.{accepts, pushed, set_cell, top_cell, top_value, unset_cell, with_top}
 use Rattle.cell_stacks.specs.Outcome.{and_then, on_ok}

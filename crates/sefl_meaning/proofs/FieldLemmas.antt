@@ -1,10 +1,10 @@
 -- The fields of an injection that keeps the rules: each gets a cell apart from those before it, which can then be read.
-use Rattle.std.proofs.Common.{◌≡◌, ◌∙◌, refl, sym, ap, subst, ℕ, ◌+◌, ◌≤◌, ◌<◌, ℤ, pos, ◌+ℤ◌, int_lt, Bool, true, false, ◌&&◌, ◌||◌, if◌then◌else◌, List, [], ◌∷◌, ◌++◌, length, Option, None, Some, Result, Ok, Err, bytes_eq, true≢false, append_assoc, arith}
+use Rattle.std.proofs.Common.{◌≡◌, ◌∙◌, refl, sym, ap, subst, ℕ, ◌+◌, ◌≤◌, ℤ, pos, ◌+ℤ◌, int_lt, Bool, true, false, ◌&&◌, ◌||◌, if◌then◌else◌, List, [], ◌∷◌, ◌++◌, length, Option, None, Some, Result, Ok, Err, bytes_eq, true≢false, append_assoc, arith}
 use Rattle.std.specs.Prelude.{is_none}
 use Rattle.std.specs.Cmp.Lexicographic.{nat_list_eq_equiv}
 use Rattle.std.specs.List.{AllByRecursion, list_any}
 use Rattle.std.specs.Option.{option_cmp}
-use Rattle.std.specs.Ordering.{int_cmp, int_eq, is_eq, nat_cmp, ordering_then}
+use Rattle.std.specs.Ordering.{int_cmp, int_eq, is_eq, ordering_then}
 use Rattle.std.specs.declared.cmp.Ordering.{Ordering}
 use Rattle.std.specs.declared.cmp.Ordering.TheVariants.{Less, Equal, Greater}
 use Rattle.std.proofs.lemmas.Bool.Decides.{Decides-int_eq}
@@ -14,7 +14,6 @@ use Rattle.std.proofs.lemmas.List.{append-nil}
 use Rattle.std.proofs.lemmas.Option.{none-some, same_Some}
 use Rattle.sn_width.specs.declared.faults.LayoutFault.{LayoutFault}
 use Rattle.sn_width.specs.declared.faults.LayoutFault.TheVariants.{NoField, NoMeta, Overlap}
-use Rattle.sn_width.specs.declared.ids.NameId.{NameId}
 use Rattle.sn_width.specs.declared.ids.NodeId.{NodeId}
 use Rattle.sefl_syntax.specs.declared.reference.Addr.{Addr}
 use Rattle.sefl_syntax.specs.declared.reference.Scope.{Scope}
@@ -28,21 +27,20 @@ use Rattle.cell_stacks.specs.Cells as cells
 use Rattle.cell_stacks.specs.Outcome.{and_then, on_ok}
 use Rattle.cell_stacks.specs.Stacks.{stack_at}
 use Rattle.header_layers.specs.Layout.{address_of, allocated_at, with_heads}
-use Rattle.header_layers.specs.Spaced.{overlaps, share_a_bit}
+use Rattle.header_layers.specs.Spaced.{overlaps}
 use Rattle.metadata_scopes.specs.Scopes.{key_cmp, name_cmp, node_cmp}
 use Rattle.job_items.specs.AtomRules.{has_loose, width_of}
 use Rattle.job_items.specs.Atoms.{lone}
-use Rattle.job_items.specs.Items.{field_item, field_items}
+use Rattle.job_items.specs.Items.{field_items}
 use Rattle.job_items.specs.Rules.{begins_outside, do_meet, do_overlap, injected_width, is_at, is_outside, is_same_address, is_same_scope, lacks_tag, names_in}
 use Rattle.job_items.specs.Tags.{Tags, is_address, resolved}
 use Rattle.net_check.specs.Keeping.{HasNamesOf, HasWidth, IsAmong, KeepsRules}
 use Rattle.sefl_meaning.specs.Network.{Network, name_id}
 use Rattle.sefl_meaning.specs.Carried.{Carried, Key, base_tag, owner_of, read_at, scene_at, with_layers, with_scopes}
-use Rattle.sefl_meaning.specs.Injected.{field_value, unknown_width, with_field, with_fields}
+use Rattle.sefl_meaning.specs.Injected.{field_value, unknown_width, with_fields}
 use Rattle.sefl_meaning.specs.Laws.{StackLaws}
 use Rattle.sefl_meaning.specs.Steps.{allocated, assigned}
 use Rattle.sefl_meaning.specs.Values.{Values}
-use Rattle.sefl_meaning.proofs.AllLemmas.{all_weaker}
 use Rattle.sefl_meaning.proofs.CellLemmas.{all_still, none_elsewhere, push_goes, reads_elsewhere, reads_there, set_goes, stack_none, with_set, with_unset}
 use Rattle.sefl_meaning.proofs.NameIds.{nat_equal, same_bytes, same_name}
 use Rattle.sefl_meaning.proofs.TagLemmas.{HaveAddresses, address_found}
@@ -354,7 +352,7 @@ pub fields_go : {V F : Type 0} (laws : StackLaws V) (o : Values V F) (net : Netw
 fields_go laws o net node known number before [] s have keeps names widths =
     record { next = s; goes = refl; have = subst (λ fs. HaveCells net node known fs s) (sym (append-nil before)) have }
 fields_go laws o net node known number before (f ∷ fields) s have keeps names widths =
-    let one = target_goes laws net node known before f.value (field_value o (scene_at net node) (width_of f.target) number f.value) s have f.target
+    let one = target_goes laws net node known before f.value (field_value o (width_of f.target) number f.value) s have f.target
     keeps.0.bound keeps.0.address keeps.0.apart names.0.metas widths.0.0 in
     let rest = fields_go laws o net node known (number + length (unknown_width f)) (before ++ f ∷ []) fields one.next one.have keeps.1 names.1 widths.1 in
     record {

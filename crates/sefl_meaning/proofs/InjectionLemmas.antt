@@ -1,13 +1,12 @@
 -- The injection of a job that breaks no rule gives what a packet carries, and its tests have truths.
-use Rattle.std.proofs.Common.{◌≡◌, ◌∙◌, refl, sym, ap, subst, ℕ, ◌≤◌, false, List, [], ◌∷◌, ◌++◌, Option, None, Some, Result, Ok, Err, map}
+use Rattle.std.proofs.Common.{◌≡◌, ◌∙◌, sym, ap, subst, ◌≤◌, false, [], Some, Result, Ok, Err, map}
 use Rattle.std.specs.List.{AllByRecursion}
 use Rattle.std.proofs.lemmas.Option.{none-some}
 use Rattle.sn_width.specs.declared.ids.NodeId.{NodeId}
 use Rattle.cell_stacks.specs.Cells as cells
 use Rattle.cell_stacks.specs.Outcome.{and_then}
 use Rattle.cell_stacks.specs.Stacks.{stack_at}
-use Rattle.sefl_syntax.specs.declared.job.RawField.{RawField}
-use Rattle.sefl_syntax.specs.Trees.{CondTree, InjectionTree}
+use Rattle.sefl_syntax.specs.Trees.{InjectionTree}
 use Rattle.job_items.specs.Items.{Item, field_items, tag_items, test_item, value_items}
 use Rattle.job_items.specs.Rules.{do_meet, item_atoms}
 use Rattle.job_items.specs.Tags.{Tags, tags_after}
@@ -15,21 +14,14 @@ use Rattle.metadata_scopes.specs.Scopes.{key_cmp}
 use Rattle.net_check.specs.Keeping.{HasNamesOf, HasWidth, KeepsRules, KeepsWidth, line_items}
 use Rattle.sefl_meaning.specs.Network.{Network, name_id}
 use Rattle.sefl_meaning.specs.Carried.{Carried, nothing, owner_of, scene_at}
-use Rattle.sefl_meaning.specs.Injected.{injected, with_fields, with_tags}
+use Rattle.sefl_meaning.specs.Injected.{injected, with_fields}
 use Rattle.sefl_meaning.specs.Laws.{StackLaws}
 use Rattle.sefl_meaning.specs.Terms.{truth_in}
 use Rattle.sefl_meaning.specs.Values.{Values}
+use Rattle.sefl_meaning.proofs.AllLemmas.{all_first, all_later}
 use Rattle.sefl_meaning.proofs.FieldLemmas.{CellsGo, HaveCells, fields_go}
-use Rattle.sefl_meaning.proofs.TagLemmas.{HaveAddresses, TagsGo, tags_go}
+use Rattle.sefl_meaning.proofs.TagLemmas.{HaveAddresses, tags_go}
 use Rattle.sefl_meaning.proofs.TestLemmas.{tests_go}
-
-split_left : (P : Item → Type 0) (xs ys : List Item) → AllByRecursion P (xs ++ ys) → AllByRecursion P xs
-split_left P [] ys all = tt
-split_left P (x ∷ xs) ys all = (all.0, split_left P xs ys all.1)
-
-split_right : (P : Item → Type 0) (xs ys : List Item) → AllByRecursion P (xs ++ ys) → AllByRecursion P ys
-split_right P [] ys all = all
-split_right P (x ∷ xs) ys all = split_right P xs ys all.1
 
 no_cells : {V : Type 0} (net : Network) (node : NodeId) (known : Tags) (s : Carried V) → HaveAddresses net known s.layers.tags → s.layers.heads ≡ [] → s.scopes ≡ []
     → HaveCells net node known [] s
@@ -57,10 +49,10 @@ module _ {V F : Type 0} (laws : StackLaws V) (o : Values V F) (net : Network) (n
       let fields = field_items known [] i.fields in
       let tests = map (test_item known i.fields) i.tests in
       let tags = tags_go laws.tags o net node [] i.tags nothing (λ name a found. absurd (none-some a found))
-      (split_left KeepsRules lines values keeps) (split_left (HasNamesOf net.names) lines values names) in
+      (all_first KeepsRules lines values keeps) (all_first (HasNamesOf net.names) lines values names) in
       let cells = fields_go laws o net node known 0 [] i.fields tags.next (no_cells net node known tags.next tags.have tags.heads tags.scopes)
-      (split_left KeepsRules fields tests (split_right KeepsRules lines values keeps))
-      (split_left (HasNamesOf net.names) fields tests (split_right (HasNamesOf net.names) lines values names)) widths in
+      (all_first KeepsRules fields tests (all_later KeepsRules lines values keeps))
+      (all_first (HasNamesOf net.names) fields tests (all_later (HasNamesOf net.names) lines values names)) widths in
       record {
         next = cells.next;
         goes = ap (λ r. and_then r (with_fields o (scene_at net node) 0 i.fields)) tags.goes ∙ cells.goes;
@@ -75,5 +67,5 @@ module _ {V F : Type 0} (laws : StackLaws V) (o : Values V F) (net : Network) (n
       let cells = injection_goes keeps names widths in
       let same : cells.next ≡ s = ap (next_of cells.next) (sym cells.goes ∙ goes) in
       tests_go net node known i.fields s (subst (HaveCells net node known i.fields) same cells.have) o atoms i.tests
-      (split_right KeepsRules (field_items known [] i.fields) (map (test_item known i.fields) i.tests)
-      (split_right KeepsRules (tag_items [] i.tags) (value_items known i) keeps))
+      (all_later KeepsRules (field_items known [] i.fields) (map (test_item known i.fields) i.tests)
+      (all_later KeepsRules (tag_items [] i.tags) (value_items known i) keeps))

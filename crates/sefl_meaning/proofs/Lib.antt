@@ -15,3 +15,10 @@ pub mod CellLemmas
 pub mod FieldLemmas
 pub mod TestLemmas
 pub mod InjectionLemmas
+pub mod OrderLemmas
+pub mod Composing
+pub mod Forking
+pub mod StartLemmas
+pub mod IdLemmas
+pub mod Keeping
+pub mod Typing

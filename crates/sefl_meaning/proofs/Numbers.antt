@@ -1,6 +1,5 @@
 -- Runs and walks leave numbers that fit their widths.
-use Rattle.std.proofs.Common.{ℕ, zero, suc, ◌+◌, ◌%◌, ◌^◌, Bool, true, false, List, [], ◌∷◌, map, replicate, ap, subst, ◌∙◌, lt-ltb, Option, None, Some}
-use Rattle.std.proofs.lemmas.List.{length-replicate}
+use Rattle.std.proofs.Common.{ℕ, zero, suc, ◌+◌, ◌%◌, ◌^◌, Bool, true, false, List, [], ◌∷◌, map, subst, lt-ltb, Option, None, Some}
 use Rattle.std.proofs.lemmas.Nat.{mod_below, pow_pos}
 use Rattle.std.specs.List.{AllByRecursion}
 use Rattle.sn_width.specs.declared.ids.NodeId.{NodeId}
@@ -9,12 +8,13 @@ use Rattle.sefl_syntax.specs.declared.net.Side.TheVariants.{Inward, Outward}
 use Rattle.sefl_syntax.specs.Trees.{CodeTree}
 use Rattle.sefl_meaning.specs.declared.walk.Decision.{Decision}
 use Rattle.sefl_meaning.specs.declared.walk.Decision.TheVariants.{Copy}
+use Rattle.sefl_meaning.specs.declared.walk.Place.{Place}
 use Rattle.sefl_meaning.specs.Values.{numbers, number_at, number_fits}
 use Rattle.sefl_meaning.specs.Network.{Network, code_of, link_of}
-use Rattle.sefl_meaning.specs.Carried.{Carried, Scene, scene_at}
+use Rattle.sefl_meaning.specs.Carried.{Scene, scene_at}
 use Rattle.sefl_meaning.specs.Runs.{Exit, off, go, forked, failed, Ran, run_code}
 use Rattle.sefl_meaning.specs.Courses.{Progress, Course, ends, asks, course_code}
-use Rattle.sefl_meaning.specs.Walks.{Trail, Onward, by_way_of, decided, place_at, run_port, crossed, leave, copies, passed, enter}
+use Rattle.sefl_meaning.specs.Walks.{Passage, Onward, by_way_of, decided, place_at, run_port, crossed, leave, copies, passed, enter}
 use Rattle.sefl_meaning.specs.Taken.{taken}
 use Rattle.sefl_meaning.specs.Valued.{Fits, Keeps, CarriedFits, CourseFits}
 use Rattle.sefl_meaning.proofs.AllLemmas.{all_append, all_map}
@@ -32,7 +32,7 @@ numbers_keep v unknowns = record {
   choice = λ w k. remainder_fits w _;
 }
 
-taken_fits : (c : Course ℕ Bool) → CourseFits number_fits c → CarriedFits number_fits (taken c).state
+taken_fits : (c : Course ℕ Bool) → CourseFits number_fits c → CarriedFits number_fits (taken c).progress.state
 taken_fits (ends p exit) h = h
 taken_fits (asks asking p true held broken) h = taken_fits held h.0
 taken_fits (asks asking p false held broken) h = taken_fits broken h.1
@@ -43,76 +43,74 @@ CoursesFit v unknowns = (at : Scene) (site : ℕ) (code : CodeTree) (from : Prog
     CourseFits number_fits (course_code (numbers v unknowns) at site code from)
 
 module _ (v : List ℕ) (unknowns : ℕ) (courses : CoursesFit v unknowns) where
-  pub run_fits : (at : Scene) (site : ℕ) (code : CodeTree) (s : Carried ℕ) (k : ℕ) → CarriedFits number_fits s →
-      CarriedFits number_fits (run_code v unknowns at site code s k).state
-  run_fits at site code s k h =
-      let from : Progress ℕ = record { state = s; choices = replicate k 0; begun = 0 } in
-      subst (λ (r : Ran). CarriedFits number_fits r.state)
-      (taken_code v unknowns at site code from ∙ ap (run_code v unknowns at site code s) (length-replicate k 0))
-      (taken_fits (course_code (numbers v unknowns) at site code from) (courses at site code from h))
+  pub run_fits : (at : Scene) (site : ℕ) (code : CodeTree) (p : Progress ℕ) → CarriedFits number_fits p.state →
+      CarriedFits number_fits (run_code v unknowns at site code p).progress.state
+  run_fits at site code p h =
+      subst (λ (r : Ran). CarriedFits number_fits r.progress.state) (taken_code v unknowns at site code p)
+      (taken_fits (course_code (numbers v unknowns) at site code p) (courses at site code p h))
 
-  abbrev AllFit : List Trail → Type 0
-  AllFit ts = AllByRecursion (λ t. CarriedFits number_fits t.state) ts
+  abbrev AllFit : List Passage → Type 0
+  AllFit ts = AllByRecursion (λ t. CarriedFits number_fits t.progress.state) ts
 
-  by_way_fits : (place : _) (ts : List Trail) → AllFit ts → AllFit (map (by_way_of place) ts)
-  by_way_fits place ts h = all_map _ _ (by_way_of place) ts (λ t fit. fit) h
+  by_way_fits : (place : Place) (p : Progress ℕ) (ts : List Passage) → AllFit ts → AllFit (map (by_way_of place p) ts)
+  by_way_fits place p ts h = all_map _ _ (by_way_of place p) ts (λ t fit. fit) h
 
-  decided_fits : (ds : List Decision) (ts : List Trail) → AllFit ts → AllFit (map (decided ds) ts)
+  decided_fits : (ds : List Decision) (ts : List Passage) → AllFit ts → AllFit (map (decided ds) ts)
   decided_fits ds ts h = all_map _ _ (decided ds) ts (λ t fit. fit) h
 
   module _ (net : Network) where
     abbrev OnwardFits : Onward → Type 0
-    OnwardFits onward = (node : NodeId) (port : ℕ) (s : Carried ℕ) (k : ℕ) → CarriedFits number_fits s →
-        AllFit (onward node port s k)
+    OnwardFits onward = (node : NodeId) (port : ℕ) (p : Progress ℕ) → CarriedFits number_fits p.state →
+        AllFit (onward node port p)
 
-    port_fits : (node : NodeId) (side : Side) (port : ℕ) (s : Carried ℕ) (k : ℕ) → CarriedFits number_fits s →
-        CarriedFits number_fits (run_port net v unknowns node side port s k).state
-    port_fits node side port s k h =
+    port_fits : (node : NodeId) (side : Side) (port : ℕ) (p : Progress ℕ) → CarriedFits number_fits p.state →
+        CarriedFits number_fits (run_port net v unknowns node side port p).progress.state
+    port_fits node side port p h =
         run_fits (scene_at net node) (suc (code_of net node side port).0)
-        (code_of net node side port).1 s k h
+        (code_of net node side port).1 p h
 
     module _ (onward : Onward) (fits : OnwardFits onward) where
-      crossed_fits : (link : Option (NodeId × ℕ)) (exit : Exit) (s : Carried ℕ) (k : ℕ) → CarriedFits number_fits s →
-          AllFit (crossed net v unknowns onward link exit s k)
-      crossed_fits None off s k h = (h, tt)
-      crossed_fits None (go port) s k h = (h, tt)
-      crossed_fits None (forked ports) s k h = (h, tt)
-      crossed_fits None (failed failure site) s k h = (h, tt)
-      crossed_fits (Some to) off s k h = fits to.0 to.1 s k h
-      crossed_fits (Some to) (go port) s k h = (h, tt)
-      crossed_fits (Some to) (forked ports) s k h = (h, tt)
-      crossed_fits (Some to) (failed failure site) s k h = (h, tt)
+      crossed_fits : (link : Option (NodeId × ℕ)) (exit : Exit) (p : Progress ℕ) → CarriedFits number_fits p.state →
+          AllFit (crossed net v unknowns onward link exit p)
+      crossed_fits None off p h = (h, tt)
+      crossed_fits None (go port) p h = (h, tt)
+      crossed_fits None (forked ports) p h = (h, tt)
+      crossed_fits None (failed failure site) p h = (h, tt)
+      crossed_fits (Some to) off p h = fits to.0 to.1 p h
+      crossed_fits (Some to) (go port) p h = (h, tt)
+      crossed_fits (Some to) (forked ports) p h = (h, tt)
+      crossed_fits (Some to) (failed failure site) p h = (h, tt)
 
       leave_fits : OnwardFits (leave net v unknowns onward)
-      leave_fits node port s k h =
-          let r : Ran = run_port net v unknowns node Outward port s k in
-          by_way_fits (place_at node Outward port)
-          (map (decided r.decisions) (crossed net v unknowns onward (link_of net node port) r.exit r.state r.choices))
-          (decided_fits r.decisions (crossed net v unknowns onward (link_of net node port) r.exit r.state r.choices)
-          (crossed_fits (link_of net node port) r.exit r.state r.choices (port_fits node Outward port s k h)))
+      leave_fits node port p h =
+          let r : Ran = run_port net v unknowns node Outward port p in
+          by_way_fits (place_at node Outward port) p
+          (map (decided r.decisions) (crossed net v unknowns onward (link_of net node port) r.exit r.progress))
+          (decided_fits r.decisions (crossed net v unknowns onward (link_of net node port) r.exit r.progress)
+          (crossed_fits (link_of net node port) r.exit r.progress (port_fits node Outward port p h)))
 
-      copies_fit : (node : NodeId) (number : ℕ) (ports : List ℕ) (s : Carried ℕ) (k : ℕ) → CarriedFits number_fits s →
-          AllFit (copies net v unknowns onward node number ports s k)
-      copies_fit node number [] s k h = tt
-      copies_fit node number (port ∷ ports) s k h =
-          all_append _ (map (decided (Copy number ∷ [])) (leave net v unknowns onward node port s k))
-          (copies net v unknowns onward node (suc number) ports s k)
-          (decided_fits (Copy number ∷ []) (leave net v unknowns onward node port s k) (leave_fits node port s k h))
-          (copies_fit node (suc number) ports s k h)
+      copies_fit : (node : NodeId) (number : ℕ) (ports : List ℕ) (p : Progress ℕ) → CarriedFits number_fits p.state →
+          AllFit (copies net v unknowns onward node number ports p)
+      copies_fit node number [] p h = tt
+      copies_fit node number (port ∷ ports) p h =
+          all_append _ (map (decided (Copy number ∷ [])) (leave net v unknowns onward node port p))
+          (copies net v unknowns onward node (suc number) ports p)
+          (decided_fits (Copy number ∷ []) (leave net v unknowns onward node port p) (leave_fits node port p h))
+          (copies_fit node (suc number) ports p h)
 
-      passed_fits : (node : NodeId) (exit : Exit) (s : Carried ℕ) (k : ℕ) → CarriedFits number_fits s →
-          AllFit (passed net v unknowns onward node exit s k)
-      passed_fits node off s k h = (h, tt)
-      passed_fits node (go port) s k h = leave_fits node port s k h
-      passed_fits node (forked ports) s k h = copies_fit node 0 ports s k h
-      passed_fits node (failed failure site) s k h = (h, tt)
+      passed_fits : (node : NodeId) (exit : Exit) (p : Progress ℕ) → CarriedFits number_fits p.state →
+          AllFit (passed net v unknowns onward node exit p)
+      passed_fits node off p h = (h, tt)
+      passed_fits node (go port) p h = leave_fits node port p h
+      passed_fits node (forked ports) p h = copies_fit node 0 ports p h
+      passed_fits node (failed failure site) p h = (h, tt)
 
     pub enter_fits : (hops : ℕ) → OnwardFits (enter net v unknowns hops)
-    enter_fits zero node port s k h = (h, tt)
-    enter_fits (suc hops) node port s k h =
-        let r : Ran = run_port net v unknowns node Inward port s k in
-        by_way_fits (place_at node Inward port)
-        (map (decided r.decisions) (passed net v unknowns (enter net v unknowns hops) node r.exit r.state r.choices))
-        (decided_fits r.decisions (passed net v unknowns (enter net v unknowns hops) node r.exit r.state r.choices)
-        (passed_fits (enter net v unknowns hops) (enter_fits hops) node r.exit r.state r.choices
-        (port_fits node Inward port s k h)))
+    enter_fits zero node port p h = (h, tt)
+    enter_fits (suc hops) node port p h =
+        let r : Ran = run_port net v unknowns node Inward port p in
+        by_way_fits (place_at node Inward port) p
+        (map (decided r.decisions) (passed net v unknowns (enter net v unknowns hops) node r.exit r.progress))
+        (decided_fits r.decisions (passed net v unknowns (enter net v unknowns hops) node r.exit r.progress)
+        (passed_fits (enter net v unknowns hops) (enter_fits hops) node r.exit r.progress
+        (port_fits node Inward port p h)))

@@ -7,8 +7,8 @@ use Rattle.sefl_meaning.specs.declared.walk.Place.{Place}
 use Rattle.sefl_meaning.specs.declared.walk.End.{End}
 use Rattle.sefl_meaning.specs.Courses.{Asking, at_if, at_constrain, Progress}
 use Rattle.sefl_meaning.specs.Trees.{Tree, over, arrives, tests, splits, Copies, no_copies, copy_and}
-use Rattle.sefl_meaning.specs.Valued.{tree_valued, copies_valued}
-use Rattle.sefl_meaning.specs.Walks.{Trail, by_way_of, decided}
+use Rattle.sefl_meaning.specs.Valued.{tree_valued, copies_valued, progress_valued}
+use Rattle.sefl_meaning.specs.Walks.{Passage, by_way_of, decided}
 use Rattle.sefl_meaning.specs.Taken.{decision_at, walks_of, walks_of_copies}
 use Rattle.sefl_meaning.specs.Routes.{truth_of, number_of, Route, waiting, arriving, taking, by_truth, by_number, route, copy_route, route_valued, Holds, IsWay, Has}
 use Rattle.sefl_meaning.proofs.AllLemmas.{all_append, all_map, all_weaker}
@@ -16,11 +16,11 @@ use Rattle.sefl_meaning.proofs.AllLemmas.{all_append, all_map, all_weaker}
 -- ---- functions of values
 
 module _ {V F W G : Type 0} (f : V → W) (g : F → G) where
-  arriving_valued : (place : Place) (r : Option (Route V F)) →
-      option_map (arriving place) (option_map (route_valued f g) r)
-      ≡ option_map (route_valued f g) (option_map (arriving place) r)
-  arriving_valued place None = refl
-  arriving_valued place (Some r) = refl
+  arriving_valued : (place : Place) (p : Progress V) (r : Option (Route V F)) →
+      option_map (arriving place (progress_valued f p)) (option_map (route_valued f g) r)
+      ≡ option_map (route_valued f g) (option_map (arriving place p) r)
+  arriving_valued place p None = refl
+  arriving_valued place p (Some r) = refl
 
   taking_valued : (test : F) (truth : Bool) (r : Option (Route V F)) →
       option_map (taking (g test) truth) (option_map (route_valued f g) r)
@@ -47,7 +47,7 @@ module _ {V F W G : Type 0} (f : V → W) (g : F → G) where
     routes_commute (over p end') [] = refl
     routes_commute (over p end') (d ∷ ds) = refl
     routes_commute (arrives place p t) ds =
-        ap (option_map (arriving place)) (routes_commute t ds) ∙ arriving_valued place (route t ds)
+        ap (option_map (arriving place (progress_valued f p))) (routes_commute t ds) ∙ arriving_valued place p (route t ds)
     routes_commute (tests asking p test held broken) [] = refl
     routes_commute (tests asking p test held broken) (d ∷ ds) =
         (λ i. by_truth (truth_of asking d) (g test) (routes_commute held ds i) (routes_commute broken ds i))
@@ -67,60 +67,54 @@ module _ {V F W G : Type 0} (f : V → W) (g : F → G) where
 
 -- ---- walks are ways
 
-offered : (asking : Asking) (truth : Bool) → truth_of asking (decision_at asking truth) ≡ Some truth
+pub offered : (asking : Asking) (truth : Bool) → truth_of asking (decision_at asking truth) ≡ Some truth
 offered at_if true = refl
 offered at_if false = refl
 offered at_constrain true = refl
 offered at_constrain false = refl
 
-arriving_way : (place : Place) (p : Progress ℕ) (t : Tree ℕ Bool) (w : Trail) → IsWay (route t) w →
-    IsWay (route (arrives place p t)) (by_way_of place w)
+arriving_way : (place : Place) (p : Progress ℕ) (t : Tree ℕ Bool) (w : Passage) → IsWay (route t) w →
+    IsWay (route (arrives place p t)) (by_way_of place p w)
 arriving_way place p t w h = record {
-  way = arriving place h.way;
-  progress = h.progress;
-  found = ap (option_map (arriving place)) h.found;
-  places = ap (λ (places : List Place). place ∷ places) h.places;
+  way = arriving place p h.way;
+  found = ap (option_map (arriving place p)) h.found;
+  arrivals = ap (λ (arrivals : List (Place × Progress ℕ)). (place, p) ∷ arrivals) h.arrivals;
   holds = h.holds;
   left = h.left;
-  state = h.state;
 }
 
-held_way : (asking : Asking) (p : Progress ℕ) (held broken : Tree ℕ Bool) (w : Trail) → IsWay (route held) w →
+held_way : (asking : Asking) (p : Progress ℕ) (held broken : Tree ℕ Bool) (w : Passage) → IsWay (route held) w →
     IsWay (route (tests asking p true held broken)) (decided (decision_at asking true ∷ []) w)
 held_way asking p held broken w h = record {
   way = taking true true h.way;
-  progress = h.progress;
   found =
       ap (λ truth. by_truth truth true (route held w.decisions) (route broken w.decisions)) (offered asking true)
       ∙ ap (option_map (taking true true)) h.found;
-  places = h.places;
+  arrivals = h.arrivals;
   holds = (refl, h.holds);
   left = h.left;
-  state = h.state;
 }
 
-broken_way : (asking : Asking) (p : Progress ℕ) (held broken : Tree ℕ Bool) (w : Trail) → IsWay (route broken) w →
+broken_way : (asking : Asking) (p : Progress ℕ) (held broken : Tree ℕ Bool) (w : Passage) → IsWay (route broken) w →
     IsWay (route (tests asking p false held broken)) (decided (decision_at asking false ∷ []) w)
 broken_way asking p held broken w h = record {
   way = taking false false h.way;
-  progress = h.progress;
   found =
       ap (λ truth. by_truth truth false (route held w.decisions) (route broken w.decisions)) (offered asking false)
       ∙ ap (option_map (taking false false)) h.found;
-  places = h.places;
+  arrivals = h.arrivals;
   holds = (refl, h.holds);
   left = h.left;
-  state = h.state;
 }
 
 -- a walk of one of these copies, which are numbered from a number on
-record IsCopy (branches : Copies ℕ Bool) (number : ℕ) (w : Trail) : Type 0 where
+record IsCopy (branches : Copies ℕ Bool) (number : ℕ) (w : Passage) : Type 0 where
   pub place : ℕ
-  pub walk : Trail
+  pub walk : Passage
   pub same : w ≡ decided (Copy (number + place) ∷ []) walk
   pub way : IsWay (copy_route branches place) walk
 
-later_copy : (t : Tree ℕ Bool) (branches : Copies ℕ Bool) (number : ℕ) (w : Trail) → IsCopy branches (suc number) w →
+later_copy : (t : Tree ℕ Bool) (branches : Copies ℕ Bool) (number : ℕ) (w : Passage) → IsCopy branches (suc number) w →
     IsCopy (copy_and t branches) number w
 later_copy t branches number w h =
     let e : suc number + h.place ≡ number + suc h.place = omega arith in
@@ -132,25 +126,23 @@ later_copy t branches number w h =
           h.way;
     }
 
-first_copy : (t : Tree ℕ Bool) (branches : Copies ℕ Bool) (number : ℕ) (w : Trail) → IsWay (route t) w →
+first_copy : (t : Tree ℕ Bool) (branches : Copies ℕ Bool) (number : ℕ) (w : Passage) → IsWay (route t) w →
     IsCopy (copy_and t branches) number (decided (Copy number ∷ []) w)
 first_copy t branches number w h =
     let e : number ≡ number + 0 = omega arith in
     record { place = 0; walk = w; same = ap (λ (n : ℕ). decided (Copy n ∷ []) w) e; way = h }
 
-split_way : (p : Progress ℕ) (branches : Copies ℕ Bool) (w : Trail) → IsCopy branches 0 w →
+split_way : (p : Progress ℕ) (branches : Copies ℕ Bool) (w : Passage) → IsCopy branches 0 w →
     IsWay (route (splits p branches)) w
 split_way p branches w h =
     let e : h.place ≡ 0 + h.place = omega arith in
-    let walk : Trail = decided (Copy h.place ∷ []) h.walk in
+    let walk : Passage = decided (Copy h.place ∷ []) h.walk in
     let way : IsWay (route (splits p branches)) walk = record {
       way = h.way.way;
-      progress = h.way.progress;
       found = h.way.found;
-      places = h.way.places;
+      arrivals = h.way.arrivals;
       holds = h.way.holds;
       left = h.way.left;
-      state = h.way.state;
     } in
     subst (IsWay (route (splits p branches))) (ap (λ (n : ℕ). decided (Copy n ∷ []) h.walk) e ∙ sym h.same) way
 
@@ -159,17 +151,15 @@ mutual
   walks_are_ways (over p end') = (
     record {
       way = waiting (over p end');
-      progress = p;
       found = refl;
-      places = refl;
+      arrivals = refl;
       holds = tt;
       left = refl;
-      state = refl;
     },
     tt,
   )
   walks_are_ways (arrives place p t) =
-      all_map _ _ (by_way_of place) (walks_of t) (arriving_way place p t) (walks_are_ways t)
+      all_map _ _ (by_way_of place p) (walks_of t) (arriving_way place p t) (walks_are_ways t)
   walks_are_ways (tests asking p true held broken) =
       all_map _ _ (decided (decision_at asking true ∷ [])) (walks_of held) (held_way asking p held broken)
       (walks_are_ways held)
@@ -190,29 +180,27 @@ mutual
 
 -- ---- ways are walks
 
-has_mapped : (f : Trail → Trail) (ws : List Trail) (w : Trail) → Has ws w → Has (map f ws) (f w)
+has_mapped : (f : Passage → Passage) (ws : List Passage) (w : Passage) → Has ws w → Has (map f ws) (f w)
 has_mapped f [] w h = h
 has_mapped f (u ∷ ws) w h = elim h [ inl same ↦ inl (ap f same) | inr later ↦ inr (has_mapped f ws w later) ]
 
-has_before : (ws us : List Trail) (w : Trail) → Has ws w → Has (ws ++ us) w
+has_before : (ws us : List Passage) (w : Passage) → Has ws w → Has (ws ++ us) w
 has_before [] us w h = absurd h
 has_before (v ∷ ws) us w h = elim h [ inl same ↦ inl same | inr later ↦ inr (has_before ws us w later) ]
 
-has_after : (ws us : List Trail) (w : Trail) → Has us w → Has (ws ++ us) w
+has_after : (ws us : List Passage) (w : Passage) → Has us w → Has (ws ++ us) w
 has_after [] us w h = h
 has_after (v ∷ ws) us w h = inr (has_after ws us w h)
 
 -- the parts of a way
-record Way (r : Option (Route ℕ Bool)) (w : Trail) : Type 0 where
+record Way (r : Option (Route ℕ Bool)) (w : Passage) : Type 0 where
   pub way : Route ℕ Bool
-  pub progress : Progress ℕ
   pub found : r ≡ Some way
-  pub places : way.places ≡ w.places
+  pub arrivals : way.arrivals ≡ w.arrivals
   pub holds : Holds way
-  pub left : way.left ≡ over progress w.end'
-  pub state : progress.state ≡ w.state
+  pub left : way.left ≡ over w.progress w.end'
 
-only_offered : (asking : Asking) (d : Decision) (truth : Bool) → truth_of asking d ≡ Some truth →
+pub only_offered : (asking : Asking) (d : Decision) (truth : Bool) → truth_of asking d ≡ Some truth →
     d ≡ decision_at asking truth
 only_offered at_if Then truth e = let same : true ≡ truth = cc in ap (decision_at at_if) same
 only_offered at_if Else truth e = let same : false ≡ truth = cc in ap (decision_at at_if) same
@@ -225,61 +213,57 @@ only_offered at_constrain Pass truth e = let same : true ≡ truth = cc in ap (d
 only_offered at_constrain Broken truth e = let same : false ≡ truth = cc in ap (decision_at at_constrain) same
 only_offered at_constrain (Copy number) truth e = cc
 
-over_is_walk : (p : Progress ℕ) (end' : End) (ds : List Decision) (w : Trail) → w.decisions ≡ ds →
+over_is_walk : (p : Progress ℕ) (end' : End) (ds : List Decision) (w : Passage) → w.decisions ≡ ds →
     Way (route (over p end') ds) w →
     Has (walks_of (over p end')) w
 over_is_walk p end' [] w e h =
     let same : waiting (over p end') ≡ h.way = cc in
-    let left : over p end' ≡ over h.progress w.end' = ap (λ (r : Route ℕ Bool). r.left) same ∙ h.left in
-    let progress : p ≡ h.progress = cc in
+    let left : over p end' ≡ over w.progress w.end' = ap (λ (r : Route ℕ Bool). r.left) same ∙ h.left in
+    let progress : p ≡ w.progress = cc in
     let ends : end' ≡ w.end' = cc in
     inl (λ i. record {
       decisions = sym e i;
-      places = (ap (λ (r : Route ℕ Bool). r.places) same ∙ h.places) i;
+      arrivals = (ap (λ (r : Route ℕ Bool). r.arrivals) same ∙ h.arrivals) i;
       end' = ends i;
-      state = (ap (λ (q : Progress ℕ). q.state) progress ∙ h.state) i;
+      progress = progress i;
     })
 over_is_walk p end' (d ∷ ds) w e h = let no_way : None ≡ Some h.way = h.found in cc
 
-arriving_walk : (place : Place) (p : Progress ℕ) (t : Tree ℕ Bool) (w : Trail) (r : Option (Route ℕ Bool)) →
+arriving_walk : (place : Place) (p : Progress ℕ) (t : Tree ℕ Bool) (w : Passage) (r : Option (Route ℕ Bool)) →
     route t w.decisions ≡ r →
-    ((u : Trail) → IsWay (route t) u → Has (walks_of t) u) → Way (option_map (arriving place) r) w →
+    ((u : Passage) → IsWay (route t) u → Has (walks_of t) u) → Way (option_map (arriving place p) r) w →
     Has (walks_of (arrives place p t)) w
 arriving_walk place p t w None e walks h = let no_way : None ≡ Some h.way = h.found in cc
 arriving_walk place p t w (Some inner) e walks h =
-    let same : arriving place inner ≡ h.way = cc in
-    let u : Trail = record w { places = inner.places } in
+    let same : arriving place p inner ≡ h.way = cc in
+    let u : Passage = record w { arrivals = inner.arrivals } in
     let way : IsWay (route t) u = record {
       way = inner;
-      progress = h.progress;
       found = e;
-      places = refl;
+      arrivals = refl;
       holds = subst (λ (r : Route ℕ Bool). Holds r) (sym same) h.holds;
       left = ap (λ (r : Route ℕ Bool). r.left) same ∙ h.left;
-      state = h.state;
     } in
-    let whole : by_way_of place u ≡ w =
-    λ i. record w { places = (ap (λ (r : Route ℕ Bool). r.places) same ∙ h.places) i } in
-    subst (Has (map (by_way_of place) (walks_of t))) whole (has_mapped (by_way_of place) (walks_of t) u (walks u way))
+    let whole : by_way_of place p u ≡ w =
+    λ i. record w { arrivals = (ap (λ (r : Route ℕ Bool). r.arrivals) same ∙ h.arrivals) i } in
+    subst (Has (map (by_way_of place p) (walks_of t))) whole (has_mapped (by_way_of place p) (walks_of t) u (walks u way))
 
 -- a side that a test takes
-taken_walk : (side : Tree ℕ Bool) (test truth : Bool) (d : Decision) (ds : List Decision) (w : Trail)
+taken_walk : (side : Tree ℕ Bool) (test truth : Bool) (d : Decision) (ds : List Decision) (w : Passage)
     (r : Option (Route ℕ Bool)) →
-    w.decisions ≡ d ∷ ds → route side ds ≡ r → ((u : Trail) → IsWay (route side) u → Has (walks_of side) u) →
+    w.decisions ≡ d ∷ ds → route side ds ≡ r → ((u : Passage) → IsWay (route side) u → Has (walks_of side) u) →
     Way (option_map (taking test truth) r) w → (test ≡ truth) × Has (map (decided (d ∷ [])) (walks_of side)) w
 taken_walk side test truth d ds w None decisions e walks h = let no_way : None ≡ Some h.way = h.found in cc
 taken_walk side test truth d ds w (Some inner) decisions e walks h =
     let same : taking test truth inner ≡ h.way = cc in
     let holds : Holds (taking test truth inner) = subst (λ (r : Route ℕ Bool). Holds r) (sym same) h.holds in
-    let u : Trail = record w { decisions = ds } in
+    let u : Passage = record w { decisions = ds } in
     let way : IsWay (route side) u = record {
       way = inner;
-      progress = h.progress;
       found = e;
-      places = ap (λ (r : Route ℕ Bool). r.places) same ∙ h.places;
+      arrivals = ap (λ (r : Route ℕ Bool). r.arrivals) same ∙ h.arrivals;
       holds = holds.1;
       left = ap (λ (r : Route ℕ Bool). r.left) same ∙ h.left;
-      state = h.state;
     } in
     let whole : decided (d ∷ []) u ≡ w = λ i. record w { decisions = sym decisions i } in (
       holds.0,
@@ -288,10 +272,10 @@ taken_walk side test truth d ds w (Some inner) decisions e walks h =
     )
 
 asked_walk : (asking : Asking) (p : Progress ℕ) (test : Bool) (held broken : Tree ℕ Bool) (d : Decision)
-    (ds : List Decision) (w : Trail)
+    (ds : List Decision) (w : Passage)
     (truth : Option Bool) → w.decisions ≡ d ∷ ds → truth_of asking d ≡ truth →
-    ((u : Trail) → IsWay (route held) u → Has (walks_of held) u) →
-    ((u : Trail) → IsWay (route broken) u → Has (walks_of broken) u) →
+    ((u : Passage) → IsWay (route held) u → Has (walks_of held) u) →
+    ((u : Passage) → IsWay (route broken) u → Has (walks_of broken) u) →
     Way (by_truth truth test (route held ds) (route broken ds)) w → Has (walks_of (tests asking p test held broken)) w
 asked_walk asking p test held broken d ds w None decisions e walks others h = let no_way : None ≡ Some h.way =
     h.found in cc
@@ -299,70 +283,58 @@ asked_walk asking p true held broken d ds w (Some true) decisions e walks others
     let side = taken_walk held true true d ds w (route held ds) decisions refl walks
     (record {
       way = h.way;
-      progress = h.progress;
       found = h.found;
-      places = h.places;
+      arrivals = h.arrivals;
       holds = h.holds;
-      left =
-          h.left;
-      state = h.state;
+      left = h.left;
     }) in
     subst (λ (c : Decision). Has (map (decided (c ∷ [])) (walks_of held)) w) (only_offered asking d true e) side.1
 asked_walk asking p false held broken d ds w (Some true) decisions e walks others h =
     let side = taken_walk held false true d ds w (route held ds) decisions refl walks
     (record {
       way = h.way;
-      progress = h.progress;
       found = h.found;
-      places = h.places;
+      arrivals = h.arrivals;
       holds = h.holds;
-      left =
-          h.left;
-      state = h.state;
+      left = h.left;
     }) in
     let wrong : false ≡ true = side.0 in cc
 asked_walk asking p true held broken d ds w (Some false) decisions e walks others h =
     let side = taken_walk broken true false d ds w (route broken ds) decisions refl others
     (record {
       way = h.way;
-      progress = h.progress;
       found = h.found;
-      places = h.places;
+      arrivals = h.arrivals;
       holds = h.holds;
-      left =
-          h.left;
-      state = h.state;
+      left = h.left;
     }) in
     let wrong : true ≡ false = side.0 in cc
 asked_walk asking p false held broken d ds w (Some false) decisions e walks others h =
     let side = taken_walk broken false false d ds w (route broken ds) decisions refl others
     (record {
       way = h.way;
-      progress = h.progress;
       found = h.found;
-      places = h.places;
+      arrivals = h.arrivals;
       holds = h.holds;
-      left =
-          h.left;
-      state = h.state;
+      left = h.left;
     }) in
     subst (λ (c : Decision). Has (map (decided (c ∷ [])) (walks_of broken)) w) (only_offered asking d false e) side.1
 
 tested_walk : (asking : Asking) (p : Progress ℕ) (test : Bool) (held broken : Tree ℕ Bool) (ds : List Decision)
-    (w : Trail) → w.decisions ≡ ds →
-    ((u : Trail) → IsWay (route held) u → Has (walks_of held) u) →
-    ((u : Trail) → IsWay (route broken) u → Has (walks_of broken) u) →
+    (w : Passage) → w.decisions ≡ ds →
+    ((u : Passage) → IsWay (route held) u → Has (walks_of held) u) →
+    ((u : Passage) → IsWay (route broken) u → Has (walks_of broken) u) →
     Way (route (tests asking p test held broken) ds) w → Has (walks_of (tests asking p test held broken)) w
 tested_walk asking p test held broken [] w e walks others h =
     let same : waiting (tests asking p test held broken) ≡ h.way = cc in
-    let left : tests asking p test held broken ≡ over h.progress w.end' =
+    let left : tests asking p test held broken ≡ over w.progress w.end' =
     ap (λ (r : Route ℕ Bool). r.left) same ∙ h.left in
     cc
 tested_walk asking p test held broken (d ∷ ds) w e walks others h =
     asked_walk asking p test held broken d ds w (truth_of asking d) e refl walks others h
 
-numbered_walk : (branches : Copies ℕ Bool) (d : Decision) (ds : List Decision) (w : Trail) → w.decisions ≡ d ∷ ds →
-    ((n : ℕ) (u : Trail) → IsWay (copy_route branches n) u →
+numbered_walk : (branches : Copies ℕ Bool) (d : Decision) (ds : List Decision) (w : Passage) → w.decisions ≡ d ∷ ds →
+    ((n : ℕ) (u : Passage) → IsWay (copy_route branches n) u →
     Has (walks_of_copies 0 branches) (decided (Copy (0 + n) ∷ []) u)) →
     Way (by_number (number_of d) (λ number. copy_route branches number ds)) w → Has (walks_of_copies 0 branches) w
 numbered_walk branches Then ds w e walks h = let no_way : None ≡ Some h.way = h.found in cc
@@ -370,48 +342,42 @@ numbered_walk branches Else ds w e walks h = let no_way : None ≡ Some h.way = 
 numbered_walk branches Pass ds w e walks h = let no_way : None ≡ Some h.way = h.found in cc
 numbered_walk branches Broken ds w e walks h = let no_way : None ≡ Some h.way = h.found in cc
 numbered_walk branches (Copy n) ds w e walks h =
-    let u : Trail = record w { decisions = ds } in
+    let u : Passage = record w { decisions = ds } in
     let way : IsWay (copy_route branches n) u =
     record {
       way = h.way;
-      progress = h.progress;
       found = h.found;
-      places = h.places;
+      arrivals = h.arrivals;
       holds = h.holds;
-      left =
-          h.left;
-      state = h.state;
+      left = h.left;
     } in
     let zero_first : 0 + n ≡ n = omega arith in
     let whole : decided (Copy (0 + n) ∷ []) u ≡ w =
     ap (λ (m : ℕ). decided (Copy m ∷ []) u) zero_first ∙ (λ i. record w { decisions = sym e i }) in
     subst (Has (walks_of_copies 0 branches)) whole (walks n u way)
 
-split_walk : (p : Progress ℕ) (branches : Copies ℕ Bool) (ds : List Decision) (w : Trail) → w.decisions ≡ ds →
-    ((n : ℕ) (u : Trail) → IsWay (copy_route branches n) u →
+split_walk : (p : Progress ℕ) (branches : Copies ℕ Bool) (ds : List Decision) (w : Passage) → w.decisions ≡ ds →
+    ((n : ℕ) (u : Passage) → IsWay (copy_route branches n) u →
     Has (walks_of_copies 0 branches) (decided (Copy (0 + n) ∷ []) u)) →
     Way (route (splits p branches) ds) w → Has (walks_of (splits p branches)) w
 split_walk p branches [] w e walks h =
     let same : waiting (splits p branches) ≡ h.way = cc in
-    let left : splits p branches ≡ over h.progress w.end' = ap (λ (r : Route ℕ Bool). r.left) same ∙ h.left in
+    let left : splits p branches ≡ over w.progress w.end' = ap (λ (r : Route ℕ Bool). r.left) same ∙ h.left in
     cc
 split_walk p branches (d ∷ ds) w e walks h = numbered_walk branches d ds w e walks h
 
-way_of : (find : List Decision → Option (Route ℕ Bool)) (w : Trail) → IsWay find w → Way (find w.decisions) w
+way_of : (find : List Decision → Option (Route ℕ Bool)) (w : Passage) → IsWay find w → Way (find w.decisions) w
 way_of find w h =
     record {
       way = h.way;
-      progress = h.progress;
       found = h.found;
-      places = h.places;
+      arrivals = h.arrivals;
       holds = h.holds;
-      left =
-          h.left;
-      state = h.state;
+      left = h.left;
     }
 
 mutual
-  pub ways_are_walks : (t : Tree ℕ Bool) (w : Trail) → IsWay (route t) w → Has (walks_of t) w
+  pub ways_are_walks : (t : Tree ℕ Bool) (w : Passage) → IsWay (route t) w → Has (walks_of t) w
   ways_are_walks (over p end') w h = over_is_walk p end' w.decisions w refl (way_of (route (over p end')) w h)
   ways_are_walks (arrives place p t) w h =
       arriving_walk place p t w (route t w.decisions) refl (ways_are_walks t) (way_of (route (arrives place p t)) w h)
@@ -421,7 +387,7 @@ mutual
   ways_are_walks (splits p branches) w h =
       split_walk p branches w.decisions w refl (copy_ways_are_walks branches 0) (way_of (route (splits p branches)) w h)
 
-  copy_ways_are_walks : (branches : Copies ℕ Bool) (number n : ℕ) (w : Trail) → IsWay (copy_route branches n) w →
+  copy_ways_are_walks : (branches : Copies ℕ Bool) (number n : ℕ) (w : Passage) → IsWay (copy_route branches n) w →
       Has (walks_of_copies number branches) (decided (Copy (number + n) ∷ []) w)
   copy_ways_are_walks no_copies number n w h = let no_way : None ≡ Some h.way = h.found in cc
   copy_ways_are_walks (copy_and t branches) number zero w h =
@@ -431,12 +397,10 @@ mutual
       (decided (Copy number ∷ []) w)
       (has_mapped (decided (Copy number ∷ [])) (walks_of t) w (ways_are_walks t w (record {
         way = h.way;
-        progress = h.progress;
         found = h.found;
-        places = h.places;
+        arrivals = h.arrivals;
         holds = h.holds;
         left = h.left;
-        state = h.state;
       }))))
   copy_ways_are_walks (copy_and t branches) number (suc n) w h =
       let same : suc number + n ≡ number + suc n = omega arith in
@@ -445,10 +409,8 @@ mutual
       (decided (Copy (suc number + n) ∷ []) w)
       (copy_ways_are_walks branches (suc number) n w (record {
         way = h.way;
-        progress = h.progress;
         found = h.found;
-        places = h.places;
+        arrivals = h.arrivals;
         holds = h.holds;
         left = h.left;
-        state = h.state;
       })))

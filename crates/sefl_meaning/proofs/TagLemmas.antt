@@ -1,10 +1,9 @@
 -- The tags of an injection that keeps the rules: each line gives its tag the address that the rules find.
 use Rattle.std.proofs.Common.{◌≡◌, ◌∙◌, refl, sym, ap, subst, ℕ, ℤ, pos, negsuc, ◌+ℤ◌, int_le, int_lt, Bool, true, false, ◌&&◌, cond, if◌then◌else◌, List, [], ◌∷◌, Option, None, Some, option_map, Result, Ok, Err, bytes_eq, true≢false, arith}
 use Rattle.std.specs.Prelude.{is_none}
-use Rattle.std.specs.BTreeMap.{is_at, insert_entry}
+use Rattle.std.specs.BTreeMap.{insert_entry}
 use Rattle.std.specs.Cmp.Lexicographic.{nat_list_eq_equiv, slice_cmp}
 use Rattle.std.specs.List.{AllByRecursion}
-use Rattle.std.specs.Map.{lookup}
 use Rattle.std.specs.Ordering.{is_eq, match_ordering, nat_cmp}
 use Rattle.std.specs.declared.cmp.Ordering.{Ordering}
 use Rattle.std.specs.declared.cmp.Ordering.TheVariants.{Less, Equal, Greater}
@@ -16,7 +15,6 @@ use Rattle.std.proofs.lemmas.Option.{none-some, same_Some}
 use Rattle.sn_width.specs.declared.faults.LayoutFault.{LayoutFault}
 use Rattle.sn_width.specs.declared.faults.LayoutFault.TheVariants.{AddressRange}
 use Rattle.sn_width.specs.declared.ids.NodeId.{NodeId}
-use Rattle.sn_width.specs.declared.ids.TagId.{TagId}
 use Rattle.sn_tree.specs.Ends.{tail}
 use Rattle.sefl_syntax.specs.declared.reference.Addr.{Addr}
 use Rattle.cell_stacks.specs.Outcome.{and_then, on_ok}

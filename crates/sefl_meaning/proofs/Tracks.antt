@@ -310,11 +310,11 @@ module _ {V F W G : Type 0} (fits : ℕ → V → Bool) (o : Values V F) (p : Va
         (λ next fit. tags_track lines next fit)
 
     field_value_same : (w number : ℕ) (value : Option ℕ) →
-        f (field_value o at w number value) ≡ field_value p at w number value
+        f (field_value o w number value) ≡ field_value p w number value
     field_value_same w number None = rules.unknown w number
     field_value_same w number (Some n) = rules.constant w n
 
-    field_value_fits : (w number : ℕ) (value : Option ℕ) → Fits fits w (field_value o at w number value)
+    field_value_fits : (w number : ℕ) (value : Option ℕ) → Fits fits w (field_value o w number value)
     field_value_fits w number None = rules.keeps.unknown w number
     field_value_fits w number (Some n) = rules.keeps.constant w n
 
@@ -325,14 +325,14 @@ module _ {V F W G : Type 0} (fits : ℕ → V → Bool) (o : Values V F) (p : Va
         track_then (carried_valued f) (CarriedFits fits) (carried_valued f) (CarriedFits fits)
         (allocated at field.target s)
         (allocated at field.target (carried_valued f s))
-        (assigned at field.target (field_value o at (width_of field.target) number field.value))
-        (assigned at field.target (field_value p at (width_of field.target) number field.value))
+        (assigned at field.target (field_value o (width_of field.target) number field.value))
+        (assigned at field.target (field_value p (width_of field.target) number field.value))
         (allocated_tracks fits f laws at field.target s h)
         (λ next fit. subst (λ (x : W). Tracks (carried_valued f) (CarriedFits fits)
-        (assigned at field.target (field_value o at (width_of field.target) number field.value) next)
+        (assigned at field.target (field_value o (width_of field.target) number field.value) next)
         (assigned at field.target x (carried_valued f next)))
         (field_value_same (width_of field.target) number field.value)
-        (assigned_tracks fits f laws at field.target (field_value o at (width_of field.target) number field.value) next
+        (assigned_tracks fits f laws at field.target (field_value o (width_of field.target) number field.value) next
         (field_value_fits (width_of field.target) number field.value) fit))
 
     fields_track : (number : ℕ) (fields : List RawField) (s : Carried V) → CarriedFits fits s →

@@ -9,18 +9,13 @@ use Rattle.sefl_meaning.specs.Network.{code_size, inner_size}
 use Rattle.sefl_meaning.specs.Carried.{Carried, Scene, Key}
 use Rattle.sefl_meaning.specs.Terms.{truth_in}
 use Rattle.sefl_meaning.specs.Steps.{allocated, deallocated, assigned, evaluated, tag_created, tag_set, tag_destroyed}
+pub use Rattle.sefl_meaning.specs.Runs.{Progress}
 use Rattle.sefl_meaning.specs.Runs.{Exit, off, go, forked, failed, in_turn, turns_of}
 
 -- which instruction asks for a truth
 pub data Asking : Type 0 where
   at_if : Asking
   at_constrain : Asking
-
--- what is carried, the widths of the choices so far, and how many instructions have begun
-pub record Progress (V : Type 0) : Type 0 where
-  pub state : Carried V
-  pub choices : List ℕ
-  pub begun : ℕ
 
 module _ {V : Type 0} where
   abbrev pub with_state : Progress V → Carried V → Progress V

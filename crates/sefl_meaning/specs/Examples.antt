@@ -22,7 +22,8 @@ use Rattle.sefl_meaning.specs.declared.walk.End.TheVariants.{Stopped}
 use Rattle.job_names.specs.Names.{Names}
 use Rattle.sefl_meaning.specs.Network.{Network, Entry}
 use Rattle.sefl_meaning.specs.Carried.{Carried, nothing}
-use Rattle.sefl_meaning.specs.Walks.{Trail}
+use Rattle.sefl_meaning.specs.Runs.{starting}
+use Rattle.sefl_meaning.specs.Walks.{Passage, Trail}
 
 -- ---- words for all of them
 
@@ -195,3 +196,18 @@ any_net = record {
 
 abbrev pub any_injection : Entry
 any_injection = injection (codes "a") (given (codes "z") 9 ∷ record { target = meta Global (codes "x"); value = None } ∷ [])
+
+abbrev pub any_start : Carried ℕ
+any_start = metadata (global 0 7 ∷ global 2 9 ∷ [])
+
+abbrev pub any_end : Carried ℕ
+any_end = metadata (global 0 44 ∷ global 1 0 ∷ global 2 9 ∷ [])
+
+-- three instructions begin, and two choices of 8 bits are made
+abbrev pub any_passage : Passage
+any_passage = record {
+  decisions = [];
+  arrivals = (place 0 Inward 0, starting any_start) ∷ [];
+  end' = Stopped;
+  progress = record { state = any_end; choices = 8 ∷ 8 ∷ []; begun = 3 };
+}

@@ -1,5 +1,5 @@
 -- The injected packet: its unknown fields, what it carries at its start, and which numbers it may have.
-use Rattle.std.specs.Prelude.{ℕ, ◌+◌, ◌≡◌, Bool, true, List, [], ◌∷◌, length, Option, None, Some, Result, Ok}
+use Rattle.std.specs.Prelude.{ℕ, ◌+◌, ◌≡◌, Bool, true, List, [], ◌∷◌, length, map, Option, None, Some, Result, Ok}
 use Rattle.std.specs.List.{AllByRecursion}
 use Rattle.sn_width.specs.Width.{FitsWidth}
 use Rattle.sn_width.specs.declared.faults.LayoutFault.{LayoutFault}
@@ -14,22 +14,23 @@ use Rattle.sefl_meaning.specs.Network.{Network, Entry}
 use Rattle.sefl_meaning.specs.Carried.{Carried, Scene, scene_at, nothing}
 use Rattle.sefl_meaning.specs.Terms.{truth_in}
 use Rattle.sefl_meaning.specs.Steps.{allocated, assigned, tag_set}
-use Rattle.sefl_meaning.specs.Walks.{Trail, enter}
+use Rattle.sefl_meaning.specs.Runs.{starting}
+use Rattle.sefl_meaning.specs.Walks.{Trail, Passage, shown, enter}
+
+-- the given value, or the unknown field of that number
+abbrev pub field_value : {V F : Type 0} → Values V F → ℕ → ℕ → Option ℕ → V
+field_value o width number None = o.unknown width number
+field_value o width number (Some n) = o.constant width n
 
 module _ {V F : Type 0} (o : Values V F) (at : Scene) where
   abbrev pub with_tags : List (List ℕ × Addr) → Carried V → Result (Carried V) LayoutFault
   with_tags [] s = Ok s
   with_tags (line ∷ lines) s = and_then (tag_set at line.0 line.1 s) (with_tags lines)
 
-  -- the given value, or the unknown field of that number
-  abbrev pub field_value : ℕ → ℕ → Option ℕ → V
-  field_value width number None = o.unknown width number
-  field_value width number (Some n) = o.constant width n
-
   -- a field is one cell
   abbrev pub with_field : ℕ → RawField → Carried V → Result (Carried V) LayoutFault
   with_field number f s =
-      and_then (allocated at f.target s) (assigned at f.target (field_value (width_of f.target) number f.value))
+      and_then (allocated at f.target s) (assigned at f.target (field_value o (width_of f.target) number f.value))
 
   -- the first unknown field has this number
   abbrev pub with_fields : ℕ → List RawField → Carried V → Result (Carried V) LayoutFault
@@ -60,5 +61,9 @@ abbrev pub Meets : Network → Entry → List ℕ → Type 0
 Meets net i v = (s : Carried ℕ) × Starts net i v s
 
 -- all walks of a packet that starts so
+abbrev pub passages_from : Network → Entry → List ℕ → ℕ → Carried ℕ → List Passage
+passages_from net i v hops s = enter net v (unknown_count i) hops i.node i.own.port (starting s)
+
+-- what they show
 abbrev pub walks_from : Network → Entry → List ℕ → ℕ → Carried ℕ → List Trail
-walks_from net i v hops s = enter net v (unknown_count i) hops i.node i.own.port s 0
+walks_from net i v hops s = map shown (passages_from net i v hops s)

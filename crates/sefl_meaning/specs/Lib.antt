@@ -6,6 +6,7 @@ pub mod Steps
 pub mod Runs
 pub mod Walks
 pub mod Injected
+pub mod Fields
 pub mod Courses
 pub mod Trees
 pub mod Taken
@@ -16,3 +17,5 @@ pub mod Order
 pub mod View
 pub mod Examples
 pub mod Routes
+pub mod Start
+pub mod Ids

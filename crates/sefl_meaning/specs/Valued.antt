@@ -1,8 +1,10 @@
 -- Functions from values of one kind to values of another, and what they make of states, courses and trees.
-use Rattle.std.specs.Prelude.{ℕ, ◌≡◌, Bool, true, List, map, Option, None, Some}
+use Rattle.std.specs.Prelude.{ℕ, zero, suc, ◌≡◌, ◌≤◌, Bool, true, List, [], ◌∷◌, ◌++◌, length, map, Option, None, Some}
 use Rattle.std.specs.List.{AllByRecursion}
 use Rattle.sn_width.specs.declared.rel.Rel.{Rel}
 use Rattle.cell_stacks.specs.declared.cell.Cell.{Cell}
+use Rattle.job_items.specs.Atoms.{Atom}
+use Rattle.job_items.specs.AtomRules.{atom_width}
 use Rattle.sefl_meaning.specs.Values.{Values}
 use Rattle.sefl_meaning.specs.Carried.{Carried, carried_valued}
 use Rattle.sefl_meaning.specs.Courses.{Progress, Course, ends, asks}
@@ -19,6 +21,44 @@ pub record Keeps {V F : Type 0} (fits : ℕ → V → Bool) (o : Values V F) : T
   pub minus : (w : ℕ) (a b : V) → Fits fits w a → Fits fits w b → Fits fits w (o.minus w a b)
   pub unknown : (w i : ℕ) → Fits fits w (o.unknown w i)
   pub choice : (w k : ℕ) → Fits fits w (o.choice w k)
+
+-- each operation of expressions gives a value that fits its width
+pub record KeepsSums {V F : Type 0} (fits : ℕ → V → Bool) (o : Values V F) : Type 0 where
+  pub constant : (w n : ℕ) → Fits fits w (o.constant w n)
+  pub plus : (w : ℕ) (a b : V) → Fits fits w a → Fits fits w b → Fits fits w (o.plus w a b)
+  pub minus : (w : ℕ) (a b : V) → Fits fits w a → Fits fits w b → Fits fits w (o.minus w a b)
+
+abbrev pub IsGood : {F : Type 0} → (F → Bool) → F → Type 0
+IsGood good t = good t ≡ true
+
+-- the atom has a width that is not 0
+abbrev pub HasSomeWidth : Atom → Type 0
+HasSomeWidth a = 1 ≤ atom_width a
+
+-- and each test of such values, of a width that is not 0, is good
+pub record KeepsTests {V F : Type 0} (fits : ℕ → V → Bool) (good : F → Bool) (o : Values V F) : Type 0 where
+  pub sums : KeepsSums fits o
+  pub compare : (w : ℕ) (rel : Rel) (a b : V) → 1 ≤ w → Fits fits w a → Fits fits w b → IsGood good (o.compare w rel a b)
+  pub member : (w : ℕ) (a : V) (ranges : List (ℕ × ℕ)) → 1 ≤ w → Fits fits w a → IsGood good (o.member w a ranges)
+  pub always : IsGood good o.always
+  pub all_of : (fs : List F) → AllByRecursion (IsGood good) fs → IsGood good (o.all_of fs)
+  pub any_of : (fs : List F) → AllByRecursion (IsGood good) fs → IsGood good (o.any_of fs)
+  pub negation : (t : F) → IsGood good t → IsGood good (o.negation t)
+
+-- it fits, or it stands at width 0, which no accepted job has: so nothing is asked of a constant or a symbol of width 0
+abbrev pub but_at_0 : {V : Type 0} → (ℕ → V → Bool) → ℕ → V → Bool
+but_at_0 fits zero value = true
+but_at_0 fits (suc bits) value = fits (suc bits) value
+
+-- What fits where symbols of these widths are made so far, those of the unknown fields and then those of the choices: it
+-- fits when one more is made, and a new symbol, which has the next number, fits its width.
+pub record KeepsSymbols {V F : Type 0} (fits : List ℕ → ℕ → V → Bool) (unknowns : List ℕ) (o : Values V F) : Type 0 where
+  pub sums : (widths : List ℕ) → KeepsSums (fits widths) o
+  pub wider : (widths : List ℕ) (more w : ℕ) (value : V) → Fits (fits widths) w value →
+      Fits (fits (widths ++ more ∷ [])) w value
+  pub unknown : (widths : List ℕ) (w : ℕ) → Fits (fits (widths ++ w ∷ [])) w (o.unknown w (length widths))
+  pub choice : (choices : List ℕ) (w : ℕ) →
+      Fits (fits ((unknowns ++ choices) ++ w ∷ [])) w (o.choice w (length choices))
 
 -- an operation and then a function of its value or truth is the function and then the operation, for values that fit
 pub record Respects {V F W G : Type 0} (fits : ℕ → V → Bool) (o : Values V F) (p : Values W G) (f : V → W)
@@ -58,6 +98,28 @@ module _ {V : Type 0} (fits : ℕ → V → Bool) where
 abbrev pub CourseFits : {V F : Type 0} → (ℕ → V → Bool) → Course V F → Type 0
 CourseFits fits (ends p exit) = CarriedFits fits p.state
 CourseFits fits (asks asking p test held broken) = CourseFits fits held × CourseFits fits broken
+
+-- each set cell holds a value that fits its width, where symbols are the unknown fields and the choices so far
+abbrev pub ProgressTyped : {V : Type 0} → (List ℕ → ℕ → V → Bool) → List ℕ → Progress V → Type 0
+ProgressTyped fits unknowns p = CarriedFits (fits (unknowns ++ p.choices)) p.state
+
+module _ {V F : Type 0} (fits : List ℕ → ℕ → V → Bool) (unknowns : List ℕ) where
+  -- so it is at each test and each end of a course
+  abbrev pub CourseTyped : Course V F → Type 0
+  CourseTyped (ends p exit) = ProgressTyped fits unknowns p
+  CourseTyped (asks asking p test held broken) = ProgressTyped fits unknowns p × CourseTyped held × CourseTyped broken
+
+  abbrev mutual
+    -- and at each node of a tree
+    pub TreeTyped : Tree V F → Type 0
+    TreeTyped (over p end') = ProgressTyped fits unknowns p
+    TreeTyped (arrives place p t) = ProgressTyped fits unknowns p × TreeTyped t
+    TreeTyped (tests asking p test held broken) = ProgressTyped fits unknowns p × TreeTyped held × TreeTyped broken
+    TreeTyped (splits p copies) = ProgressTyped fits unknowns p × EachTyped copies
+
+    pub EachTyped : Copies V F → Type 0
+    EachTyped no_copies = Unit {0}
+    EachTyped (copy_and t copies) = TreeTyped t × EachTyped copies
 
 abbrev pub progress_valued : {V W : Type 0} → (V → W) → Progress V → Progress W
 progress_valued f p = record { state = carried_valued f p.state; choices = p.choices; begun = p.begun }

@@ -1,11 +1,10 @@
 -- What the values of a program are seen as.
-use Rattle.std.specs.Prelude.{ℕ}
-use Rattle.sefl_meaning.specs.declared.walk.State.{State}
+use Rattle.sefl_meaning.specs.declared.walk.Carried as walk
 use Rattle.sefl_meaning.specs.declared.walk.Walk.{Walk}
 use Rattle.sefl_meaning.specs.Carried.{Carried}
 use Rattle.sefl_meaning.specs.Walks.{Trail}
 
-abbrev pub carried_of : State → Carried ℕ
+abbrev pub carried_of : {V : Type 0} → walk.Carried V → Carried V
 carried_of s = record { layers = s.layers; scopes = s.scopes }
 
 abbrev pub trail_of : Walk → Trail

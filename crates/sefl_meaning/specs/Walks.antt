@@ -10,72 +10,83 @@ use Rattle.sefl_meaning.specs.declared.walk.End.{End}
 use Rattle.sefl_meaning.specs.declared.walk.End.TheVariants.{Stopped, Delivered, Failed, Cut}
 use Rattle.sefl_meaning.specs.Network.{Network, code_of, link_of}
 use Rattle.sefl_meaning.specs.Carried.{Carried, scene_at}
-use Rattle.sefl_meaning.specs.Runs.{Exit, off, go, forked, failed, Ran, run_code}
+use Rattle.sefl_meaning.specs.Runs.{Progress, Exit, off, go, forked, failed, Ran, run_code}
 
--- a walk's decisions, the ports that it arrives at, its end, and what the packet carries then
+-- what a walk shows: its decisions, the ports that it arrives at, its end, and what the packet carries then
 pub record Trail : Type 0 where
   pub decisions : List Decision
   pub places : List Place
   pub end' : End
   pub state : Carried ℕ
 
+-- a walk, with what is carried and was counted at each port that it arrives at, before the port's code, and at its end
+pub record Passage : Type 0 where
+  pub decisions : List Decision
+  pub arrivals : List (Place × Progress ℕ)
+  pub end' : End
+  pub progress : Progress ℕ
+
+abbrev pub shown : Passage → Trail
+shown t =
+    record { decisions = t.decisions; places = map (λ a. a.0) t.arrivals; end' = t.end'; state = t.progress.state }
+
 abbrev pub place_at : NodeId → Side → ℕ → Place
 place_at node side port = record { node = node; side = side; port = port }
 
--- the walk that arrives at this place first
-abbrev pub by_way_of : Place → Trail → Trail
-by_way_of place t = record t { places = place ∷ t.places }
+-- the walk that arrives at this place first, with this progress
+abbrev pub by_way_of : Place → Progress ℕ → Passage → Passage
+by_way_of place p t = record t { arrivals = (place, p) ∷ t.arrivals }
 
 -- the walk with these decisions before its own
-abbrev pub decided : List Decision → Trail → Trail
+abbrev pub decided : List Decision → Passage → Passage
 decided decisions t = record t { decisions = decisions ++ t.decisions }
 
-abbrev pub ended : End → Carried ℕ → List Trail
-ended end' s = record { decisions = []; places = []; end' = end'; state = s } ∷ []
+abbrev pub ended : End → Progress ℕ → List Passage
+ended end' p = record { decisions = []; arrivals = []; end' = end'; progress = p } ∷ []
 
--- the walks from an input port, with what is carried and the number of choices so far
+-- the walks from an input port, with what is carried and was counted so far
 abbrev pub Onward : Type 0
-Onward = NodeId → ℕ → Carried ℕ → ℕ → List Trail
+Onward = NodeId → ℕ → Progress ℕ → List Passage
 
 module _ (net : Network) (v : List ℕ) (unknowns : ℕ) where
   -- the run of a port's code
-  abbrev pub run_port : NodeId → Side → ℕ → Carried ℕ → ℕ → Ran
-  run_port node side port s k =
+  abbrev pub run_port : NodeId → Side → ℕ → Progress ℕ → Ran
+  run_port node side port p =
       run_code v unknowns (scene_at net node) (suc (code_of net node side port).0)
-      (code_of net node side port).1 s k
+      (code_of net node side port).1 p
 
   -- after the code of an output port: over its link, or delivered. Forward and Fork do not stand there
-  abbrev pub crossed : Onward → Option (NodeId × ℕ) → Exit → Carried ℕ → ℕ → List Trail
-  crossed onward None off s k = ended Delivered s
-  crossed onward (Some to) off s k = onward to.0 to.1 s k
-  crossed onward link (failed failure site) s k = ended (Failed failure (record { 0 = site })) s
-  crossed onward link (go port) s k = ended Stopped s
-  crossed onward link (forked ports) s k = ended Stopped s
+  abbrev pub crossed : Onward → Option (NodeId × ℕ) → Exit → Progress ℕ → List Passage
+  crossed onward None off p = ended Delivered p
+  crossed onward (Some to) off p = onward to.0 to.1 p
+  crossed onward link (failed failure site) p = ended (Failed failure (record { 0 = site })) p
+  crossed onward link (go port) p = ended Stopped p
+  crossed onward link (forked ports) p = ended Stopped p
 
   -- a copy that leaves the node by an output port
-  abbrev pub leave : Onward → NodeId → ℕ → Carried ℕ → ℕ → List Trail
-  leave onward node port s k =
-      let r = run_port node Outward port s k in
-      map (by_way_of (place_at node Outward port))
-      (map (decided r.decisions) (crossed onward (link_of net node port) r.exit r.state r.choices))
+  abbrev pub leave : Onward → NodeId → ℕ → Progress ℕ → List Passage
+  leave onward node port p =
+      let r = run_port node Outward port p in
+      map (by_way_of (place_at node Outward port) p)
+      (map (decided r.decisions) (crossed onward (link_of net node port) r.exit r.progress))
 
   -- a copy for each of the ports, numbered from a number on
-  abbrev pub copies : Onward → NodeId → ℕ → List ℕ → Carried ℕ → ℕ → List Trail
-  copies onward node number [] s k = []
-  copies onward node number (port ∷ ports) s k =
-      map (decided (Copy number ∷ [])) (leave onward node port s k) ++ copies onward node (suc number) ports s k
+  abbrev pub copies : Onward → NodeId → ℕ → List ℕ → Progress ℕ → List Passage
+  copies onward node number [] p = []
+  copies onward node number (port ∷ ports) p =
+      map (decided (Copy number ∷ [])) (leave onward node port p) ++ copies onward node (suc number) ports p
 
   -- after the code of an input port
-  abbrev pub passed : Onward → NodeId → Exit → Carried ℕ → ℕ → List Trail
-  passed onward node off s k = ended Stopped s
-  passed onward node (go port) s k = leave onward node port s k
-  passed onward node (forked ports) s k = copies onward node 0 ports s k
-  passed onward node (failed failure site) s k = ended (Failed failure (record { 0 = site })) s
+  abbrev pub passed : Onward → NodeId → Exit → Progress ℕ → List Passage
+  passed onward node off p = ended Stopped p
+  passed onward node (go port) p = leave onward node port p
+  passed onward node (forked ports) p = copies onward node 0 ports p
+  passed onward node (failed failure site) p = ended (Failed failure (record { 0 = site })) p
 
   -- all walks from an input port, with so many hops left
   abbrev pub enter : ℕ → Onward
-  enter zero node port s k = map (by_way_of (place_at node Inward port)) (ended Cut s)
-  enter (suc hops) node port s k =
-      let r = run_port node Inward port s k in
-      map (by_way_of (place_at node Inward port))
-      (map (decided r.decisions) (passed (enter hops) node r.exit r.state r.choices))
+  enter zero node port p = map (by_way_of (place_at node Inward port) p) (ended Cut p)
+  enter (suc hops) node port p =
+      let r = run_port node Inward port p in
+      map (by_way_of (place_at node Inward port) p)
+      (map (decided r.decisions) (passed (enter hops) node r.exit r.progress))

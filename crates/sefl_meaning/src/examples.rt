@@ -7,7 +7,7 @@ ghost use Rattle.sefl_meaning.specs.declared.walk.Decision.TheVariants.{Then, El
 ghost use Rattle.sefl_meaning.specs.declared.walk.End.TheVariants.{Stopped, Delivered, Failed, Cut};
 ghost use Rattle.sefl_meaning.specs.declared.walk.Failure.TheVariants.{Layout, Message};
 ghost use Rattle.sefl_meaning.specs.Carried.{nothing};
-ghost use Rattle.sefl_meaning.specs.Injected.{Starts, walks_from};
+ghost use Rattle.sefl_meaning.specs.Injected.{Starts, passages_from, walks_from};
 ghost use Rattle.sefl_meaning.specs.Examples as examples;
 
 /// A box that drops what has a time to live of 1 or less, and forwards all else.
@@ -74,4 +74,7 @@ pub fn choices_are_read_in_order()
         (examples.metadata (examples.global 0 7 ∷ examples.global 2 9 ∷ []))
         ≡ examples.walk [] (examples.place 0 Inward 0 ∷ []) Stopped
         (examples.metadata (examples.global 0 44 ∷ examples.global 1 0 ∷ examples.global 2 9 ∷ [])) ∷ [] }
+    ensures counted { (hops : ℕ)
+        → passages_from examples.any_net examples.any_injection (7 ∷ 300 ∷ []) (suc hops) examples.any_start
+        ≡ examples.any_passage ∷ [] }
 {}

@@ -3,6 +3,7 @@
 
 pub mod examples;
 pub mod laws;
+pub mod starts;
 mod walk;
 
-pub use walk::{Decision, End, Failure, Place, State, Turn, Walk};
+pub use walk::{Carried, Decision, End, Failure, Place, State, Turn, Walk};

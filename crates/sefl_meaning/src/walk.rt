@@ -5,12 +5,15 @@ use metadata_scopes::Scopes;
 use sefl_syntax::{Name, Side, Text};
 use sn_width::{LayoutFault, NameId, NodeId, Num, Site};
 
-/// What a packet carries.
+/// What a packet carries, in values of any kind.
 #[derive(Drop)]
-pub struct State {
-    pub layers: Layers<Num>,
-    pub scopes: Scopes<Num>,
+pub struct Carried<V: Drop> {
+    pub layers: Layers<V>,
+    pub scopes: Scopes<V>,
 }
+
+/// What a packet carries, in numbers.
+pub type State = Carried<Num>;
 
 /// What is decided on a walk: the block of an If, the truth of a Constrain, or the copy of a Fork, by
 /// the place of its port in the list, from 0. Decisions stand in this order.

@@ -17,7 +17,7 @@ use Rattle.sefl_meaning.specs.declared.walk.End.{End}
 use Rattle.sefl_meaning.specs.declared.walk.End.TheVariants.{Stopped, Delivered, Failed, Cut}
 use Rattle.net_check.specs.Network.{Network}
 use Rattle.sefl_meaning.specs.Walks.{Trail}
-use Rattle.walk_text.specs.Fields.{Fields, fields_of}
+use Rattle.sefl_meaning.specs.Fields.{Fields, fields_of}
 use Rattle.walk_text.specs.Forms.{address_data, value_data, decision_data, place_data, failure_data, end_data, owner_data, tag_data, given_by, cell_data, cells_data, head_data, meta_data, heads_data, metas_data, tags_data, decisions_data, places_data, fields_data}
 use Rattle.walk_text.specs.Walks.{number_parts, walk_data, walk_list, walks_data}
 

@@ -19,7 +19,7 @@ use Rattle.sefl_meaning.specs.declared.walk.End.{End}
 use Rattle.sefl_meaning.specs.declared.walk.End.TheVariants.{Stopped, Delivered, Failed, Cut}
 use Rattle.net_check.specs.Network.{Network}
 use Rattle.walk_text.specs.Names.{node_name, meta_name, tag_name}
-use Rattle.walk_text.specs.Fields.{Fields}
+use Rattle.sefl_meaning.specs.Fields.{Fields}
 
 -- a list of these values
 abbrev pub list : List Data → Data

@@ -1,4 +1,4 @@
 pub mod Names
-pub mod Fields
+pub mod Held
 pub mod Forms
 pub mod Walks

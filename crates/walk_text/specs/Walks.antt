@@ -5,7 +5,7 @@ use Rattle.serde_json.specs.Written.{compact_text}
 use Rattle.net_check.specs.Network.{Network}
 use Rattle.sefl_meaning.specs.Walks.{Trail}
 use Rattle.walk_text.specs.Forms.{list, count, value_data, decisions_data, places_data, end_data, fields_data}
-use Rattle.walk_text.specs.Fields.{fields_of}
+use Rattle.sefl_meaning.specs.Fields.{fields_of}
 
 -- what a number gives in the list of a set cell
 abbrev pub number_parts : ℕ → List Data

@@ -3,8 +3,9 @@
 ghost use Rattle.std.specs.Prelude.{◌≡◌, map, IfOk};
 ghost use Rattle.serde_json.specs.View.{view};
 ghost use Rattle.net_check.specs.Network.{network};
+ghost use Rattle.sefl_meaning.specs.Fields.{fields_of};
 ghost use Rattle.sefl_meaning.specs.View.{carried_of};
-ghost use Rattle.walk_text.specs.Fields.{fields_of, held_head, held_meta};
+ghost use Rattle.walk_text.specs.Held.{held_head, held_meta};
 ghost use Rattle.walk_text.specs.Forms.{owner_data, head_data, meta_data, tag_data, heads_data, metas_data, tags_data, fields_data};
 ghost use Rattle.walk_text.specs.Walks.{number_parts};
 

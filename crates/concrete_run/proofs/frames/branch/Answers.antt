@@ -5,7 +5,7 @@ use Rattle.sefl_meaning.specs.Runs.{noting, ran}
 use Rattle.sefl_meaning.specs.Terms.{truth_in}
 use Rattle.sefl_meaning.specs.Values.{numbers}
 use Rattle.sefl_meaning.specs.View.{carried_of}
-use Rattle.concrete_run.specs.Passing.{exit_of, run_frames, scene_in}
+use Rattle.concrete_run.specs.Passing.{exit_of, progress_of, run_frames, scene_in}
 use Rattle.concrete_run.proofs.Arms.{truth_seen}
 use Rattle.concrete_run.proofs.Framing.{branched, takes_first, takes_other}
 use Rattle.concrete_run.proofs.Runs.{ends}
@@ -16,16 +16,16 @@ returns-in-Err-clause-runs c =
     let run = c.args.run.now in
     let at = scene_in run c.args.node c.args.turns in
     let s = carried_of c.args.packet.now.state in
-    let k = c.args.packet.now.choices in
+    let p = progress_of c.args.packet.now in
     let test = cond_tree c.args.test.now in
     let truth : truth_in (numbers run.numbers.now run.unknowns) at test s ≡ Err c.in-Err.fault =
     truth_seen run.numbers.now c.scene-at.result.numbers.now run.unknowns c.scene-at.result.unknowns at _ test s (Err c.in-Err.fault)
     c.scene-at.ensures.numbers c.scene-at.ensures.unknowns c.scene-at.ensures.scene c.in-Err.ensures in
     let first = code_tree c.args.first.now in
     let other = code_tree c.args.other.now in
-    ends c.failed.result c.args.packet.now.decisions.items s k (branched run.numbers.now run.unknowns at c.args.site first other s k (truth_in (numbers run.numbers.now run.unknowns) at test s))
+    ends c.failed.result c.args.packet.now.decisions.items p (branched run.numbers.now run.unknowns at c.args.site first other p (truth_in (numbers run.numbers.now run.unknowns) at test s))
     (run_frames run c.args.node (reverse c.args.frames.now.items))
-    ((λ j. ran (exit_of (c.failed.ensures j)) s k) ∙ ap (branched run.numbers.now run.unknowns at c.args.site first other s k) (sym truth))
+    ((λ j. ran (exit_of (c.failed.ensures j)) p) ∙ ap (branched run.numbers.now run.unknowns at c.args.site first other p) (sym truth))
 
 pub returns-in-Ok-true-clause-runs : goal.returns-in-Ok-true-clause-runs
 returns-in-Ok-true-clause-runs c =
@@ -38,11 +38,11 @@ returns-in-Ok-true-clause-runs c =
     let truth : truth_in (numbers run.numbers.now run.unknowns) at test (carried_of old.state) ≡ Ok true =
     truth_seen run.numbers.now c.scene-at.result.numbers.now run.unknowns c.scene-at.result.unknowns at _ test (carried_of old.state) (Ok true)
     c.scene-at.ensures.numbers c.scene-at.ensures.unknowns c.scene-at.ensures.scene seen in
-    ap (noting new.decisions.items) (c.in_ok-put_code-in-Ok-true.ensures.runs run c.args.node (carried_of new.state) new.choices)
+    ap (noting new.decisions.items) (c.in_ok-put_code-in-Ok-true.ensures.runs run c.args.node (progress_of new))
     ∙ takes_first run.numbers.now run.unknowns at c.args.site c.in_ok-inner.inner (truth_in (numbers run.numbers.now run.unknowns) at test (carried_of old.state))
-    (code_tree c.args.first.now) (code_tree c.args.other.now) old.decisions.items new.decisions.items (carried_of old.state) (carried_of new.state) old.choices new.choices
+    (code_tree c.args.first.now) (code_tree c.args.other.now) old.decisions.items new.decisions.items (progress_of old) (progress_of new)
     (run_frames run c.args.node (reverse c.args.frames.now.items)) truth c.in_ok-inner.ensures
-    c.in_ok-decide-in-Ok-true.ensures.decisions (ap carried_of c.in_ok-decide-in-Ok-true.ensures.state) c.in_ok-decide-in-Ok-true.ensures.choices
+    c.in_ok-decide-in-Ok-true.ensures.decisions c.in_ok-decide-in-Ok-true.ensures.progress
 
 pub returns-clause-runs : goal.returns-clause-runs
 returns-clause-runs c =
@@ -55,9 +55,9 @@ returns-clause-runs c =
     let truth : truth_in (numbers run.numbers.now run.unknowns) at test (carried_of old.state) ≡ Ok false =
     truth_seen run.numbers.now c.scene-at.result.numbers.now run.unknowns c.scene-at.result.unknowns at _ test (carried_of old.state) (Ok false)
     c.scene-at.ensures.numbers c.scene-at.ensures.unknowns c.scene-at.ensures.scene seen in
-    ap (noting new.decisions.items) (c.in_ok-put_code-in-Ok-false.ensures.runs run c.args.node (carried_of new.state) new.choices)
+    ap (noting new.decisions.items) (c.in_ok-put_code-in-Ok-false.ensures.runs run c.args.node (progress_of new))
     ∙ takes_other run.numbers.now run.unknowns at c.args.site c.in_ok-behind-in-Ok-false.behind (truth_in (numbers run.numbers.now run.unknowns) at test (carried_of old.state))
-    (code_tree c.args.first.now) (code_tree c.args.other.now) old.decisions.items new.decisions.items (carried_of old.state) (carried_of new.state) old.choices new.choices
+    (code_tree c.args.first.now) (code_tree c.args.other.now) old.decisions.items new.decisions.items (progress_of old) (progress_of new)
     (run_frames run c.args.node (reverse c.args.frames.now.items)) truth
     (c.in_ok-behind-in-Ok-false.ensures ∙ ap (λ n. n + code_size (code_tree c.args.first.now)) c.in_ok-inner.ensures)
-    c.in_ok-decide-in-Ok-false.ensures.decisions (ap carried_of c.in_ok-decide-in-Ok-false.ensures.state) c.in_ok-decide-in-Ok-false.ensures.choices
+    c.in_ok-decide-in-Ok-false.ensures.decisions c.in_ok-decide-in-Ok-false.ensures.progress

@@ -11,9 +11,9 @@ use Rattle.concrete_run.proofs.frames.each.Goals as goal
 pub returns-clause-runs : goal.returns-clause-runs
 returns-clause-runs c =
     on_ok_weaker c.put_turns.result
-    (λ before k. turns_put c.args.run.now c.args.node c.args.turns c.args.site c.in_ok-inner.inner c.args.var.now c.args.pattern.now
+    (λ before k begun. turns_put c.args.run.now c.args.node c.args.turns c.args.site c.in_ok-inner.inner c.args.var.now c.args.pattern.now
     (code_tree c.args.body.now) c.found-found.result.now c.in_ok-keys.keys.items c.reverse.new.self.items
-    (reverse c.args.frames.now.items) (reverse c.put_turns.new.frames.items) (carried_of c.args.state.now) k
+    (reverse c.args.frames.now.items) (reverse c.put_turns.new.frames.items) (carried_of c.args.state.now) k begun
     c.in_ok-inner.ensures c.found-found.ensures c.in_ok-keys.ensures c.reverse.ensures.items before)
     c.put_turns.ensures.runs
 

@@ -6,7 +6,7 @@ use Rattle.sefl_meaning.specs.Runs.{noting}
 use Rattle.sefl_meaning.specs.Steps.{evaluated, tag_created, tag_set, tag_destroyed}
 use Rattle.sefl_meaning.specs.View.{carried_of}
 use Rattle.concrete_steps.specs.Scenes.{operations_of, scene_of}
-use Rattle.concrete_run.specs.Passing.{ran_of, run_frames}
+use Rattle.concrete_run.specs.Passing.{progress_of, ran_of, run_frames}
 use Rattle.concrete_run.specs.Weights.{frames_weight}
 use Rattle.concrete_run.proofs.Arms.{block_put, run_in, stepped_in}
 use Rattle.concrete_run.proofs.Trees.{tree_of_assign, tree_of_block, tree_of_constrain, tree_of_create_tag, tree_of_destroy_tag, tree_of_set_tag}
@@ -19,7 +19,7 @@ returns-in-Block-clause-runs c =
     ap (noting old.decisions.items)
     (block_put c.args.run.now c.args.node c.args.turns c.args.site c.in_ok-behind_item-in-Block.field-0 c.args.instr.now
     c.in-Block.body.items c.deref-in-Block.result.now (reverse c.args.frames.now.items) (reverse c.put_code.new.frames.items)
-    (carried_of old.state) old.choices (ap instr_tree c.in-Block.is ∙ tree_of_block c.in-Block.body)
+    (progress_of old) (ap instr_tree c.in-Block.is ∙ tree_of_block c.in-Block.body)
     c.in_ok-behind_item-in-Block.ensures c.deref-in-Block.ensures.value c.in_ok-put_code-in-Block.ensures.runs)
 
 pub returns-in-Block-clause-weight : goal.returns-in-Block-clause-weight
@@ -37,7 +37,7 @@ returns-in-Assign-clause-runs c =
     at.ensures.numbers at.ensures.unknowns at.ensures.scene c.args.site c.args.instr.now (tree.assign c.in-Assign.target (expr_tree c.in-Assign.value))
     (ap instr_tree c.in-Assign.is ∙ tree_of_assign c.in-Assign.target c.in-Assign.value)
     (evaluated (operations_of at.result) (scene_of at.result) c.in-Assign.target (expr_tree c.in-Assign.value) (carried_of old.state)) c.assign.result c.exit_after-in-Assign.result
-    old.decisions.items (carried_of old.state) (carried_of c.assign.new.state) old.choices (run_frames c.args.run.now c.args.node (reverse c.args.frames.now.items))
+    old.decisions.items (carried_of old.state) (carried_of c.assign.new.state) old.choices.items old.begun (run_frames c.args.run.now c.args.node (reverse c.args.frames.now.items))
     refl c.assign.ensures c.exit_after-in-Assign.ensures
 
 pub returns-in-CreateTag-clause-runs : goal.returns-in-CreateTag-clause-runs
@@ -48,7 +48,7 @@ returns-in-CreateTag-clause-runs c =
     at.ensures.numbers at.ensures.unknowns at.ensures.scene c.args.site c.args.instr.now (tree.create_tag c.in-CreateTag.name c.in-CreateTag.addr)
     (ap instr_tree c.in-CreateTag.is ∙ tree_of_create_tag c.in-CreateTag.name c.in-CreateTag.addr)
     (tag_created (scene_of at.result) c.in-CreateTag.name c.in-CreateTag.addr (carried_of old.state)) c.create_tag.result c.exit_after-in-CreateTag.result
-    old.decisions.items (carried_of old.state) (carried_of c.create_tag.new.state) old.choices (run_frames c.args.run.now c.args.node (reverse c.args.frames.now.items))
+    old.decisions.items (carried_of old.state) (carried_of c.create_tag.new.state) old.choices.items old.begun (run_frames c.args.run.now c.args.node (reverse c.args.frames.now.items))
     refl c.create_tag.ensures c.exit_after-in-CreateTag.ensures
 
 pub returns-in-SetTag-clause-runs : goal.returns-in-SetTag-clause-runs
@@ -59,7 +59,7 @@ returns-in-SetTag-clause-runs c =
     at.ensures.numbers at.ensures.unknowns at.ensures.scene c.args.site c.args.instr.now (tree.set_tag c.in-SetTag.name c.in-SetTag.addr)
     (ap instr_tree c.in-SetTag.is ∙ tree_of_set_tag c.in-SetTag.name c.in-SetTag.addr)
     (tag_set (scene_of at.result) c.in-SetTag.name c.in-SetTag.addr (carried_of old.state)) c.set_tag.result c.exit_after-in-SetTag.result
-    old.decisions.items (carried_of old.state) (carried_of c.set_tag.new.state) old.choices (run_frames c.args.run.now c.args.node (reverse c.args.frames.now.items))
+    old.decisions.items (carried_of old.state) (carried_of c.set_tag.new.state) old.choices.items old.begun (run_frames c.args.run.now c.args.node (reverse c.args.frames.now.items))
     refl c.set_tag.ensures c.exit_after-in-SetTag.ensures
 
 pub returns-in-DestroyTag-clause-runs : goal.returns-in-DestroyTag-clause-runs
@@ -70,7 +70,7 @@ returns-in-DestroyTag-clause-runs c =
     at.ensures.numbers at.ensures.unknowns at.ensures.scene c.args.site c.args.instr.now (tree.destroy_tag c.in-DestroyTag.name)
     (ap instr_tree c.in-DestroyTag.is ∙ tree_of_destroy_tag c.in-DestroyTag.name)
     (tag_destroyed (scene_of at.result) c.in-DestroyTag.name (carried_of old.state)) c.destroy_tag.result c.exit_after-in-DestroyTag.result
-    old.decisions.items (carried_of old.state) (carried_of c.destroy_tag.new.state) old.choices (run_frames c.args.run.now c.args.node (reverse c.args.frames.now.items))
+    old.decisions.items (carried_of old.state) (carried_of c.destroy_tag.new.state) old.choices.items old.begun (run_frames c.args.run.now c.args.node (reverse c.args.frames.now.items))
     refl c.destroy_tag.ensures c.exit_after-in-DestroyTag.ensures
 
 pub returns-in-Constrain-clause-runs : goal.returns-in-Constrain-clause-runs
@@ -80,5 +80,5 @@ returns-in-Constrain-clause-runs c =
     run_in c.args.run.now c.args.node c.args.turns at.result.numbers.now at.result.unknowns (scene_of at.result)
     at.ensures.numbers at.ensures.unknowns at.ensures.scene c.args.site c.args.instr.now (tree.constrain (cond_tree c.in-Constrain.test))
     (ap instr_tree c.in-Constrain.is ∙ tree_of_constrain c.in-Constrain.test)
-    c.constrain.result (ran_of c.constrain.new.packet) old.decisions.items (carried_of old.state) old.choices (run_frames c.args.run.now c.args.node (reverse c.args.frames.now.items))
+    c.constrain.result (ran_of c.constrain.new.packet) old.decisions.items (progress_of old) (run_frames c.args.run.now c.args.node (reverse c.args.frames.now.items))
     c.constrain.ensures

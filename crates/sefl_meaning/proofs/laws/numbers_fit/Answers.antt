@@ -10,12 +10,11 @@ pub returns-clause-choices : goal.returns-clause-choices
 returns-clause-choices c = λ v unknowns width number. refl
 
 pub returns-clause-runs : goal.returns-clause-runs
-returns-clause-runs c = λ v unknowns site choices at code s h.
+returns-clause-runs c = λ v unknowns site at code p h.
     run_fits v unknowns (c.widths_are_kept.ensures.courses number_fits (numbers v unknowns) (numbers_keep v unknowns))
-    at site code s choices h
+    at site code p h
 
 pub returns-clause-walks : goal.returns-clause-walks
-returns-clause-walks c = λ net v unknowns hops port choices node s h.
+returns-clause-walks c = λ net v unknowns hops port node p h.
     enter_fits v unknowns
-    (c.widths_are_kept.ensures.courses number_fits (numbers v unknowns) (numbers_keep v unknowns)) net hops node port s
-    choices h
+    (c.widths_are_kept.ensures.courses number_fits (numbers v unknowns) (numbers_keep v unknowns)) net hops node port p h

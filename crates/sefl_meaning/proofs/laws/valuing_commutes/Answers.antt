@@ -1,4 +1,4 @@
-use Rattle.sefl_meaning.proofs.Tracks.{value_tracks, truth_tracks, injected_tracks}
+use Rattle.sefl_meaning.proofs.Tracks.{value_tracks, truth_tracks, evaluated_tracks, injected_tracks}
 use Rattle.sefl_meaning.proofs.CourseTracks.{code_tracks, enter_tracks}
 use Rattle.sefl_meaning.proofs.laws.valuing_commutes.Goals as goal
 
@@ -23,3 +23,7 @@ pub returns-clause-trees : goal.returns-clause-trees
 returns-clause-trees g c =
     λ fits o p f k rules net hops port node from h. enter_tracks fits o p f k rules (c.state_laws.ensures f) net hops
     node port from h
+
+pub returns-clause-evaluated : goal.returns-clause-evaluated
+returns-clause-evaluated g c =
+    λ fits o p f k rules at target e s h. (evaluated_tracks fits o p f k rules (c.state_laws.ensures f) at target e s h).same

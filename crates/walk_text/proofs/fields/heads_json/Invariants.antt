@@ -1,6 +1,6 @@
 use Rattle.std.proofs.Common.{◌≡◌, map, take}
 use Rattle.serde_json.specs.View.{view}
-use Rattle.walk_text.specs.Fields.{held_head}
+use Rattle.walk_text.specs.Held.{held_head}
 use Rattle.walk_text.specs.Forms.{head_data}
 use Rattle.walk_text.proofs.fields.heads_json.Given as goal
 

@@ -1,7 +1,7 @@
 use Rattle.std.proofs.Common.{◌≡◌, map, take}
 use Rattle.serde_json.specs.View.{view}
 use Rattle.net_check.specs.Network.{network}
-use Rattle.walk_text.specs.Fields.{held_meta}
+use Rattle.walk_text.specs.Held.{held_meta}
 use Rattle.walk_text.specs.Forms.{meta_data}
 use Rattle.walk_text.proofs.fields.metas_json.Given as goal
 

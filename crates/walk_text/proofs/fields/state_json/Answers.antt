@@ -4,7 +4,7 @@ use Rattle.cell_stacks.specs.Cells.{lent_stack}
 use Rattle.metadata_scopes.specs.Scopes.{lent_meta}
 use Rattle.net_check.specs.Network.{network}
 use Rattle.sefl_meaning.specs.View.{carried_of}
-use Rattle.walk_text.specs.Fields.{fields_of}
+use Rattle.sefl_meaning.specs.Fields.{fields_of}
 use Rattle.walk_text.specs.Walks.{number_parts}
 use Rattle.walk_text.proofs.Lending.{lent_fields}
 use Rattle.walk_text.proofs.fields.state_json.Goals as goal
