@@ -1,0 +1,5 @@
+mod LawsBelow
+mod FitLemmas
+mod Respecting
+mod Typing
+mod SetLemmas

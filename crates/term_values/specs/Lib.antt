@@ -1,0 +1,3 @@
+pub mod TermValues
+pub mod Fits
+pub mod Clipped
