@@ -5,3 +5,5 @@ pub mod NumberLemmas
 pub mod ByteLemmas
 pub mod Placing
 pub mod TakenLemmas
+pub mod KeyLemmas
+pub mod TableLemmas

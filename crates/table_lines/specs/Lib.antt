@@ -7,3 +7,4 @@ pub mod Addresses
 pub mod Contents
 pub mod Rows
 pub mod Tables
+pub mod Laws

@@ -4,6 +4,7 @@
 mod address;
 mod content;
 mod fault;
+pub mod laws;
 mod lines;
 mod number;
 mod pieces;

@@ -45,7 +45,6 @@ pub trait LineReader {
 
 /// Reads all lines of a text, up to the first that has a fault.
 pub fn read_lines<R: LineReader>(bytes: &[u8], reader: &mut R) -> Result<(), TableFault>
-    requires { length bytes.now < 2 ^ 63 }
     ensures { Leaves (read_from R.step 1 reader.old (lines bytes.now)) result reader.new }
 {
     let mut left = bytes;

@@ -1,6 +1,6 @@
 //! The table that a file has.
 
-ghost use Rattle.std.specs.Prelude.{◌≡◌, ◌<◌, ◌^◌, length, map, option_map, slice_get, IfOk, IfErr};
+ghost use Rattle.std.specs.Prelude.{◌≡◌, map, option_map, slice_get, IfOk, IfErr};
 ghost use Rattle.table_lines.specs.Reading.{Answers};
 ghost use Rattle.table_lines.specs.Rows.{row_of_entry};
 ghost use Rattle.table_lines.specs.Tables.{table_of, seen_table};
@@ -56,7 +56,6 @@ fn rows_of(alloc: Global, entries: &IndexMap<(u64, u32), Seen>) -> Result<Vec<Ro
 
 /// Reads the file of a table of that kind.
 pub fn read_table(alloc: Global, kind: TableKind, bytes: &[u8]) -> Result<Table, TableFault>
-    requires { length bytes.now < 2 ^ 63 }
     ensures { Answers (table_of kind bytes.now) (seen_table result) }
 {
     let mut rows = Rows {
