@@ -1,0 +1,4 @@
+pub mod Steps
+pub mod Nesting
+pub mod Spans
+pub mod FibLemmas

@@ -1,0 +1,8 @@
+//! Forwarding tables: their files, the longest prefix, and the nodes that they stand for.
+#![tactic(auto)]
+
+mod fib;
+mod sets;
+mod sweep;
+
+pub use fib::{Fib, read_fib};
