@@ -10,7 +10,7 @@ use Rattle.fib_model.specs.Sweeps.{StartFrom, covers, last_port}
 use Rattle.fib_model.specs.Prefixes.{Row, contains, IsRow, order_key, InOrder, last_row, Has, Distinct, fib_port, span_of}
 use Rattle.fib_model.proofs.Nesting.{last_is_longest, member_is}
 
-same_cover : (r : Row) (a : ℕ) → covers (span_of r) a ≡ contains r a
+pub same_cover : (r : Row) (a : ℕ) → covers (span_of r) a ≡ contains r a
 same_cover r a = let h : 1 ≤ 2 ^ (32 - r.1) = pow_pos (32 - r.1) in ap (λ b. nat_le r.0 a && b) (grind (arith, nat_tests, h))
 
 port_of : Option Row → Option ℕ
@@ -56,7 +56,7 @@ all_had : (rows : List Row) → AllByRecursion (Has rows) rows
 all_had [] = tt
 all_had (r ∷ rs) = (inl refl, has_more rs r rs (all_had rs))
 
-moved : (rows ordered : List Row) → IsPermutation rows ordered → (x : Row) → Has ordered x → Has rows x
+pub moved : (rows ordered : List Row) → IsPermutation rows ordered → (x : Row) → Has ordered x → Has rows x
 moved rows ordered p x has =
     member_is (Has rows) ordered x (recursion_from_All (Has rows) ordered (All-permutation (Has rows) rows ordered p (All-from_recursion (Has rows) rows (all_had rows)))) has
 

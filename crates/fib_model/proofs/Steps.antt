@@ -1,11 +1,13 @@
 -- What a sweep knows, a step at a time.
 use Rattle.std.proofs.Common.{◌≡◌, ◌∙◌, refl, sym, ap, subst, ℕ, ◌+◌, ◌-◌, ◌≤◌, ◌<◌, ◌==◌, ◌&&◌, ◌||◌, nat_le, nat_lt, max, Bool, true, false, if◌then◌else◌, List, [], ◌∷◌, ◌++◌, reverse, Option, None, Some, arith, ◌⊎◌, inl, inr}
+use Rattle.std.specs.List.{AllByRecursion}
 use Rattle.std.proofs.lemmas.Bool.Decides.{nat_tests}
 use Rattle.std.proofs.lemmas.Bool.{cases_lt, le-leb, lt-ltb}
 use Rattle.sn_ranges.specs.Ranges.{in_range, is_member}
 use Rattle.std.proofs.lemmas.List.{reverse-append}
 use Rattle.std.proofs.lemmas.Option.{none-some, same_Some}
-use Rattle.fib_model.specs.Sweeps.{Fills, Goes, first_of, others_of, StartFrom, is_port, last_port, set_at, top_port}
+use Rattle.fib_model.specs.Sweeps.{Fills, Goes, first_of, others_of, StartFrom, last_port, set_at, top_port}
+use Rattle.table_nodes.specs.TableNodes.{is_port}
 use Rattle.fib_model.specs.declared.sweep.Span.{Span}
 use Rattle.fib_model.specs.declared.sweep.Open.{Open}
 use Rattle.fib_model.specs.declared.sweep.Sweep.{Sweep}
@@ -72,6 +74,18 @@ fills_more whole start to port old new less fills noted has a q = by (cases_lt a
         let e4 : nat_le a (to - 1) ≡ false = grind (arith, nat_tests, above, less) in
         all ∙ (λ i. (e1 i && is_port (whole a) q) || ((port == q) && (e2 i && e4 i)))
         ∙ and_none (port == q) ∙ (λ i. sym e3 i && is_port (whole a) q)
+
+all_and : (rs : List (ℕ × ℕ)) (r : ℕ × ℕ) → AllByRecursion (λ r. r.0 ≤ r.1) rs → r.0 ≤ r.1 → AllByRecursion (λ r. r.0 ≤ r.1) (rs ++ r ∷ [])
+all_and [] r all h = (h, tt)
+all_and (x ∷ rs) r all h = (all.0, all_and rs r all.1 h)
+
+pub ordered_more : (start to port q : ℕ) (old new : List (ℕ × ℕ)) → start < to → AllByRecursion (λ r. r.0 ≤ r.1) old
+    → new ≡ (if port == q then old ++ (start, to - 1) ∷ [] else old) → AllByRecursion (λ r. r.0 ≤ r.1) new
+ordered_more start to port q old new less ordered is = subst (AllByRecursion (λ r. r.0 ≤ r.1)) (sym is) (by (port == q))
+  where
+    by : (b : Bool) → AllByRecursion (λ r. r.0 ≤ r.1) (if b then old ++ (start, to - 1) ∷ [] else old)
+    by true = all_and old (start, to - 1) ordered (omega (arith, less))
+    by false = ordered
 
 -- ---- the pending spans
 

@@ -1,8 +1,10 @@
 -- Ranges of numbers with ports, swept from the least number on.
-use Rattle.std.specs.Prelude.{ℕ, ◌≡◌, ◌≤◌, ◌&&◌, ◌==◌, nat_le, nat_lt, if◌then◌else◌, Bool, false, List, [], ◌∷◌, reverse, Option, None, Some, option_map, unwrap_or, slice_get}
+use Rattle.std.specs.Prelude.{ℕ, ◌≡◌, ◌≤◌, ◌&&◌, nat_le, nat_lt, if◌then◌else◌, Bool, List, [], ◌∷◌, reverse, Option, None, Some, option_map, unwrap_or, slice_get}
+use Rattle.std.specs.List.{AllByRecursion}
 use Rattle.std.specs.declared.alloc.Global.{Global}
 use Rattle.std.specs.declared.vec.Vec.{Vec}
 use Rattle.sn_ranges.specs.Ranges.{is_member}
+use Rattle.table_nodes.specs.TableNodes.{is_port}
 use Rattle.fib_model.specs.declared.sweep.Span.{Span}
 use Rattle.fib_model.specs.declared.sweep.Open.{Open}
 use Rattle.fib_model.specs.declared.sweep.Sweep.{Sweep}
@@ -14,10 +16,6 @@ covers span a = nat_le span.first a && nat_le a span.last
 abbrev pub last_port : List Span → ℕ → Option ℕ → Option ℕ
 last_port [] a found = found
 last_port (span ∷ spans) a found = last_port spans a (if covers span a then Some span.port else found)
-
-abbrev pub is_port : Option ℕ → ℕ → Bool
-is_port None port = false
-is_port (Some p) port = p == port
 
 -- each span begins no earlier than the one before it, and no earlier than the number
 abbrev pub StartFrom : ℕ → List Span → Type 0
@@ -48,3 +46,7 @@ Fills whole s = (a q : ℕ) → is_member (set_at s.sets.items q) a ≡ (nat_lt 
 -- and from the start on, the port is what the rest makes of the spans that are open
 abbrev pub Goes : (ℕ → Option ℕ) → (ℕ → Option ℕ → Option ℕ) → Sweep → Type 0
 Goes whole rest s = Fills whole s × ((a : ℕ) → s.start ≤ a → whole a ≡ rest a (top_port (reverse s.pending.items) a))
+
+-- no range is reversed
+abbrev pub AreOrdered : List (Vec (ℕ × ℕ) Global) → Type 0
+AreOrdered sets = (q : ℕ) → AllByRecursion (λ range. range.0 ≤ range.1) (set_at sets q)

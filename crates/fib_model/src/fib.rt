@@ -14,8 +14,8 @@ use table_lines::{Row, TableFault, read_table};
 /// equal ones once: an address with the bits past the length at 0, the length, and the port.
 #[derive(Drop)]
 pub struct Fib {
-    ports: u32,
-    rows: Vec<(u64, u32, u32)>,
+    pub(crate) ports: u32,
+    pub(crate) rows: Vec<(u64, u32, u32)>,
 }
 
 impl Model for Fib {

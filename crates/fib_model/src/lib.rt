@@ -2,7 +2,10 @@
 #![tactic(auto)]
 
 mod fib;
+mod least;
+mod node;
 mod sets;
 mod sweep;
 
 pub use fib::{Fib, read_fib};
+pub use node::fib_node;

@@ -3,7 +3,8 @@
 ghost use Rattle.std.specs.Prelude.{◌≡◌, ℕ, ◌<◌, ◌≤◌, ◌&&◌, nat_lt, length, map, IfOk, All};
 ghost use Rattle.sn_ranges.specs.Ranges.{is_member};
 ghost use Rattle.fib_model.specs.Prefixes.{Distinct, IsRow, fib_port, order_key, span_of};
-ghost use Rattle.fib_model.specs.Sweeps.{is_port, set_at};
+ghost use Rattle.fib_model.specs.Sweeps.{AreOrdered, set_at};
+ghost use Rattle.table_nodes.specs.TableNodes.{is_port};
 
 use crate::sweep::{Span, sets_of};
 use sn_width::{NoMemory, Num};
@@ -51,6 +52,7 @@ pub fn fib_sets(
     requires ports { All (λ row. row.2 < ports) rows.now }
     requires distinct { Distinct rows.now }
     ensures len { IfOk result (λ sets. length sets.items ≡ ports) }
+    ensures ordered { IfOk result (λ sets. AreOrdered sets.items) }
     ensures sets { IfOk result (λ sets. (a q : ℕ) → is_member (set_at sets.items q) a
         ≡ (nat_lt a 4294967296 && is_port (fib_port rows.now a) q)) }
 {

@@ -2,7 +2,8 @@
 
 ghost use Rattle.std.specs.Prelude.{◌≡◌, ◌++◌, ◌∷◌, [], ℕ, ◌<◌, ◌≤◌, ◌-◌, ◌==◌, ◌&&◌, nat_lt, if◌then◌else◌, length, max, reverse, Option, None, IfSome, IfOk, OnOk, All};
 ghost use Rattle.sn_ranges.specs.Ranges.{is_member};
-ghost use Rattle.fib_model.specs.Sweeps.{Fills, Goes, StartFrom, is_port, last_port, first_of, others_of, set_at};
+ghost use Rattle.fib_model.specs.Sweeps.{AreOrdered, Fills, Goes, StartFrom, last_port, first_of, others_of, set_at};
+ghost use Rattle.table_nodes.specs.TableNodes.{is_port};
 
 use sn_width::{NoMemory, Num};
 use std::alloc::Global;
@@ -64,6 +65,7 @@ impl Sweep {
         ensures len { length self.new.sets.items ≡ length self.old.sets.items }
         ensures pending { self.new.pending.items ≡ self.old.pending.items }
         ensures start { OnOk result (self.new.start ≡ max self.old.start to) }
+        ensures ordered { OnOk result (AreOrdered self.old.sets.items → AreOrdered self.new.sets.items) }
         ensures fills { OnOk result ((whole : ℕ → Option ℕ) → Fills whole self.old
             → ((a : ℕ) → self.old.start ≤ a → a < to → whole a ≡ found) → Fills whole self.new) }
     {
@@ -85,6 +87,7 @@ impl Sweep {
         ensures len { length self.new.sets.items ≡ length self.old.sets.items }
         ensures ports { All (λ p. p.port < length self.new.sets.items) self.new.pending.items }
         ensures start { OnOk result (self.new.start ≡ max self.old.start to) }
+        ensures ordered { OnOk result (AreOrdered self.old.sets.items → AreOrdered self.new.sets.items) }
         ensures goes { OnOk result ((whole : ℕ → Option ℕ) (rest : ℕ → Option ℕ → Option ℕ)
             → ((a : ℕ) (found : Option ℕ) → a < to → rest a found ≡ found)
             → Goes whole rest self.old → Goes whole rest self.new) }
@@ -126,6 +129,7 @@ pub fn sets_of(
     requires ports { All (λ span. span.port < ports) spans.now }
     requires end { All (λ span. span.first ≤ end) spans.now }
     ensures len { IfOk result (λ sets. length sets.items ≡ ports) }
+    ensures ordered { IfOk result (λ sets. AreOrdered sets.items) }
     ensures sets { IfOk result (λ sets. (a q : ℕ) → is_member (set_at sets.items q) a
         ≡ (nat_lt a end && is_port (last_port spans.now a None) q)) }
 {

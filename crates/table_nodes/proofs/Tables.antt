@@ -9,7 +9,7 @@ use Rattle.sefl_syntax.specs.declared.net.TableKind.TheVariants.{Mac, Fib}
 use Rattle.sefl_syntax.specs.Trees.{NodeTree, CodeTree, no_code}
 use Rattle.sefl_syntax.specs.declared.net.Side.TheVariants.{Outward}
 use Rattle.table_nodes.specs.Exits.{exits, is_code_of, first_way, holds, lies_in, way}
-use Rattle.table_nodes.specs.TableNodes.{Guard, bits_of, Set, SetsFor, IsNode, Sends, InRange, first_held, port_or, lets, last_of, rest_of, destination, in_code, node_with, guarded, is_port, out_code, out_codes, ports_from, set_guards, set_test}
+use Rattle.table_nodes.specs.TableNodes.{Guard, bits_of, Set, SetsFor, IsNode, RowsSend, InRange, first_held, port_or, lets, last_of, rest_of, destination, in_code, node_with, guarded, is_port, out_code, out_codes, ports_from, set_guards, set_test}
 
 abbrev pub one_port : Option ℕ → Option (List ℕ)
 one_port None = None
@@ -145,7 +145,7 @@ out_found Fib (Some port) test ports within same = filter_one test 0 ports port 
 
 -- a node of a table sends each address to the port of the table, or to those for addresses without one
 pub table_exits : (kind : TableKind) (ports : ℕ) (f : ℕ → Option ℕ) (rows : List Guard) (style : Style) (node : NodeTree)
-    → IsNode kind ports f rows style node → Sends kind f rows → InRange ports f → (a : ℕ) → a < 2 ^ bits_of kind → exits node a ≡ port_or (rest_of kind ports) (f a)
+    → IsNode kind ports f rows style node → RowsSend style kind f rows → InRange ports f → (a : ℕ) → a < 2 ^ bits_of kind → exits node a ≡ port_or (rest_of kind ports) (f a)
 table_exits kind ports f rows Chain node is sends within a fits =
     ap (λ n. exits n a) is ∙ guarded_exits kind ports a rows ∙ ap (port_or (rest_of kind ports)) (sends a fits)
 table_exits kind ports f rows Grouped node is sends within a fits =

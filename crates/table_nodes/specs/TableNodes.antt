@@ -145,6 +145,12 @@ IsNode kind ports f rows Egress node =
 abbrev pub Sends : TableKind → (ℕ → Option ℕ) → List Guard → Type 0
 Sends kind f rows = (a : ℕ) → a < 2 ^ bits_of kind → first_held a rows ≡ f a
 
+-- in style chain the tests of the rows do so; the sets of the other styles do so by themselves
+abbrev pub RowsSend : Style → TableKind → (ℕ → Option ℕ) → List Guard → Type 0
+RowsSend Chain kind f rows = Sends kind f rows
+RowsSend Grouped kind f rows = Unit {0}
+RowsSend Egress kind f rows = Unit {0}
+
 -- the ports of the table
 abbrev pub InRange : ℕ → (ℕ → Option ℕ) → Type 0
 InRange ports f = (a port : ℕ) → f a ≡ Some port → port < ports

@@ -3,7 +3,8 @@ use Rattle.std.specs.List.Sorted.{IsNonDecreasingBy}
 use Rattle.std.proofs.lemmas.Result.{IfOk-weaker}
 use Rattle.std.proofs.lemmas.List.Sorted.{IsNonDecreasingBy-from_sort_by_key}
 use Rattle.fib_model.specs.Prefixes.{Row, order_key, span_of}
-use Rattle.fib_model.specs.Sweeps.{StartFrom, is_port, last_port}
+use Rattle.fib_model.specs.Sweeps.{StartFrom, last_port}
+use Rattle.table_nodes.specs.TableNodes.{is_port}
 use Rattle.fib_model.proofs.Spans.{spans_port, ordered_rows, spans_start, spans_end, spans_ports}
 use Rattle.fib_model.proofs.sets.fib_sets.Goals as goal
 

@@ -1,7 +1,9 @@
-use Rattle.std.proofs.Common.{rules, refl, arith, ◌≡◌, ◌∙◌, ◌+◌, ◌<◌, length, ◌∷◌, [], drop, slice_index_or, drop-cons, add-one, subst, None, nat_lt, ◌&&◌}
+use Rattle.std.proofs.Common.{rules, refl, arith, ◌≡◌, ◌∙◌, ◌+◌, ◌<◌, ◌≤◌, length, ◌∷◌, [], drop, slice_index_or, drop-cons, add-one, sym, subst, None, nat_lt, ◌&&◌}
 use Rattle.std.proofs.lemmas.List.{drop_all}
+use Rattle.std.specs.List.{AllByRecursion}
 use Rattle.fib_model.specs.declared.sweep.Span.{Span}
-use Rattle.fib_model.specs.Sweeps.{StartFrom, Goes, last_port, is_port}
+use Rattle.fib_model.specs.Sweeps.{StartFrom, Goes, last_port}
+use Rattle.table_nodes.specs.TableNodes.{is_port}
 use Rattle.fib_model.proofs.Steps.{nothing_yet, took}
 use Rattle.fib_model.proofs.sweep.sets_of.Goals as goal
 
@@ -11,6 +13,7 @@ loop-span-init c = record {
   ports = search rules;
   order = c.requires.order;
   end = omega arith;
+  ordered = λ q. subst (AllByRecursion (λ range. range.0 ≤ range.1)) (sym (c.in_ok-sets.ensures.empty q)) tt;
   goes = nothing_yet (λ a. last_port c.args.spans.now a None) (record { sets = c.in_ok-sets.sets; pending = c.new.result; start = 0 }) c.args.spans.now
       c.in_ok-sets.ensures.empty refl c.new.ensures.items (λ a. refl);
 }
@@ -31,6 +34,7 @@ loop-span-preserved c =
       ports = search (rules, c.requires.ports i (record { first = 0; last = 0; port = 0 }) within);
       order = t.0;
       end = omega (arith, c.in_ok-move_to.ensures.start, c.loop-span.invariant.end, c.requires.end i (record { first = 0; last = 0; port = 0 }) within);
+      ordered = c.in_ok-move_to.ensures.ordered c.loop-span.invariant.ordered;
       goes = t.1;
     }
 

@@ -14,6 +14,7 @@ loop-last-preserved c = record {
   len = search rules;
   ports = search rules;
   start = omega (arith, c.loop-last.invariant.start, c.in_ok-fill-2.ensures.start, c.if-last-to.false);
+  ordered = λ h. c.in_ok-fill-2.ensures.ordered (c.loop-last.invariant.ordered h);
   goes = λ whole rest later goes.
       goes_on c.loop-last.self (record { sets = c.fill-in-Some.new.self.sets; pending = c.pop.new.pending; start = c.fill-in-Some.new.self.start })
       c.args.to c.in-Some.last c.in_ok-fill-2.ensures.fills c.in_ok-fill-2.ensures.start (sym c.top.ensures ∙ c.in-Some.is) (c.pop.ensures.rest ∙ ap (λ ps. others_of (reverse ps)) c.in_ok-fill-2.ensures.pending) (omega (arith, c.if-last-to.false)) whole rest later
