@@ -1,0 +1,4 @@
+pub mod Prefixes
+pub mod Sweeps
+pub mod Fibs
+pub mod Nodes

@@ -1,0 +1,6 @@
+//! MAC tables: their files.
+#![tactic(auto)]
+
+mod table;
+
+pub use table::{MacTable, read_mac};

@@ -1,0 +1,10 @@
+pub mod Pieces
+pub mod Lines
+pub mod Reading
+pub mod Words
+pub mod Numbers
+pub mod Addresses
+pub mod Contents
+pub mod Rows
+pub mod Tables
+pub mod Laws

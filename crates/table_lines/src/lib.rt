@@ -1,0 +1,19 @@
+//! Reads the files of tables line by line: what their lines say, and the rows of MAC and forwarding tables.
+#![tactic(auto)]
+
+mod address;
+mod content;
+mod fault;
+pub mod laws;
+mod lines;
+mod number;
+mod pieces;
+mod rows;
+mod table;
+mod words;
+
+pub use fault::TableFault;
+pub use lines::{LineReader, read_lines};
+pub use number::plain_number;
+pub use table::{Row, Table, read_table};
+pub use words::next_word;

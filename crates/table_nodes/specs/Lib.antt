@@ -1,0 +1,4 @@
+pub mod Exits
+pub mod TableNodes
+pub mod Codes
+pub mod Laws

@@ -1,0 +1,9 @@
+//! The nodes that tables stand for, in three styles.
+#![tactic(auto)]
+
+mod destination;
+pub mod laws;
+mod node;
+mod pieces;
+
+pub use node::{chain_node, egress_node, grouped_node};
