@@ -1,3 +1,6 @@
 pub mod Comments
 pub mod Fronts
 pub mod Tokens
+pub mod Numbers
+pub mod Stages
+pub mod Items
