@@ -4,3 +4,5 @@ pub mod Tokens
 pub mod Numbers
 pub mod Stages
 pub mod Items
+pub mod Arguments
+pub mod Classes

@@ -20,7 +20,7 @@ pub(crate) enum Mode {
 
 impl Mode {
     /// Behind one byte more.
-    fn behind(self, byte: u8) -> Mode
+    pub(crate) fn behind(self, byte: u8) -> Mode
         ensures { result ≡ mode_behind self byte }
     {
         match self {

@@ -1,7 +1,9 @@
 //! Reads Click configurations: their tokens and statements.
 #![tactic(auto)]
 
+mod arguments;
 mod bytes;
+mod class;
 mod comment;
 mod fault;
 mod front;
@@ -11,6 +13,8 @@ mod stage;
 mod statement;
 mod token;
 
+pub use arguments::arguments_text;
+pub use class::{ClassName, class_named};
 pub use fault::Unread;
 pub use item::Item;
 pub use statement::read_items;
