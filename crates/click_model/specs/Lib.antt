@@ -6,3 +6,4 @@ pub mod Stages
 pub mod Items
 pub mod Arguments
 pub mod Classes
+pub mod Codes

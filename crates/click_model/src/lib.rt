@@ -4,6 +4,7 @@
 mod arguments;
 mod bytes;
 mod class;
+mod code;
 mod comment;
 mod fault;
 mod front;
@@ -15,6 +16,7 @@ mod token;
 
 pub use arguments::arguments_text;
 pub use class::{ClassName, class_named};
+pub use code::{dec_ip_ttl_code, discard_code, tee_code};
 pub use fault::Unread;
 pub use item::Item;
 pub use statement::read_items;
