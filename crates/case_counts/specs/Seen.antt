@@ -10,7 +10,7 @@ use Rattle.path_cond.specs.Seen.{ConditionOf, entry_holds, in_domain, is_entry_o
 use Rattle.path_cases.specs.Bounds.{Case}
 use Rattle.path_cases.specs.Cases.{cases_of, single_cases}
 use Rattle.path_cases.specs.Counts.{capped}
-use Rattle.path_cases.specs.Ranges.{ranges_where}
+use Rattle.sn_ranges.specs.Sets.{ranges_where}
 use Rattle.case_counts.specs.Occurring.{is_inside_kind, occurs_in, symbols_from}
 
 abbrev pub product : List ℕ → ℕ

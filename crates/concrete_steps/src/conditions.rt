@@ -2,12 +2,12 @@
 
 ghost use Rattle.std.specs.Prelude.{◌≡◌, ◌++◌};
 ghost use Rattle.std.specs.List.{list_all, list_any};
+ghost use Rattle.sn_ranges.specs.Ranges.{is_member};
 ghost use Rattle.sefl_syntax.specs.Views.{cond_tree, cond_trees, expr_tree, summand_trees};
 ghost use Rattle.cell_stacks.specs.Outcome.{on_ok};
 ghost use Rattle.job_items.specs.Atoms.{expr_reads, summand_reads, comparison, membership};
 ghost use Rattle.job_items.specs.AtomRules.{atom_width};
 ghost use Rattle.sefl_meaning.specs.Terms.{compared, looked_up, truth_in, truths_in};
-ghost use Rattle.sefl_meaning.specs.Values.{is_member};
 ghost use Rattle.sefl_meaning.specs.View.{carried_of};
 ghost use Rattle.concrete_steps.specs.Scenes.{scene_of, operations_of, first_width, width_or_64};
 
@@ -90,8 +90,9 @@ fn look_up(
     Ok(is_member(value, ranges))
 }
 
+#[tactic(auto, unfolding(sn_ranges::specs::Ranges::is_member, sn_ranges::specs::Ranges::in_range))]
 fn is_member(number: Num, ranges: &[(Num, Num)]) -> bool
-    ensures { result ≡ is_member number ranges.now }
+    ensures { result ≡ is_member ranges.now number }
 {
     ranges
         .iter()

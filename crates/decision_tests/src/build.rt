@@ -108,7 +108,7 @@ fn membership(
 ) -> Result<Formula, Fail> {
     let value = term(alloc, width, value)?;
     let ranges = Ranges::from_list(alloc, width, &[(first, last)])?;
-    Ok(Formula::Member { value, ranges })
+    Ok(Formula::member(alloc, value, ranges)?)
 }
 
 /// The formula of an atom.

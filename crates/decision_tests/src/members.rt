@@ -156,7 +156,7 @@ fn in_many_ranges(alloc: Global) -> Result<PathCond, Fail> {
     let cond = free(alloc, bits(32), 1)?;
     let value = Term::of_symbol(alloc, bits(32), SymId(0))?;
     let ranges = scattered(alloc, 32_000)?;
-    let parts = vec![in alloc; Formula::Member { value, ranges }]?;
+    let parts = vec![in alloc; Formula::member(alloc, value, ranges)?]?;
     with_all(alloc, &cond, parts, true)
 }
 

@@ -6,7 +6,7 @@ use crate::build::{Atom, bits, condition, free, one_against_all, thirteen_pairs,
 use Plain::{Cycle, Domain, Empty, Split};
 use Why::{Cases, Coupled, Outside};
 use path_cond::PathCond;
-use refutation_check::{Cause, Listed, Refutation, Refute, check, lawful};
+use refutation_check::{Cause, Listed, Refutation, Refute, check, copy_of, lawful};
 use sn_width::{NoMemory, Num, Rel, SymId};
 use std::alloc::Global;
 use std::process::Abort;
@@ -117,10 +117,11 @@ const ROWS: &[Row] = &[
     },
 ];
 
-/// Whether the steps are accepted.
+/// Whether a copy of the steps is accepted.
 fn accepts(alloc: Global, cond: &PathCond, plain: &[Plain<'_>]) -> Result<bool, Fail> {
     let refutation = refutation_of(alloc, plain)?;
-    Ok(check(alloc, &refutation, cond)?)
+    let copy = copy_of(alloc, &refutation)?;
+    Ok(check(alloc, &copy, cond)?)
 }
 
 fn check_steps<R: Abort + AllocGlobal>(
@@ -175,7 +176,7 @@ fn check_causes<R: Abort + AllocGlobal>(
     causes: &[(bool, Why<'_>)],
 ) -> Result<(), Fail> {
     for (is_lawful, why) in causes {
-        let cause = cause_of(rt.alloc(), *why)?;
+        let cause = cause_of(rt.alloc(), *why)?.copy(rt.alloc())?;
         assert_eq!(rt; lawful(rt.alloc(), &cause, cond)?, *is_lawful);
     }
     Ok(())

@@ -181,9 +181,23 @@ fn are_same(
     Ok((made.same(&other), copy.same(made)))
 }
 
+/// Whether the row's parts are taken as those of the term.
+fn is_of_parts(alloc: Global, width: Width, made: &Term, row: &Row) -> Result<bool, NoMemory> {
+    let mut parts = Vec::new(alloc);
+    for (symbol, coefficient) in row.parts {
+        parts.push((SymId(*symbol), *coefficient))?;
+    }
+    match Term::of_parts(width, row.constant, parts) {
+        None => Ok(false),
+        Some(term) => Ok(term.same(made)),
+    }
+}
+
 fn check_row<R: Abort + AllocGlobal>(rt: &R, width: Width, row: &Row) -> Result<(), NoMemory> {
     let made = made(rt.alloc(), width, row)?;
     check_term(rt, width, &made, row);
+    let is_of_parts = is_of_parts(rt.alloc(), width, &made, row)?;
+    assert!(rt; is_of_parts);
     let same = are_same(rt.alloc(), width, &made, row.first)?;
     assert_eq!(rt; same, (row.same, true));
     Ok(())

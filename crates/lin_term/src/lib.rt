@@ -3,6 +3,7 @@
 
 pub mod laws;
 mod merge;
+mod reduced;
 mod term;
 
 pub use term::Term;

@@ -1,9 +1,10 @@
 //! Terms.
 
-ghost use Rattle.std.specs.Prelude.{◌≡◌, ℕ, ◌+◌, ◌*◌, ◌%◌, ◌^◌, ◌<◌, ◌≤◌, ◌↔◌, List, [], ◌∷◌, length, slice_get, slice_index, IsTrue, IsNone, IfOk, IfSome};
+ghost use Rattle.std.specs.Prelude.{◌≡◌, ℕ, ◌+◌, ◌*◌, ◌%◌, ◌^◌, ◌<◌, ◌≤◌, ◌↔◌, List, [], ◌∷◌, length, slice_get, slice_index, IsTrue, IsNone, IsSome, IfOk, IfSome};
 ghost use Rattle.sn_width.specs.Width.{FitsWidth, wrapped_sum, wrapped_difference};
 
 use crate::merge::{Part, merged, plus_times};
+use crate::reduced::is_reduced;
 use sn_width::{NoMemory, Num, SymId, Width};
 use std::alloc::Global;
 use std::marker::Model;
@@ -29,6 +30,7 @@ impl Model for Term {
 
 impl Term {
     ghost use Rattle.lin_term.specs.Terms.{LinearTerm, IsReduced, coefficient_of, value_at, IsSum, IsDifference, IsCombination};
+    ghost use Rattle.lin_term.specs.Sums.{term_sum, term_difference};
 
     /// A number. It must be at most the width's maximum.
     pub fn of_const(alloc: Global, width: Width, value: Num) -> Result<Term, NoMemory>
@@ -64,9 +66,28 @@ impl Term {
         })
     }
 
+    /// The term of this width, constant and parts, where they are those of a reduced term: no number
+    /// is past the width's maximum, no coefficient is 0, and the symbols ascend.
+    pub fn of_parts(width: Width, constant: Num, parts: Vec<(SymId, Num)>) -> Option<Term>
+        ensures reduced { IsSome result
+            ↔ IsReduced (record { width = width; constant = constant; parts = parts.items }) }
+        ensures term { IfSome result
+            (λ t. t ≡ record { width = width; constant = constant; parts = parts.items }) }
+    {
+        if !is_reduced(width, constant, &parts) {
+            return None;
+        }
+        Some(Term {
+            width,
+            constant,
+            parts,
+        })
+    }
+
     /// `self + other`. The two have one width.
     pub fn plus(&self, alloc: Global, other: &Term) -> Result<Term, NoMemory>
         requires { self.now.width ≡ other.now.width }
+        ensures term { IfOk result (λ t. t ≡ term_sum self.now other.now) }
         ensures sum { IfOk result (IsSum self.now other.now) }
         ensures reduced { IfOk result IsReduced }
         ensures value { IfOk result (λ t. (values : List ℕ) → value_at t values
@@ -78,6 +99,7 @@ impl Term {
     /// `self - other`. The two have one width.
     pub fn minus(&self, alloc: Global, other: &Term) -> Result<Term, NoMemory>
         requires { self.now.width ≡ other.now.width }
+        ensures term { IfOk result (λ t. t ≡ term_difference self.now other.now) }
         ensures difference { IfOk result (IsDifference self.now other.now) }
         ensures reduced { IfOk result IsReduced }
         ensures value { IfOk result (λ t. (values : List ℕ) → value_at t values

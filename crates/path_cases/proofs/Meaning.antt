@@ -29,11 +29,11 @@ use Rattle.path_formula.proofs.Truths.{truth_at-on, comparison-fixed, membership
 use Rattle.path_cases.specs.Bounds.{Case, is_met, is_case_met, is_one_met, AreValues}
 use Rattle.path_cases.specs.Cases.{with_bounds, joined, constant_cases, range_case, single_cases, relation_with, cases_by_shapes, atom_cases, cases_of, cases_of_all, cases_of_any}
 use Rattle.path_cases.specs.Pairs.{upper, lower, both_regions, regions_of, list_of, weak_bound, strict_bound, relation_cases, in_regions, region_cases, row_cases, pair_cases}
-use Rattle.path_cases.specs.Ranges.{ranges_where}
+use Rattle.sn_ranges.specs.Sets.{ranges_where}
 use Rattle.path_cases.specs.Splits.{AtomCanSplit, CanSplit, EachCanSplit}
 use Rattle.path_cases.specs.declared.pairs.Region.{Region}
 use Rattle.path_cases.proofs.Integers.{lower_met, upper_met, weak_met, strict_met, low_met, high_met, low_value, high_value, int_relates, int_relates-pos}
-use Rattle.path_cases.proofs.Sets.{ranges_where-member}
+use Rattle.sn_ranges.proofs.TestSets.{ranges_where-member}
 
 -- Tests
 

@@ -16,7 +16,7 @@ use Rattle.path_formula.specs.declared.atom.Shape.{Shape}
 use Rattle.path_formula.specs.declared.atom.Shape.TheVariants.{Number, Symbol, Other}
 use Rattle.path_cases.specs.Bounds.{Case}
 use Rattle.path_cases.specs.Pairs.{lower, upper, regions_of, list_of, pair_cases}
-use Rattle.path_cases.specs.Ranges.{ranges_where}
+use Rattle.sn_ranges.specs.Sets.{ranges_where}
 
 -- one case without bounds where it is true, and none where it is false
 abbrev pub constant_cases : Bool → List Case

@@ -1,5 +1,4 @@
 pub mod Bounds
-pub mod Ranges
 pub mod Pairs
 pub mod Cases
 pub mod Splits

@@ -12,7 +12,7 @@ ghost use Rattle.path_formula.specs.Typed.{IsTyped};
 ghost use Rattle.path_formula.specs.declared.kinds.Kind.{Kind};
 ghost use Rattle.path_cases.specs.Bounds.{AreValues, Case, is_case_met, is_one_met};
 ghost use Rattle.path_cases.specs.Cases.{cases_of, single_cases, with_bounds};
-ghost use Rattle.path_cases.specs.Ranges.{ranges_where};
+ghost use Rattle.sn_ranges.specs.Sets.{ranges_where};
 ghost use Rattle.path_cases.specs.Splits.{CanSplit};
 
 /// A typed formula that has cases has the truth, at values that fit the widths of their symbols, exactly where they meet

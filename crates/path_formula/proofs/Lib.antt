@@ -5,3 +5,5 @@ pub mod Sets
 pub mod Shapes
 pub mod Solving
 pub mod Truths
+pub mod Typings
+pub mod PartTruths

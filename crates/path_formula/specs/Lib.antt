@@ -6,3 +6,4 @@ pub mod Kinds
 pub mod Summaries
 pub mod Solutions
 pub mod Typed
+pub mod TypeTests

@@ -13,7 +13,7 @@ formulas_of (f ∷ fs) = formula f (formulas_of fs)
 abbrev pub view_step : Formula-F FormulaTree → FormulaTree
 view_step (Formula-F.Truth b) = always b
 view_step (Formula-F.Compare rel left right) = compared rel left right
-view_step (Formula-F.Member value ranges) = belongs value ranges
+view_step (Formula-F.Member value ranges) = belongs value ranges.value
 view_step (Formula-F.And parts) = all_of (formulas_of parts.items)
 view_step (Formula-F.Or parts) = any_of (formulas_of parts.items)
 view_step (Formula-F.Not part) = opposite part.value

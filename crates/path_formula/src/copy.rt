@@ -24,7 +24,7 @@ pub(crate) fn copy_of(alloc: Global, formula: &Formula) -> Result<Formula, NoMem
         }
         Formula::Member { value, ranges } => {
             let value = value.copy(alloc)?;
-            let ranges = ranges.copy(alloc)?;
+            let ranges = ranges.clone()?;
             Ok(Formula::Member { value, ranges })
         }
         Formula::And(parts) => Ok(Formula::And(copies_of(alloc, parts)?)),

@@ -15,6 +15,7 @@ use lin_term::Term;
 use sn_ranges::Ranges;
 use sn_width::{NoMemory, Num, Rel, SymId, Width};
 use std::alloc::Global;
+use std::rc::Rc;
 
 /// A formula over the symbols of its terms. In a comparison the two terms, and in a membership
 /// the term and the ranges, have one width.
@@ -22,14 +23,24 @@ use std::alloc::Global;
 pub enum Formula {
     Truth(bool),
     Compare { rel: Rel, left: Term, right: Term },
-    Member { value: Term, ranges: Ranges },
+    /// The ranges are shared, so that a copy takes no time for them.
+    Member { value: Term, ranges: Rc<Ranges> },
     And(Vec<Formula>),
     Or(Vec<Formula>),
     Not(Box<Formula>),
 }
 
 impl Formula {
+    ghost use Rattle.path_formula.specs.Formulas.{belongs};
     ghost use Rattle.path_formula.specs.View.{view};
+
+    /// The membership of the term in the ranges.
+    pub fn member(alloc: Global, value: Term, ranges: Ranges) -> Result<Formula, NoMemory>
+        ensures { IfOk result (λ formula. view formula ≡ belongs value ranges) }
+    {
+        let ranges = Rc::new(alloc, ranges)?;
+        Ok(Formula::Member { value, ranges })
+    }
 
     /// The truth where each symbol is the number at its place in `values`, and 0 past their end.
     pub fn truth(&self, values: &[Num]) -> bool

@@ -11,7 +11,7 @@ use Rattle.lin_term.specs.Terms.{LinearTerm}
 use Rattle.path_cases.specs.Bounds.{Case}
 use Rattle.path_cases.specs.Cases.{range_case, single_cases, with_bounds, joined}
 use Rattle.path_cases.specs.Pairs.{regions_of, list_of, weak_bound, strict_bound, relation_cases, in_regions, region_cases, row_cases, pair_cases}
-use Rattle.path_cases.specs.Ranges.{with_number, ranges_from, ranges_where}
+use Rattle.sn_ranges.specs.Sets.{with_number, ranges_from, ranges_where}
 use Rattle.path_cases.specs.declared.bound.SymBound.{SymBound}
 use Rattle.path_solver.specs.Bounds.{IsBetween, AreBetween, EachAreBetween}
 

@@ -11,7 +11,7 @@ use Rattle.path_formula.specs.View.{view}
 use Rattle.path_cond.specs.Conditions.{Condition, AllTyped, in_domain, first_broken}
 use Rattle.path_cases.specs.Bounds.{Case}
 use Rattle.path_cases.specs.Cases.{range_case}
-use Rattle.path_cases.specs.Ranges.{ranges_where}
+use Rattle.sn_ranges.specs.Sets.{ranges_where}
 use Rattle.case_search.specs.Choices.{MeetsOne, MeetsEach, IsMet, IsUnmet, IsUpTo, HasBelow, EachHasBelow, OneHasBelow, AreBelow, AreInRange}
 use Rattle.case_search.specs.Choices as Search
 use Rattle.case_counts.specs.Coupled.{is_coupled, coupled_symbols}

@@ -13,7 +13,7 @@ use Rattle.path_formula.specs.declared.kinds.Kind.TheVariants.{Constant}
 use Rattle.path_cond.specs.Seen.{entry_holds, is_simple_on, meets, in_domain, is_broken, is_broken_kind}
 use Rattle.path_cases.specs.Cases.{cases_of}
 use Rattle.path_cases.specs.Counts.{capped}
-use Rattle.path_cases.specs.Ranges.{ranges_where}
+use Rattle.sn_ranges.specs.Sets.{ranges_where}
 use Rattle.case_counts.specs.Occurring.{is_inside_kind, occurs_in, symbols_from}
 use Rattle.case_counts.specs.Seen.{product, couples, coupled_symbols, entry_case_count, range_count, choice_count}
 use Rattle.refutation_check.specs.Longer.{condition_of, pick_behind, pick_before, ConstantsAreFree}

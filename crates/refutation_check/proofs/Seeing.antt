@@ -13,7 +13,7 @@ use Rattle.path_cond.specs.Seen.{ConditionOf, itself, entry_seen, seen, entry_ho
 use Rattle.path_cases.specs.Bounds.{Case}
 use Rattle.path_cases.specs.Cases.{cases_of, single_cases, with_bounds}
 use Rattle.path_cases.specs.Counts.{capped}
-use Rattle.path_cases.specs.Ranges.{ranges_where}
+use Rattle.sn_ranges.specs.Sets.{ranges_where}
 use Rattle.path_cases.specs.Splits.{CanSplit}
 use Rattle.case_counts.specs.Occurring.{symbols_from}
 use Rattle.case_counts.specs.Seen.{product, passes, couples, is_coupled, coupled_symbols, domain_cases, range_count, entry_case_count, choice_count, are_simple_picks, meets_picks, has_no_cases, first_without_cases}

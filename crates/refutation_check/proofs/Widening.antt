@@ -18,7 +18,7 @@ use Rattle.path_formula.specs.declared.kinds.Kind.{Kind}
 use Rattle.path_formula.specs.declared.kinds.Kind.TheVariants.{Constant, Simple, Inside, Outside}
 use Rattle.path_cond.specs.Seen.{ConditionOf, AllTyped, entry_holds, is_simple_on, meets, in_domain}
 use Rattle.path_cases.specs.Counts.{capped}
-use Rattle.path_cases.specs.Ranges.{ranges_where}
+use Rattle.sn_ranges.specs.Sets.{ranges_where}
 use Rattle.case_counts.specs.Occurring.{stands_in, occurs_in, occurs_among, symbol_at, symbols_from}
 use Rattle.case_counts.specs.Seen.{product, couples, is_inside, is_coupled, coupled_symbols, coupled_count, range_count, formula_choices, choice_count}
 use Rattle.refutation_check.specs.Longer.{zeros, with_widths, with_zeros, WidenFreely}

@@ -17,4 +17,4 @@ pub use checker::check;
 pub use licence::{MOST_CHOICES, MOST_COUPLED, lawful};
 pub use list::Listed;
 pub use outcome::{Cause, Verdict};
-pub use steps::{Refutation, Refute};
+pub use steps::{Refutation, Refute, copy_of};

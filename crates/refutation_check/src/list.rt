@@ -1,7 +1,9 @@
 //! Lists whose contracts say nothing of the room that they have.
 
-ghost use Rattle.std.specs.Prelude.{◌≡◌};
+ghost use Rattle.std.specs.Prelude.{◌≡◌, IfOk};
 
+use sn_width::NoMemory;
+use std::alloc::Global;
 use std::marker::Model;
 
 /// A list, seen as the list of its members.
@@ -39,5 +41,15 @@ impl<T: Drop> Listed<T> {
         ensures { result.now ≡ self.now }
     {
         self.members.as_slice()
+    }
+}
+
+impl<T: Copy + Drop> Listed<T> {
+    /// An equal list.
+    pub fn copy(&self, alloc: Global) -> Result<Listed<T>, NoMemory>
+        ensures { IfOk result (λ copy. copy ≡ self.now) }
+    {
+        let members = Vec::from_slice(alloc, &self.members)?;
+        Ok(Listed { members })
     }
 }

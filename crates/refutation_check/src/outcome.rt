@@ -1,7 +1,10 @@
 //! Verdicts on conditions that are not refuted.
 
+ghost use Rattle.std.specs.Prelude.{◌≡◌, IfOk};
+
 use crate::list::Listed;
-use sn_width::Num;
+use sn_width::{NoMemory, Num};
+use std::alloc::Global;
 
 /// Why a condition is left undecided.
 #[derive(Drop)]
@@ -12,6 +15,25 @@ pub enum Cause {
     Cases { count: u64 },
     /// So many symbols are coupled, which is too many.
     Coupled { count: u64 },
+}
+
+impl Cause {
+    /// An equal cause.
+    pub fn copy(&self, alloc: Global) -> Result<Cause, NoMemory>
+        ensures { IfOk result (λ copy. copy ≡ self.now) }
+    {
+        match self {
+            Cause::Outside { pick, values } => {
+                let values = values.copy(alloc)?;
+                Ok(Cause::Outside {
+                    pick: *pick,
+                    values,
+                })
+            }
+            Cause::Cases { count } => Ok(Cause::Cases { count: *count }),
+            Cause::Coupled { count } => Ok(Cause::Coupled { count: *count }),
+        }
+    }
 }
 
 /// What is found of a condition that is not refuted.

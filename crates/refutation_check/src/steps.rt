@@ -1,7 +1,10 @@
 //! Refutations of conditions.
 
+ghost use Rattle.std.specs.Prelude.{◌≡◌, IfOk};
+
 use crate::list::Listed;
-use sn_width::SymId;
+use sn_width::{NoMemory, SymId};
+use std::alloc::Global;
 
 /// A step of a refutation: why the bounds that are gathered so far cannot be met, or how they are
 /// divided into cases, which the steps that follow refute one after another.
@@ -19,3 +22,44 @@ pub enum Refute {
 
 /// The steps of a refutation, each before those that refute its cases.
 pub type Refutation = Listed<Refute>;
+
+impl Refute {
+    /// An equal step.
+    pub fn copy(&self, alloc: Global) -> Result<Refute, NoMemory>
+        ensures { IfOk result (λ copy. copy ≡ self.now) }
+    {
+        match self {
+            Refute::Empty { symbol, picks } => {
+                let picks = picks.copy(alloc)?;
+                Ok(Refute::Empty {
+                    symbol: *symbol,
+                    picks,
+                })
+            }
+            Refute::Domain { symbol } => Ok(Refute::Domain { symbol: *symbol }),
+            Refute::Split { pick } => Ok(Refute::Split { pick: *pick }),
+            Refute::Cycle { bounds } => {
+                let bounds = bounds.copy(alloc)?;
+                Ok(Refute::Cycle { bounds })
+            }
+        }
+    }
+}
+
+/// An equal refutation.
+pub fn copy_of(alloc: Global, refutation: &Refutation) -> Result<Refutation, NoMemory>
+    ensures { IfOk result (λ copy. copy ≡ refutation.now) }
+{
+    let steps = copies_of(alloc, refutation.as_slice())?;
+    Ok(Listed::from_vec(steps))
+}
+
+fn copies_of(alloc: Global, steps: &[Refute]) -> Result<Vec<Refute>, NoMemory>
+    ensures { IfOk result (λ copies. copies.items ≡ steps.now) }
+{
+    let mut copies = Vec::with_capacity(alloc, steps.len())?;
+    for step in steps {
+        copies.push(step.copy(alloc)?)?;
+    }
+    Ok(copies)
+}

@@ -1,9 +1,10 @@
 -- Values of cells and truths of tests, as the operations on them: the meaning is written once, over these.
-use Rattle.std.specs.Prelude.{ℕ, Bool, true, not, ◌&&◌, ◌+◌, ◌%◌, ◌^◌, nat_le, nat_lt, List, slice_get, unwrap_or}
+use Rattle.std.specs.Prelude.{ℕ, Bool, true, not, ◌+◌, ◌%◌, ◌^◌, nat_lt, List, slice_get, unwrap_or}
 use Rattle.std.specs.List.{list_all, list_any}
 use Rattle.sn_width.specs.Width.{wrapped_sum, wrapped_difference}
 use Rattle.sn_width.specs.Rel.{relates}
 use Rattle.sn_width.specs.declared.rel.Rel.{Rel}
+use Rattle.sn_ranges.specs.Ranges.{is_member}
 
 -- the operations on values of a kind V and truths of a kind F; the first number of each is the width
 pub record Values (V F : Type 0) : Type 0 where
@@ -19,10 +20,6 @@ pub record Values (V F : Type 0) : Type 0 where
   pub all_of : List F → F
   pub any_of : List F → F
   pub negation : F → F
-
--- one of the ranges, ends included, has the number
-abbrev pub is_member : ℕ → List (ℕ × ℕ) → Bool
-is_member n ranges = list_any (λ range. nat_le range.0 n && nat_le n range.1) ranges
 
 -- the number at a place of a list; 0 past its end
 abbrev pub number_at : List ℕ → ℕ → ℕ
@@ -41,7 +38,7 @@ numbers v unknowns = record {
   unknown = λ w i. number_at v i % 2 ^ w;
   choice = λ w k. number_at v (unknowns + k) % 2 ^ w;
   compare = λ w rel a b. relates rel a b;
-  member = λ w a ranges. is_member a ranges;
+  member = λ w a ranges. is_member ranges a;
   always = true;
   all_of = list_all (λ truth. truth);
   any_of = list_any (λ truth. truth);

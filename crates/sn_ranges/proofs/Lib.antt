@@ -1,3 +1,4 @@
 pub mod FaultLemmas
 pub mod RangesLemmas
 pub mod SameSet
+pub mod TestSets

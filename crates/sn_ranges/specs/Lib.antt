@@ -1,3 +1,4 @@
 pub mod Ranges
+pub mod Sets
 pub mod Faults
 pub mod Laws

@@ -1,4 +1,5 @@
-use Rattle.std.specs.Prelude.{◌≡◌, ℕ, ◌+◌, ◌^◌, ◌≤◌, Bool, true, false, ◌&&◌, ◌||◌, nat_le, nat_lt, List, [], ◌∷◌}
+use Rattle.std.specs.Prelude.{◌≡◌, ℕ, ◌+◌, ◌^◌, ◌≤◌, Bool, true, ◌&&◌, nat_le, nat_lt, List, [], ◌∷◌}
+use Rattle.std.specs.List.{list_any}
 use Rattle.sn_width.specs.Width.{FitsWidth}
 
 -- a range with both its ends
@@ -11,8 +12,7 @@ in_range range value = nat_le range.0 value && nat_le value range.1
 
 -- the number lies in one of the ranges
 unfoldable pub is_member : List Range → ℕ → Bool
-is_member [] value = false
-is_member (range ∷ rest) value = in_range range value || is_member rest value
+is_member ranges value = list_any (λ range. in_range range value) ranges
 
 -- the ranges hold exactly the numbers that pass the test
 abbrev pub HasExactly : List Range → (ℕ → Bool) → Type 0

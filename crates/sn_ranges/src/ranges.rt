@@ -3,6 +3,7 @@
 ghost use Rattle.std.specs.Prelude.{◌≡◌, ◌==◌, ℕ, ◌≤◌, ◌↔◌, ◌&&◌, ◌||◌, not, false, [], length, slice_get, IsNone, IfSome, IfNone, IfOk, IsOkUnless};
 ghost use Rattle.sn_width.specs.Width.{FitsWidth, wrapped_sum, wrapped_difference};
 ghost use Rattle.sn_ranges.specs.Ranges.{is_member, fits_width, IsCanonical, IsSetOf, IsLeast};
+ghost use Rattle.sn_ranges.specs.Sets.{set_of};
 ghost use Rattle.sn_ranges.specs.Faults.{fault_of};
 
 use crate::fault::{RangeFault, find_fault};
@@ -38,6 +39,7 @@ impl Ranges {
         ensures fault { IfSome (fault_of width list.now) (λ fault. result ≡ Err fault) }
         ensures no_fault { IfNone (fault_of width list.now) (IsOkUnless result RangeFault.NoMemory) }
         ensures set { IfOk result (IsSetOf width (is_member list.now)) }
+        ensures set_is { IfOk result (λ set. set ≡ set_of width (is_member list.now)) }
     {
         if let Some(fault) = find_fault(width, list) {
             return Err(fault);

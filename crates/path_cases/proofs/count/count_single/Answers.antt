@@ -4,7 +4,7 @@ use Rattle.path_formula.specs.Formulas.{truth_at}
 use Rattle.path_formula.specs.Solutions.{agrees, alone}
 use Rattle.path_formula.specs.View.{view}
 use Rattle.path_cases.specs.Cases.{range_case, single_cases}
-use Rattle.path_cases.specs.Ranges.{ranges_where}
+use Rattle.sn_ranges.specs.Sets.{ranges_where}
 use Rattle.path_cases.proofs.Sets.{ranges_where-set}
 use Rattle.path_cases.proofs.Counts.{whole}
 use Rattle.path_cases.proofs.count.count_single.Goals as goal

@@ -1,5 +1,7 @@
 use Rattle.std.proofs.Common.{sym, ◌∙◌, refl}
 use Rattle.sn_ranges.proofs.FaultLemmas.{fault_of-None, member_fits}
+use Rattle.sn_ranges.proofs.TestSets.{set_of-only}
+use Rattle.sn_ranges.specs.Ranges.{is_member}
 use Rattle.sn_ranges.proofs.ranges.Ranges.from_list.Goals as goal
 
 pub sorted-requires : goal.sorted-requires
@@ -19,3 +21,6 @@ returns-clause-set c = record {
   canonical = invariant_of-result c;
   members = c.in_ok-ranges.ensures.members;
 }
+
+pub returns-clause-set_is : goal.returns-clause-set_is
+returns-clause-set_is c = set_of-only c.args.width (is_member c.args.list.now) _ (returns-clause-set c)

@@ -1,6 +1,6 @@
--- The ranges of the numbers that pass a test.
-use Rattle.std.specs.Prelude.{ℕ, zero, suc, ◌^◌, Bool, ◌==◌, List, [], ◌∷◌, if◌then◌else◌}
-use Rattle.sn_ranges.specs.Ranges.{Range}
+-- The set of the numbers that pass a test.
+use Rattle.std.specs.Prelude.{ℕ, zero, suc, ◌^◌, Bool, List, [], ◌∷◌, if◌then◌else◌, ◌==◌}
+use Rattle.sn_ranges.specs.Ranges.{Range, RangeSet}
 
 -- the ranges and one number more, which is less than all of theirs
 abbrev pub with_number : ℕ → List Range → List Range
@@ -16,3 +16,7 @@ ranges_from test first (suc count) =
 -- the longest ranges of values of the width that pass the test, ascending
 unfoldable pub ranges_where : ℕ → (ℕ → Bool) → List Range
 ranges_where width test = ranges_from test 0 (2 ^ width)
+
+-- the set of the values of the width that pass the test
+abbrev pub set_of : ℕ → (ℕ → Bool) → RangeSet
+set_of width test = record { width = width; pairs = ranges_where width test }
