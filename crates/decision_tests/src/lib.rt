@@ -1,4 +1,4 @@
-//! Tests of sets, terms, formulas, conditions and decisions.
+//! Tests of formulas, conditions and decisions.
 #![tactic(auto)]
 
 #[cfg(test)]
@@ -20,10 +20,4 @@ mod members;
 #[cfg(test)]
 mod plain;
 #[cfg(test)]
-mod ranges;
-#[cfg(test)]
 mod refutations;
-#[cfg(test)]
-mod terms;
-#[cfg(test)]
-mod widths;

@@ -17,7 +17,8 @@ use Rattle.path_formula.specs.declared.kinds.Kind.{Kind}
 use Rattle.path_formula.specs.declared.kinds.Kind.TheVariants.{Constant, Simple, Inside, Outside}
 use Rattle.path_cond.specs.Conditions.{Condition, Entry, meets, entry_holds, is_entry_on, is_simple_on, is_broken, is_broken_kind, first_broken, holds_at, in_domain}
 use Rattle.interval_solver.specs.Domains.{IsDomainOf, AreDomainsOf, first_empty}
-use Rattle.interval_solver.specs.Verdicts.{AreFitting, IsPossible, IsLeastPossible, AreLeastOfFirst, AreLeastValues, IsFirstWithoutValue, IsWithoutValue, IsVerdictOn, is_refuting, is_false, is_empty_verdict, is_settled, holds_if_settled}
+use Rattle.path_formula.specs.Typed.{AreValues}
+use Rattle.interval_solver.specs.Verdicts.{IsPossible, IsLeastPossible, AreLeastOfFirst, AreLeastValues, IsFirstWithoutValue, IsWithoutValue, IsVerdictOn, is_refuting, is_false, is_empty_verdict, is_settled, holds_if_settled}
 use Rattle.interval_solver.specs.declared.decide.SimpleVerdict.{SimpleVerdict}
 use Rattle.interval_solver.specs.declared.decide.SimpleVerdict.TheVariants.{Values, False, Empty}
 use Rattle.interval_solver.proofs.Firsts.{IsFirstAt, filled}
@@ -161,14 +162,14 @@ simple_meet law s values (e ∷ entries) h =
 -- what a verdict says of the condition
 pub refutes : ((f : FormulaTree) (truth : Bool) (values : List ℕ) → kind_of f ≡ Constant truth → truth_at f values ≡ truth)
     → ((f : FormulaTree) (s : SymId) (values : List ℕ) → kind_of f ≡ Simple s → truth_at f values ≡ truth_at f (alone s (slice_index values s.0)))
-    → (path : Condition) (verdict : SimpleVerdict) (values : List ℕ) → IsVerdictOn path verdict → is_refuting verdict ≡ true → AreFitting path.widths values → holds_at path values ≡ false
+    → (path : Condition) (verdict : SimpleVerdict) (values : List ℕ) → IsVerdictOn path verdict → is_refuting verdict ≡ true → AreValues path.widths values → holds_at path values ≡ false
 refutes constant simple path (Values least) values is refuting fits = cc
 refutes constant simple path (False pick) values is refuting fits = broken_false constant values 0 pick path.entries is
 refutes constant simple path (Empty s picks) values is refuting fits =
     let first = is.1 in
     not_true (holds_at path values) (λ holds.
     first.no_value (slice_index values s.0) (record {
-      fits = fits s (slice_index path.widths s.0) (slice_get-get_or path.widths s.0 0 first.known);
+      fits = fits s.0 (slice_index path.widths s.0) (slice_get-get_or path.widths s.0 0 first.known);
       meets = simple_meet simple s values path.entries holds;
     }))
 

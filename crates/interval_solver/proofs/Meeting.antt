@@ -15,8 +15,8 @@ use Rattle.path_formula.specs.Kinds.{kind_of}
 use Rattle.path_formula.specs.Solutions.{agrees, alone}
 use Rattle.path_formula.specs.View.{view}
 use Rattle.path_formula.specs.declared.kinds.Kind.TheVariants.{Simple}
-use Rattle.path_cond.specs.Conditions.{Condition, Entry, meets, entry_holds, is_entry_on, is_simple_on, in_domain, picks_from, simple_picks, AllTyped}
-use Rattle.interval_solver.specs.Domains.{is_possible, IsDomainOf, AreDomainsOf, AreDomainsOfFirst, AreDomainsBefore, AreDomainsBeforeLast, is_empty, with_width}
+use Rattle.path_cond.specs.Conditions.{Condition, Entry, meets, entry_holds, is_entry_on, is_simple_on, in_domain, picks_from, simple_picks, AllTyped, is_possible}
+use Rattle.interval_solver.specs.Domains.{IsDomainOf, AreDomainsOf, AreDomainsOfFirst, AreDomainsBefore, AreDomainsBeforeLast, is_empty, with_width}
 
 pub true_or_false : (b : Bool) → (b ≡ true) ⊎ (b ≡ false)
 true_or_false true = inl refl
@@ -59,7 +59,7 @@ and_fits true f h fits = ap (λ b. b && h) (fits refl)
 and_fits false f h fits = refl
 
 module _ (path : Condition) (sets : List RangeSet) (e : Entry) (before : AreDomainsBefore path sets e) where
-  possible_more : (s : SymId) (x : ℕ) → is_possible s (record { widths = path.widths; entries = before.entries }) x && meets s (alone s x) e ≡ is_possible s path x
+  possible_more : (s : SymId) (x : ℕ) → is_possible (record { widths = path.widths; entries = before.entries }) s x && meets s (alone s x) e ≡ is_possible path s x
   possible_more s x =
       let fits = fits_width (slice_index path.widths s.0) x in
       and_last fits (list_all (meets s (alone s x)) before.entries) (meets s (alone s x) e)

@@ -1,17 +1,13 @@
 -- Domains of the symbols of a condition.
-use Rattle.std.specs.Prelude.{◌≡◌, ℕ, Bool, true, false, ◌&&◌, ◌==◌, List, [], ◌∷◌, ◌++◌, min, Option, Some, None, length, slice_get, slice_index}
+use Rattle.std.specs.Prelude.{◌≡◌, ℕ, Bool, true, false, ◌==◌, List, [], ◌∷◌, ◌++◌, min, Option, Some, None, length, slice_get, slice_index}
 use Rattle.std.specs.List.{position_from}
-use Rattle.sn_ranges.specs.Ranges.{RangeSet, IsSetOf, fits_width}
+use Rattle.sn_ranges.specs.Ranges.{RangeSet, IsSetOf}
 use Rattle.sn_width.specs.declared.ids.SymId.{SymId}
-use Rattle.path_cond.specs.Conditions.{Condition, Entry, in_domain}
-
--- the number is a value of the symbol's width, and meets each formula that is simple on the symbol
-abbrev pub is_possible : SymId → Condition → ℕ → Bool
-is_possible s cond value = fits_width (slice_index cond.widths s.0) value && in_domain s cond value
+use Rattle.path_cond.specs.Conditions.{Condition, Entry, is_possible}
 
 -- the ranges of the symbol's domain: exactly the possible values
 abbrev pub IsDomainOf : Condition → SymId → RangeSet → Type 0
-IsDomainOf cond s set = IsSetOf (slice_index cond.widths s.0) (is_possible s cond) set
+IsDomainOf cond s set = IsSetOf (slice_index cond.widths s.0) (is_possible cond s) set
 
 -- one set for each of the first symbols, so many, each the domain of its symbol
 pub record AreDomainsOfFirst (cond : Condition) (number : ℕ) (sets : List RangeSet) : Type 0 where

@@ -1,5 +1,5 @@
 -- What the simple formulas of a condition decide.
-use Rattle.std.specs.Prelude.{◌≡◌, ℕ, ◌<◌, ◌≤◌, nat_lt, Bool, true, false, if◌then◌else◌, List, Some, None, length, slice_get, slice_index}
+use Rattle.std.specs.Prelude.{◌≡◌, ℕ, ◌<◌, ◌≤◌, nat_lt, Bool, true, false, if◌then◌else◌, List, Some, None, length, slice_index}
 use Rattle.sn_width.specs.Width.{FitsWidth}
 use Rattle.sn_width.specs.declared.ids.SymId.{SymId}
 use Rattle.path_formula.specs.Kinds.{kind_of}
@@ -9,10 +9,6 @@ use Rattle.path_formula.specs.declared.kinds.Kind.TheVariants.{Constant, Simple,
 use Rattle.path_cond.specs.Conditions.{Condition, Entry, entry_holds, in_domain, first_broken, simple_picks}
 use Rattle.interval_solver.specs.declared.decide.SimpleVerdict.{SimpleVerdict}
 use Rattle.interval_solver.specs.declared.decide.SimpleVerdict.TheVariants.{Values, False, Empty}
-
--- each number is a value of the width of the symbol of its place; where there is none it is 0
-abbrev pub AreFitting : List ℕ → List ℕ → Type 0
-AreFitting widths values = (s : SymId) (width : ℕ) → slice_get widths s.0 ≡ Some width → FitsWidth width (slice_index values s.0)
 
 -- the number is a value of the symbol's width, and meets each formula that is simple on the symbol
 pub record IsPossible (cond : Condition) (s : SymId) (value : ℕ) : Type 0 where

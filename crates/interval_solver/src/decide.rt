@@ -4,7 +4,8 @@ ghost use Rattle.std.specs.Prelude.{◌≡◌, ◌<◌, ℕ, true, false, [], Li
 ghost use Rattle.sn_ranges.specs.Ranges.{IsLeast, is_member};
 ghost use Rattle.path_cond.specs.Conditions.{first_broken, holds_at};
 ghost use Rattle.interval_solver.specs.Domains.{AreDomainsOf, first_empty};
-ghost use Rattle.interval_solver.specs.Verdicts.{AreFitting, AreLeastValues, IsVerdictOn, is_refuting};
+ghost use Rattle.path_formula.specs.Typed.{AreValues};
+ghost use Rattle.interval_solver.specs.Verdicts.{AreLeastValues, IsVerdictOn, is_refuting};
 
 use crate::domains::Domains;
 use crate::laws;
@@ -35,7 +36,7 @@ pub fn decide_simple(
     ensures broken { IfSome (first_broken cond.now) (λ pick. result ≡ Ok (SimpleVerdict.False pick)) }
     ensures verdict { IfOk result (IsVerdictOn cond.now) }
     ensures refuted { IfOk result (λ verdict. is_refuting verdict ≡ true → (values : List ℕ)
-        → AreFitting cond.now.widths values → holds_at cond.now values ≡ false) }
+        → AreValues cond.now.widths values → holds_at cond.now values ≡ false) }
 {
     laws::a_verdict_refutes();
     if let Some(pick) = cond.first_broken() {

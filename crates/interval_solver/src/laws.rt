@@ -7,7 +7,8 @@ ghost use Rattle.sn_ranges.specs.Ranges.{RangeSet};
 ghost use Rattle.sn_width.specs.declared.ids.SymId.{SymId as Symbol};
 ghost use Rattle.path_cond.specs.Conditions.{Condition, Entry, first_broken, holds_at};
 ghost use Rattle.interval_solver.specs.Domains.{AreDomainsOf, AreDomainsBeforeLast};
-ghost use Rattle.interval_solver.specs.Verdicts.{AreFitting, AreLeastValues, IsVerdictOn, IsWithoutValue, is_refuting, is_false, is_empty_verdict, holds_if_settled};
+ghost use Rattle.path_formula.specs.Typed.{AreValues};
+ghost use Rattle.interval_solver.specs.Verdicts.{AreLeastValues, IsVerdictOn, IsWithoutValue, is_refuting, is_false, is_empty_verdict, holds_if_settled};
 ghost use Rattle.interval_solver.specs.declared.decide.SimpleVerdict.{SimpleVerdict as Answer};
 
 /// A condition has one list of domains.
@@ -21,7 +22,7 @@ pub fn domains_are_unique()
 /// Where the verdict on a condition is False or Empty, no values that fit make the condition true.
 pub fn a_verdict_refutes()
     ensures { (cond : Condition) (verdict : Answer) (values : List ℕ) → IsVerdictOn cond verdict
-        → is_refuting verdict ≡ true → AreFitting cond.widths values → holds_at cond values ≡ false }
+        → is_refuting verdict ≡ true → AreValues cond.widths values → holds_at cond values ≡ false }
 {
     path_formula::laws::a_constant_formula_has_one_truth();
     path_formula::laws::a_simple_formula_may_stand_alone();

@@ -1,10 +1,10 @@
 -- Bounds, and lists of bounds that are met together.
-use Rattle.std.specs.Prelude.{◌≡◌, ℕ, ℤ, pos, ◌-ℤ◌, int_le, Bool, List, Option, Some, None, map, slice_index, slice_get}
+use Rattle.std.specs.Prelude.{ℕ, ℤ, pos, ◌-ℤ◌, int_le, Bool, List, Option, Some, None, map, slice_index}
 use Rattle.std.specs.Global.{Vec}
 use Rattle.std.specs.List.{list_all, list_any}
-use Rattle.sn_width.specs.Width.{FitsWidth}
 use Rattle.sn_width.specs.declared.ids.SymId.{SymId}
 use Rattle.path_cases.specs.declared.bound.SymBound.{SymBound}
+pub use Rattle.path_formula.specs.Typed.{AreValues}
 
 -- bounds that are to be met together
 abbrev pub Case : Type 0
@@ -33,7 +33,3 @@ is_case_met values case = list_all (is_met values) case
 -- the values meet each bound of one of the cases
 abbrev pub is_one_met : List ℕ → List Case → Bool
 is_one_met values cases = list_any (is_case_met values) cases
-
--- each symbol that has a width has a value of the width
-abbrev pub AreValues : List ℕ → List ℕ → Type 0
-AreValues widths values = (symbol width : ℕ) → slice_get widths symbol ≡ Some width → FitsWidth width (slice_index values symbol)

@@ -39,6 +39,10 @@ meets = any.meets view
 abbrev pub in_domain : SymId → Condition → ℕ → Bool
 in_domain = any.in_domain view
 
+-- the number is a value of the symbol's width, and meets each formula that is simple on the symbol
+abbrev pub is_possible : Condition → SymId → ℕ → Bool
+is_possible = any.is_possible view
+
 -- the formula is constant, and has not the truth that it must have
 abbrev pub is_broken : Entry → Bool
 is_broken = any.is_broken view

@@ -1,7 +1,8 @@
 -- Path conditions over any formulas, each of which is seen as a tree.
-use Rattle.std.specs.Prelude.{ℕ, Bool, true, false, not, ◌==◌, List, [], ◌∷◌, map, Option, if◌then◌else◌, suc}
+use Rattle.std.specs.Prelude.{ℕ, Bool, true, false, not, ◌&&◌, ◌==◌, List, [], ◌∷◌, map, Option, if◌then◌else◌, slice_index, suc}
 use Rattle.std.specs.List.{list_all, position_from}
 use Rattle.sn_width.specs.declared.ids.SymId.{SymId}
+use Rattle.sn_ranges.specs.Ranges.{fits_width}
 use Rattle.path_formula.specs.Formulas.{FormulaTree, truth_at}
 use Rattle.path_formula.specs.Kinds.{kind_of}
 use Rattle.path_formula.specs.Solutions.{agrees, alone}
@@ -51,6 +52,10 @@ module _ {X : Type 0} (tree : X → FormulaTree) where
   -- the value of the symbol meets each formula that is simple on the symbol
   abbrev pub in_domain : SymId → ConditionOf X → ℕ → Bool
   in_domain s cond value = list_all (meets s (alone s value)) cond.entries
+
+  -- the number is a value of the symbol's width, and meets each formula that is simple on the symbol
+  abbrev pub is_possible : ConditionOf X → SymId → ℕ → Bool
+  is_possible cond s value = fits_width (slice_index cond.widths s.0) value && in_domain s cond value
 
   abbrev pub is_broken : X × Bool → Bool
   is_broken entry = is_broken_kind entry.1 (kind_of (tree entry.0))

@@ -1,7 +1,12 @@
 -- Formulas whose terms and sets have one width each, over symbols of these widths.
-use Rattle.std.specs.Prelude.{◌≡◌, ℕ, List, [], ◌∷◌, Some, slice_get}
+use Rattle.std.specs.Prelude.{◌≡◌, ℕ, List, [], ◌∷◌, Some, slice_get, slice_index}
+use Rattle.sn_width.specs.Width.{FitsWidth}
 use Rattle.lin_term.specs.Terms.{Part, LinearTerm}
 use Rattle.path_formula.specs.Formulas.{FormulaTree, always, compared, belongs, all_of, any_of, opposite, Formulas, no_formulas, formula}
+
+-- each symbol that has a width has a value of the width; where there is none it is 0
+abbrev pub AreValues : List ℕ → List ℕ → Type 0
+AreValues widths values = (symbol width : ℕ) → slice_get widths symbol ≡ Some width → FitsWidth width (slice_index values symbol)
 
 -- each symbol of the parts is one of these, and has this width
 abbrev pub PartsAreTyped : List ℕ → ℕ → List Part → Type 0

@@ -1,15 +1,11 @@
 -- Conditions that are refuted, undecided or met, and what may be said to be the cause of the second.
-use Rattle.std.specs.Prelude.{ℕ, Bool, List, Option}
-use Rattle.sn_width.specs.declared.ids.SymId.{SymId}
+use Rattle.std.specs.Prelude.{ℕ, List, Option}
 use Rattle.path_formula.specs.View.{view}
 use Rattle.path_cond.specs.Conditions.{Condition}
+pub use Rattle.path_cond.specs.Conditions.{is_possible}
 use Rattle.refutation_check.specs.Seen as any
 use Rattle.refutation_check.specs.declared.outcome.Cause.{Cause}
 pub use Rattle.refutation_check.specs.Seen.{most_coupled, most_choices}
-
--- the number is a value of the symbol's width that meets each formula that is simple on the symbol
-abbrev pub is_possible : Condition → SymId → ℕ → Bool
-is_possible = any.is_possible view
 
 -- a symbol of the condition has no possible value
 abbrev pub HasEmptyDomain : Condition → Type 0

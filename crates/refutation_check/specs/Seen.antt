@@ -8,7 +8,8 @@ use Rattle.path_formula.specs.Formulas.{FormulaTree}
 use Rattle.path_formula.specs.Kinds.{kind_of}
 use Rattle.path_formula.specs.declared.kinds.Kind.{Kind}
 use Rattle.path_formula.specs.declared.kinds.Kind.TheVariants.{Constant, Simple, Inside, Outside}
-use Rattle.path_cond.specs.Seen.{ConditionOf, entry_holds, first_broken, in_domain}
+use Rattle.path_cond.specs.Seen.{ConditionOf, entry_holds, first_broken}
+pub use Rattle.path_cond.specs.Seen.{is_possible}
 use Rattle.path_cases.specs.Bounds.{AreValues, Case}
 use Rattle.path_cases.specs.Cases.{cases_of, with_bounds}
 use Rattle.path_cases.specs.Splits.{CanSplit}
@@ -79,15 +80,11 @@ module _ {X : Type 0} (tree : X → FormulaTree) where
   abbrev pub first_broken_outside : ConditionOf X → List ℕ → Option ℕ
   first_broken_outside cond values = position_from (is_broken_outside values) 0 cond.entries
 
-  -- the number is a value of the symbol's width that meets each formula that is simple on the symbol
-  abbrev pub is_possible : ConditionOf X → SymId → ℕ → Bool
-  is_possible cond s value = fits_width (slice_index cond.widths s.0) value && in_domain tree s cond value
-
   -- a symbol of the condition has no possible value
   pub record HasEmptyDomain (cond : ConditionOf X) : Type 0 where
     pub symbol : SymId
     pub known : symbol.0 < length cond.widths
-    pub no_value : (value : ℕ) → is_possible cond symbol value ≡ false
+    pub no_value : (value : ℕ) → is_possible tree cond symbol value ≡ false
 
   -- a constant formula has not the truth that it must have
   pub record HasBrokenConstant (cond : ConditionOf X) : Type 0 where
@@ -101,7 +98,7 @@ module _ {X : Type 0} (tree : X → FormulaTree) where
   -- no constant formula is broken, and each symbol has a possible value
   pub record IsSimplyOpen (cond : ConditionOf X) : Type 0 where
     pub unbroken : first_broken tree cond ≡ None
-    pub possible : (s : SymId) → s.0 < length cond.widths → (value : ℕ) × (is_possible cond s value ≡ true)
+    pub possible : (s : SymId) → s.0 < length cond.widths → (value : ℕ) × (is_possible tree cond s value ≡ true)
 
   -- few enough symbols are coupled, and there are few enough choices of cases
   pub record IsWithinLimits (cond : ConditionOf X) : Type 0 where
