@@ -15,3 +15,4 @@ pub mod Simple
 pub mod Solved
 pub mod Verdicts
 pub mod Words
+pub mod Unmet

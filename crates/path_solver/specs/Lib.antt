@@ -6,4 +6,5 @@ pub mod Origins
 pub mod Problems
 pub mod Solutions
 pub mod Unknowns
+pub mod Unmet
 pub mod Values

@@ -10,13 +10,14 @@ ghost use Rattle.refutation_check.specs.declared.outcome.Cause.{Cause as CauseOf
 ghost use Rattle.path_solver.specs.Decisions.{IsDecisionOn, IsSat, IsUnsat, IsUndecided, IsSettled, IsInFragment, HasNoInside, HasLeastValues};
 
 use crate::below::facts;
+use crate::choices::count_choices;
 use crate::laws::{
     sat_exactly_where_met, settled_in_the_fragment, simple_conditions_have_the_least_values,
     undecided_exactly_where_undecided, unsat_exactly_where_refuted,
 };
 use crate::outside::first_broken_outside;
 use crate::solve::{Solved, solve_cases};
-use case_counts::{case_count, coupled_symbols, first_without_cases};
+use case_counts::coupled_symbols;
 use interval_solver::{Domains, SimpleVerdict, decide_simple};
 use path_cond::PathCond;
 use path_cond::laws::each_formula_is_typed;
@@ -109,35 +110,33 @@ fn decide_open(
             cause: Cause::Coupled { count },
         });
     }
-    let count = case_count(alloc, cond)?;
+    // A formula without cases is not looked into, nor are the cases of the others.
+    if let Some(pick) = cond.first_without_cases() {
+        facts();
+        each_formula_is_typed();
+        cond.formulas_are_typed();
+        let refutation = one_step(alloc, Refute::Split { pick })?;
+        return Ok(Decided::Unsat { refutation });
+    }
+    let count = count_choices(alloc, cond, domains, symbols.as_slice())?;
     if count > MOST_CHOICES {
         return Ok(Decided::Undecided {
             cause: Cause::Cases { count },
         });
     }
-    // No choice at all: a formula without cases is not looked into, nor are the cases of the others.
-    if count == 0 {
-        facts();
-        each_formula_is_typed();
-        cond.formulas_are_typed();
-        if let Some(pick) = first_without_cases(alloc, cond)? {
-            let refutation = one_step(alloc, Refute::Split { pick })?;
-            return Ok(Decided::Unsat { refutation });
-        }
-    }
     match solve_cases(alloc, cond, domains, symbols.as_slice(), leasts)? {
         Solved::Refuted { refutation } => Ok(Decided::Unsat { refutation }),
-        Solved::Values { values } => settle(cond, values),
+        Solved::Values { values } => settle(alloc, cond, values),
     }
 }
 
 /// The decision where these are the least values that satisfy every formula that is not outside.
-fn settle(cond: &PathCond, values: Vec<Num>) -> Result<Decided, NoMemory>
+fn settle(alloc: Global, cond: &PathCond, values: Vec<Num>) -> Result<Decided, NoMemory>
     requires within { IsWithinLimits cond.now }
     requires least { AreLeast cond.now values.items }
     ensures { IfOk result (IsDecisionOn cond.now) }
 {
-    let broken = first_broken_outside(cond, values.as_slice())?;
+    let broken = first_broken_outside(alloc, cond, values.as_slice())?;
     let values = Listed::from_vec(values);
     match broken {
         None => Ok(Decided::Sat { values }),

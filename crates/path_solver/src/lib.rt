@@ -2,6 +2,7 @@
 #![tactic(auto)]
 
 mod below;
+mod choices;
 mod decision;
 pub mod laws;
 mod origin;

@@ -42,6 +42,6 @@ returns-in-Some c =
       c.len-count.ensures,
       c.if-count-gt-MOST_COUPLED.false,
     ) in
-    let first : first_without_cases cond ≡ Some c.in-Some.pick = sym c.in_ok-pick.ensures ∙ c.in-Some.is in
+    let first : first_without_cases cond ≡ Some c.in-Some.pick = sym c.first_without_cases.ensures ∙ c.in-Some.is in
     let both = split_refutes c.facts.ensures c.each_formula_is_typed.ensures cond c.in-Some.pick c.formulas_are_typed.ensures first few in
     (both.0, subst (λ (r : List Refute). IsAccepted cond r) (sym c.in_ok-refutation.ensures) both.1)
