@@ -1,5 +1,6 @@
 pub mod Ascending
 pub mod Atoms
+pub mod Bases
 pub mod Bridge
 pub mod Candidates
 pub mod Caseless

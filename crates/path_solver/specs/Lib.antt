@@ -1,3 +1,4 @@
+pub mod Bases
 pub mod Bounds
 pub mod Decisions
 pub mod Judged
