@@ -1,4 +1,4 @@
-use Rattle.std.proofs.Common.{◌≡◌, ◌≤◌, drop}
+use Rattle.std.proofs.Common.{◌≡◌, drop}
 use Rattle.std.specs.List.{list_all}
 use Rattle.refutation_check.specs.Least.{holds_unless_outside}
 use Rattle.path_solver.proofs.base.hold_from.Given as goal

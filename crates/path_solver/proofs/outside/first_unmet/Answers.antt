@@ -1,4 +1,4 @@
-use Rattle.std.proofs.Common.{◌≡◌, sym, ◌∙◌}
+use Rattle.std.proofs.Common.{sym, ◌∙◌}
 use Rattle.path_solver.specs.Unmet.{is_unmet_at}
 use Rattle.path_solver.proofs.Unmet.{found, passed}
 use Rattle.path_solver.proofs.outside.first_unmet.Goals as goal
