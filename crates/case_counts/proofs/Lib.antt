@@ -1,4 +1,5 @@
 pub mod Marking
+pub mod Picked
 pub mod Counting
 pub mod Narrowing
 pub mod Narrowness

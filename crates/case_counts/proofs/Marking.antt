@@ -1,29 +1,23 @@
 -- Marks of symbols.
-use Rattle.std.proofs.Common.{◌≡◌, ℕ, zero, suc, ◌+◌, ◌-◌, ◌<◌, Bool, true, false, cond, ◌||◌, List, [], ◌∷◌, ◌++◌, length, drop, take, get_or, Option, Some, None, refl, sym, ap, ◌∙◌, subst, arith}
-use Rattle.std.specs.Prelude.{slice_get, IfSome}
-use Rattle.std.specs.List.{All, list_any}
+use Rattle.std.proofs.Common.{◌≡◌, ℕ, zero, suc, ◌+◌, ◌-◌, ◌<◌, Bool, true, false, cond, ◌||◌, List, [], ◌∷◌, ◌++◌, length, drop, get_or, None, refl, sym, ap, ◌∙◌, arith}
+use Rattle.std.specs.Prelude.{slice_get}
+use Rattle.std.specs.List.{All}
 use Rattle.std.proofs.lemmas.List.{drop_more}
-use Rattle.std.proofs.lemmas.List.Folds.{list_any-append}
 use Rattle.sn_width.specs.declared.ids.SymId.{SymId}
 use Rattle.path_formula.specs.Formulas.{formula, Formulas}
 use Rattle.path_formula.specs.View.{view, views}
 use Rattle.path_formula.specs.declared.formula.Formula.{Formula}
 use Rattle.path_formula.specs.declared.kinds.Kind.{Kind}
 use Rattle.path_formula.specs.declared.kinds.Kind.TheVariants.{Constant, Simple, Inside, Outside}
-use Rattle.path_cond.specs.Conditions.{Condition, Entry}
-use Rattle.case_counts.specs.Coupled.{symbol_at, symbols_from, occurs_in, occurs_among, is_inside_kind, couples, is_coupled, coupled_symbols}
-use Rattle.case_counts.specs.Marks.{Adds, AreMarksOf, has_mark}
+use Rattle.path_cond.specs.Conditions.{Condition}
+use Rattle.case_counts.specs.Coupled.{symbol_at, symbols_from, occurs_in, occurs_among, is_inside_kind, is_coupled, coupled_symbols}
+use Rattle.case_counts.specs.Marks.{AreMarksOf, has_mark}
 
 -- a place in a list holds something
 pub not_missing : {X : Type 0} (xs : List X) (i : ℕ) → None ≡ slice_get xs i → i < length xs → ⊥
 not_missing [] i e h = omega arith
 not_missing (x ∷ xs) zero e h = cc
 not_missing (x ∷ xs) (suc i) e h = not_missing xs i e (omega arith)
-
-pub take_at : {X : Type 0} (xs : List X) (i : ℕ) (x : X) → slice_get xs i ≡ Some x → take (i + 1) xs ≡ take i xs ++ x ∷ []
-take_at [] i x e = cc
-take_at (y ∷ ys) zero x e = let same : y ≡ x = cc in ap (λ z. z ∷ []) same
-take_at (y ∷ ys) (suc i) x e = let next : suc i + 1 ≡ suc (i + 1) = omega arith in ap (λ k. take k (y ∷ ys)) next ∙ ap (λ zs. y ∷ zs) (take_at ys i x e)
 
 -- the first of the formulas that are left
 pub next_formula : (fs : List Formula) (i : ℕ) (f : Formula) → i < length fs → f ≡ get_or fs i f → views (drop i fs) ≡ formula (view f) (views (drop (i + 1) fs))
@@ -81,24 +75,6 @@ pub next_marked : (test : SymId → Bool) (place n : ℕ) (marked : Bool) → pl
     → symbols_from test place (n - place) ≡ cond marked (symbol_at place ∷ []) [] ++ symbols_from test (place + 1) (n - (place + 1))
 next_marked test place n marked lt is =
     next_symbol test place n lt ∙ ap (λ b. cond b (symbol_at place ∷ []) [] ++ symbols_from test (place + 1) (n - (place + 1))) is
-
--- marks of the formulas so far, once one formula more has been looked at
-next_by : (n : ℕ) (entries : List Entry) (i : ℕ) (old new : List Bool) (o : Option Entry) → slice_get entries i ≡ o → i < length entries
-    → AreMarksOf n (λ s. list_any (couples s) (take i entries)) old → IfSome o (λ e. Adds old new (λ s. couples s e))
-    → AreMarksOf n (λ s. list_any (couples s) (take (i + 1) entries)) new
-next_by n entries i old new None is lt marks adds = absurd (not_missing entries i (sym is) lt)
-next_by n entries i old new (Some e) is lt marks adds = record {
-  count_is = adds.count ∙ marks.count_is;
-  marks_are = λ s below.
-      adds.marks s (subst (λ k. s.0 < k) (sym marks.count_is) below) ∙ ap (λ b. b || couples s e) (marks.marks_are s below)
-      ∙ sym (ap (list_any (couples s)) (take_at entries i e is) ∙ list_any-append (couples s) (take i entries) (e ∷ [])
-      ∙ ap (λ b. list_any (couples s) (take i entries) || b) (or_none (couples s e)));
-}
-
-pub next_entry : (n : ℕ) (entries : List Entry) (i : ℕ) (old new : List Bool) → i < length entries
-    → AreMarksOf n (λ s. list_any (couples s) (take i entries)) old → IfSome (slice_get entries i) (λ e. Adds old new (λ s. couples s e))
-    → AreMarksOf n (λ s. list_any (couples s) (take (i + 1) entries)) new
-next_entry n entries i old new lt marks adds = next_by n entries i old new (slice_get entries i) refl lt marks adds
 
 -- the symbols that have a mark are those of the test
 pub marked_are : (n : ℕ) (test : SymId → Bool) (marks : List Bool) → AreMarksOf n test marks → symbols_from (has_mark marks) 0 (length marks) ≡ symbols_from test 0 n

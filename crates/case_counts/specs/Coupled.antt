@@ -5,10 +5,7 @@ use Rattle.path_formula.specs.View.{view}
 use Rattle.path_cond.specs.Conditions.{Condition, Entry}
 use Rattle.case_counts.specs.Seen as any
 pub use Rattle.case_counts.specs.Occurring.{is_part_of, stands_in, occurs_in, occurs_among, is_inside_kind, symbol_at, symbols_from}
-
--- the formula is inside
-abbrev pub is_inside : Entry → Bool
-is_inside = any.is_inside view
+pub use Rattle.path_cond.specs.Summaries.{is_inside}
 
 -- the formula is inside, and the symbol occurs in it
 abbrev pub couples : SymId → Entry → Bool

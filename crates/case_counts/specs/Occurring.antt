@@ -1,13 +1,12 @@
 -- The symbols that occur in a formula.
-use Rattle.std.specs.Prelude.{ℕ, zero, suc, ◌==◌, Bool, true, false, ◌||◌, List, [], ◌∷◌, if◌then◌else◌}
+use Rattle.std.specs.Prelude.{ℕ, zero, suc, ◌==◌, Bool, false, ◌||◌, List, [], ◌∷◌, if◌then◌else◌}
 use Rattle.std.specs.List.{list_any}
 use Rattle.sn_width.specs.declared.ids.SymId.{SymId}
 use Rattle.lin_term.specs.Terms.{Part}
 use Rattle.path_formula.specs.Atoms.{comparison_kind, membership_kind}
 use Rattle.path_formula.specs.Formulas.{FormulaTree, always, compared, belongs, all_of, any_of, opposite, Formulas, no_formulas, formula}
 use Rattle.path_formula.specs.Kinds.{is_constant_kind}
-use Rattle.path_formula.specs.declared.kinds.Kind.{Kind}
-use Rattle.path_formula.specs.declared.kinds.Kind.TheVariants.{Constant, Simple, Inside, Outside}
+pub use Rattle.path_cond.specs.Kept.{is_inside_kind}
 
 -- the part is one of the symbol
 abbrev pub is_part_of : SymId → Part → Bool
@@ -31,12 +30,6 @@ abbrev mutual
   pub occurs_among : SymId → Formulas → Bool
   occurs_among s no_formulas = false
   occurs_among s (formula f fs) = occurs_in s f || occurs_among s fs
-
-abbrev pub is_inside_kind : Kind → Bool
-is_inside_kind (Constant truth) = false
-is_inside_kind (Simple s) = false
-is_inside_kind Inside = true
-is_inside_kind Outside = false
 
 -- the symbol of a place
 abbrev pub symbol_at : ℕ → SymId

@@ -1,8 +1,11 @@
 -- Formulas of a condition that stand at picks.
-use Rattle.std.specs.Prelude.{ℕ, Bool, List}
+use Rattle.std.specs.Prelude.{ℕ, Bool, List, [], ◌∷◌, Option, Some, None, slice_get, if◌then◌else◌}
+use Rattle.std.specs.List.{list_all}
 use Rattle.sn_width.specs.declared.ids.SymId.{SymId}
 use Rattle.path_formula.specs.View.{view}
 use Rattle.path_cond.specs.Conditions.{Condition}
+use Rattle.path_cond.specs.Summaries.{is_inside}
+use Rattle.case_counts.specs.Coupled.{couples}
 use Rattle.case_counts.specs.Seen as any
 pub use Rattle.case_counts.specs.Seen.{passes}
 
@@ -21,3 +24,20 @@ are_simple_picks = any.are_simple_picks view
 -- the number, as the value of the symbol, meets the formulas of the picks
 abbrev pub meets_picks : SymId → Condition → List ℕ → ℕ → Bool
 meets_picks = any.meets_picks view
+
+-- the condition has a formula of the pick, and it is inside
+abbrev pub is_inside_pick : Condition → ℕ → Bool
+is_inside_pick cond pick = passes is_inside (slice_get cond.entries pick)
+
+-- each of the picks is of an inside formula
+abbrev pub are_inside_picks : Condition → List ℕ → Bool
+are_inside_picks cond picks = list_all (is_inside_pick cond) picks
+
+-- the condition has a formula of the pick, and it couples the symbol
+abbrev pub couples_at : Condition → SymId → ℕ → Bool
+couples_at cond s pick = passes (couples s) (slice_get cond.entries pick)
+
+-- the first of the picks that passes the test
+abbrev pub first_where : (ℕ → Bool) → List ℕ → Option ℕ
+first_where test [] = None
+first_where test (pick ∷ picks) = if test pick then Some pick else first_where test picks

@@ -1,21 +1,17 @@
 -- What couples symbols and how many choices there are, in conditions over any formulas that are seen as trees.
-use Rattle.std.specs.Prelude.{ℕ, ◌*◌, ◌==◌, Bool, false, ◌&&◌, List, [], ◌∷◌, Option, Some, None, map, length, slice_get, slice_index, if◌then◌else◌}
-use Rattle.std.specs.List.{list_all, list_any, position_from}
+use Rattle.std.specs.Prelude.{ℕ, ◌*◌, Bool, false, ◌&&◌, List, Option, Some, None, map, length, slice_get, slice_index}
+use Rattle.std.specs.List.{list_all, list_any}
 use Rattle.sn_width.specs.declared.ids.SymId.{SymId}
 use Rattle.sn_ranges.specs.Ranges.{Range}
 use Rattle.path_formula.specs.Formulas.{FormulaTree}
-use Rattle.path_formula.specs.Kinds.{kind_of}
 use Rattle.path_formula.specs.Solutions.{alone}
 use Rattle.path_cond.specs.Seen.{ConditionOf, entry_holds, in_domain, is_entry_on}
 use Rattle.path_cases.specs.Bounds.{Case}
-use Rattle.path_cases.specs.Cases.{cases_of, single_cases}
+use Rattle.path_cases.specs.Cases.{single_cases}
 use Rattle.path_cases.specs.Counts.{capped}
 use Rattle.sn_ranges.specs.Sets.{ranges_where}
-use Rattle.case_counts.specs.Occurring.{is_inside_kind, occurs_in, symbols_from}
-
-abbrev pub product : List ℕ → ℕ
-product [] = 1
-product (n ∷ ns) = n * product ns
+use Rattle.case_counts.specs.Occurring.{occurs_in, symbols_from}
+pub use Rattle.path_cond.specs.Kept.{product, is_inside, entry_case_count, formula_choices, has_no_cases, first_without_cases}
 
 -- there is a formula, and it passes the test
 abbrev pub passes : {E : Type 0} → (E → Bool) → Option E → Bool
@@ -23,13 +19,9 @@ passes test None = false
 passes test (Some entry) = test entry
 
 module _ {X : Type 0} (tree : X → FormulaTree) where
-  -- the formula is inside
-  abbrev pub is_inside : X × Bool → Bool
-  is_inside entry = is_inside_kind (kind_of (tree entry.0))
-
   -- the formula is inside, and the symbol occurs in it
   abbrev pub couples : SymId → X × Bool → Bool
-  couples s entry = is_inside entry && occurs_in s (tree entry.0)
+  couples s entry = is_inside tree entry && occurs_in s (tree entry.0)
 
   -- the symbol occurs in an inside formula of the condition
   abbrev pub is_coupled : ConditionOf X → SymId → Bool
@@ -55,14 +47,6 @@ module _ {X : Type 0} (tree : X → FormulaTree) where
   abbrev pub range_count : ConditionOf X → SymId → ℕ
   range_count cond s = length (domain_ranges cond s)
 
-  -- the number of cases of an inside formula, with the truth that it must have; 1 for any other
-  abbrev pub entry_case_count : X × Bool → ℕ
-  entry_case_count entry = if is_inside entry then length (cases_of (tree entry.0) entry.1) else 1
-
-  -- the number of choices of a case of each inside formula
-  abbrev pub formula_choices : ConditionOf X → ℕ
-  formula_choices cond = product (map entry_case_count cond.entries)
-
   -- the number of choices of a range of the domain of each coupled symbol
   abbrev pub range_choices : ConditionOf X → ℕ
   range_choices cond = product (map (range_count cond) (coupled_symbols cond))
@@ -70,15 +54,7 @@ module _ {X : Type 0} (tree : X → FormulaTree) where
   -- the number of choices of a case of each inside formula and of a range of the domain of each coupled symbol, and
   -- 2^64 - 1 where there are more
   abbrev pub choice_count : ConditionOf X → ℕ
-  choice_count cond = capped (formula_choices cond * range_choices cond)
-
-  -- the formula is inside and has no cases
-  abbrev pub has_no_cases : X × Bool → Bool
-  has_no_cases entry = entry_case_count entry == 0
-
-  -- the least pick of a formula without cases
-  abbrev pub first_without_cases : ConditionOf X → Option ℕ
-  first_without_cases cond = position_from has_no_cases 0 cond.entries
+  choice_count cond = capped (formula_choices tree cond * range_choices cond)
 
   -- the condition has a formula of the pick, and it is simple on the symbol
   abbrev pub is_simple_pick : SymId → ConditionOf X → ℕ → Bool

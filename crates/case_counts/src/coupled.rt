@@ -1,11 +1,14 @@
 //! The symbols that occur in the inside formulas of a condition.
 
-ghost use Rattle.std.specs.Prelude.{◌≡◌, IfOk, length};
-ghost use Rattle.case_counts.specs.Coupled.{is_coupled, coupled_symbols, coupled_count};
+ghost use Rattle.std.specs.Prelude.{◌≡◌, true, IfOk, length};
+ghost use Rattle.std.specs.List.{list_any};
+ghost use Rattle.case_counts.specs.Coupled.{coupled_symbols, coupled_count};
 ghost use Rattle.case_counts.specs.Coupled.{symbols_from};
 ghost use Rattle.case_counts.specs.Marks.{AreMarksOf, has_mark};
+ghost use Rattle.case_counts.specs.Picks.{are_inside_picks, couples_at};
 
 use crate::marks::mark_entry;
+use crate::picks::inside_picks;
 use path_cond::PathCond;
 use sn_width::{NoMemory, SymId};
 use std::alloc::Global;
@@ -20,15 +23,16 @@ pub fn formula_count(cond: &PathCond) -> Result<u32, NoMemory>
     }
 }
 
-/// A mark for each symbol of the condition: whether it is coupled.
-fn marks_of(alloc: Global, cond: &PathCond) -> Result<Vec<bool>, NoMemory>
-    ensures { IfOk result (λ marks. AreMarksOf (length cond.now.widths) (is_coupled cond.now) marks.items) }
+/// A mark for each symbol of the condition: whether a formula of these picks, which are inside, couples it.
+fn marks_of(alloc: Global, cond: &PathCond, picks: &[u32]) -> Result<Vec<bool>, NoMemory>
+    requires { are_inside_picks cond.now picks.now ≡ true }
+    ensures { IfOk result (λ marks. AreMarksOf (length cond.now.widths)
+        (λ s. list_any (couples_at cond.now s) picks.now) marks.items) }
 {
-    let count = formula_count(cond)?;
     let symbols = cond.symbols() as usize;
     let mut marks = vec![in alloc; false; symbols]?;
-    for pick in 0..count {
-        mark_entry(&mut marks, cond, pick);
+    for pick in picks {
+        mark_entry(&mut marks, cond, *pick);
     }
     Ok(marks)
 }
@@ -51,7 +55,8 @@ fn marked(alloc: Global, marks: &[bool]) -> Result<Vec<SymId>, NoMemory>
 pub fn coupled_symbols(alloc: Global, cond: &PathCond) -> Result<Vec<SymId>, NoMemory>
     ensures { IfOk result (λ symbols. symbols.items ≡ coupled_symbols cond.now) }
 {
-    let marks = marks_of(alloc, cond)?;
+    let picks = inside_picks(alloc, cond)?;
+    let marks = marks_of(alloc, cond, &picks)?;
     marked(alloc, &marks)
 }
 

@@ -7,6 +7,6 @@ pub mod laws;
 mod marks;
 mod picks;
 
-pub use count::{case_count, case_count_with, first_without_cases};
+pub use count::{case_count, case_count_with};
 pub use coupled::{coupled_count, coupled_symbols, formula_count};
-pub use picks::{domain_of, values_meeting};
+pub use picks::{domain_of, inside_picks, outside_picks, values_meeting};

@@ -1,18 +1,19 @@
 //! Marks of the symbols that occur in a formula.
 
-ghost use Rattle.std.specs.Prelude.{◌≡◌, ◌==◌, ◌||◌, ◌<◌, length, IfSome, slice_get};
+ghost use Rattle.std.specs.Prelude.{◌≡◌, ◌==◌, ◌||◌, true};
 ghost use Rattle.path_formula.specs.Kinds.{is_constant_kind};
 ghost use Rattle.path_formula.specs.Terms.{shape_of};
 ghost use Rattle.path_formula.specs.View.{view, views};
 ghost use Rattle.path_cases.specs.Splits.{CanSplit, EachCanSplit};
-ghost use Rattle.case_counts.specs.Coupled.{stands_in, occurs_in, occurs_among, couples, is_inside_kind};
+ghost use Rattle.case_counts.specs.Coupled.{stands_in, occurs_in, occurs_among};
 ghost use Rattle.case_counts.specs.Marks.{Adds, IsPlain};
+ghost use Rattle.case_counts.specs.Picks.{couples_at, is_inside_pick};
 
 use lin_term::Term;
 use path_cases::laws::an_inside_formula_has_cases;
 use path_cond::PathCond;
 use path_cond::laws::each_formula_is_typed;
-use path_formula::{AtomKind, Formula, Kind, Shape};
+use path_formula::{AtomKind, Formula, Shape};
 use sn_width::SymId;
 
 /// Marks the symbol, where it has a place.
@@ -93,33 +94,16 @@ fn mark_all(marks: &mut Vec<bool>, parts: &Vec<Formula>)
     }
 }
 
-/// Whether the kind is inside.
-pub(crate) fn is_inside(kind: Kind) -> bool
-    ensures { result ≡ is_inside_kind kind }
-{
-    match kind {
-        Kind::Constant(_) => false,
-        Kind::Simple { .. } => false,
-        Kind::Inside => true,
-        Kind::Outside => false,
-    }
-}
-
-/// Marks the symbols that the formula of the pick couples.
+/// Marks the symbols that the formula of the pick, which is inside, couples.
 pub(crate) fn mark_entry(marks: &mut Vec<bool>, cond: &PathCond, pick: u32)
-    requires { pick < length cond.now.entries }
-    ensures { IfSome (slice_get cond.now.entries pick)
-        (λ entry. Adds marks.old.items marks.new.items (λ s. couples s entry)) }
+    requires { is_inside_pick cond.now pick ≡ true }
+    ensures { Adds marks.old.items marks.new.items (λ s. couples_at cond.now s pick) }
 {
     cond.formulas_are_typed();
     each_formula_is_typed();
     an_inside_formula_has_cases();
     match cond.entry(pick) {
         None => unreachable!(),
-        Some((formula, _)) => {
-            if is_inside(formula.kind()) {
-                mark_formula(marks, formula);
-            }
-        }
+        Some((formula, _)) => mark_formula(marks, formula),
     }
 }

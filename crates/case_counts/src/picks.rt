@@ -4,7 +4,8 @@ ghost use Rattle.std.specs.Prelude.{◌≡◌, ◌<◌, ◌&&◌, true, false, S
 ghost use Rattle.sn_ranges.specs.Ranges.{IsSetOf, IsCanonical, fits_width, is_member};
 ghost use Rattle.path_formula.specs.Solutions.{alone};
 ghost use Rattle.path_cond.specs.Conditions.{in_domain, simple_picks};
-ghost use Rattle.case_counts.specs.Picks.{is_simple_pick, pick_holds, are_simple_picks, meets_picks};
+ghost use Rattle.path_cond.specs.Summaries.{inside_picks as picks_inside, outside_picks as picks_outside};
+ghost use Rattle.case_counts.specs.Picks.{is_simple_pick, pick_holds, are_simple_picks, meets_picks, are_inside_picks};
 
 use path_cond::PathCond;
 use path_cond::laws::each_formula_is_typed;
@@ -103,4 +104,30 @@ pub fn domain_of(alloc: Global, cond: &PathCond, symbol: SymId) -> Result<Ranges
 {
     let picks = picks_on(alloc, cond.simple_picks(symbol))?;
     values_meeting(alloc, cond, symbol, &picks)
+}
+
+/// The picks from the oldest on; they stand the newest first.
+fn ascending(alloc: Global, picks: &Shared<u32>) -> Result<Vec<u32>, NoMemory>
+    ensures { IfOk result (λ list. list.items ≡ reverse picks.now) }
+{
+    let mut list: Vec<u32> = picks.iter().copied().collect(alloc)?;
+    list.reverse();
+    Ok(list)
+}
+
+/// The picks of the inside formulas, ascending.
+#[tactic(auto, using(crate::proofs::Picked::reversed_twice, crate::proofs::Picked::inside_are_inside))]
+pub fn inside_picks(alloc: Global, cond: &PathCond) -> Result<Vec<u32>, NoMemory>
+    ensures all { IfOk result (λ picks. picks.items ≡ picks_inside cond.now) }
+    ensures inside { IfOk result (λ picks. are_inside_picks cond.now picks.items ≡ true) }
+{
+    ascending(alloc, cond.inside_picks())
+}
+
+/// The picks of the outside formulas, ascending.
+#[tactic(auto, using(crate::proofs::Picked::reversed_twice))]
+pub fn outside_picks(alloc: Global, cond: &PathCond) -> Result<Vec<u32>, NoMemory>
+    ensures { IfOk result (λ picks. picks.items ≡ picks_outside cond.now) }
+{
+    ascending(alloc, cond.outside_picks())
 }

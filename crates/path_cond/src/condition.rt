@@ -9,6 +9,8 @@ ghost use Rattle.path_formula.specs.View.{view};
 use crate::domain::{all_hold, solutions_in};
 use crate::kept::{broken_with, simple_with};
 use crate::sequence::Sequence;
+use crate::summary::Summary;
+use path_cases::laws::an_inside_formula_has_cases;
 use path_formula::Formula;
 use path_formula::laws::a_simple_formula_is_over_its_symbol;
 use sn_ranges::Ranges;
@@ -28,12 +30,15 @@ pub struct PathCond {
     broken: Option<u32>,
     /// For each symbol that has one, the picks of its simple formulas, the newest first.
     simple: Tree<u64, Shared<u32>>,
+    /// What else is kept of the formulas.
+    summary: Summary,
 }
 
 impl Model for PathCond {
     ghost use Rattle.std.specs.Coded.{codes};
     ghost use Rattle.path_formula.specs.contracts.formula.Formula as the_formula;
     ghost use Rattle.path_cond.specs.Conditions.{Condition, IsKept};
+    ghost use Rattle.path_cond.specs.Summaries.{IsKnown};
 
     ghost Value = { Condition };
 
@@ -41,11 +46,13 @@ impl Model for PathCond {
 
     ghost view = { λ c. record { widths = c.widths; entries = c.entries } };
 
-    ghost invariant = { λ c. IsKept c.widths c.entries c.broken c.simple };
+    ghost invariant = { λ c. IsKept c.widths c.entries c.broken c.simple × IsKnown c.entries c.summary };
 }
 
 impl PathCond {
     ghost use Rattle.path_cond.specs.Conditions.{AllTyped, Condition, first_broken, holds_at, in_domain, simple_picks};
+    ghost use Rattle.path_cond.specs.Summaries.{formula_choices, first_without_cases, inside_picks, outside_picks};
+    ghost use Rattle.path_cases.specs.Counts.{capped};
 
     /// The condition without formulas over symbols of these widths.
     pub fn new(alloc: Global, widths: Vec<Width>) -> Result<PathCond, NoMemory>
@@ -57,6 +64,7 @@ impl PathCond {
             entries: Sequence::empty(),
             broken: None,
             simple: Tree::empty(),
+            summary: Summary::new(),
         })
     }
 
@@ -67,6 +75,7 @@ impl PathCond {
         let widths = self.widths.fork()?;
         let entries = self.entries.fork()?;
         let broken = self.broken;
+        let summary = self.summary.fork()?;
         match self.simple.fork() {
             Err(_) => Err(NoMemory),
             Ok(simple) => Ok(PathCond {
@@ -74,6 +83,7 @@ impl PathCond {
                 entries,
                 broken,
                 simple,
+                summary,
             }),
         }
     }
@@ -118,6 +128,7 @@ impl PathCond {
         let widths = self.widths.push(alloc, width)?;
         let entries = self.entries.fork()?;
         let broken = self.broken;
+        let summary = self.summary.fork()?;
         match self.simple.fork() {
             Err(_) => Err(NoMemory),
             Ok(simple) => Ok(PathCond {
@@ -125,6 +136,7 @@ impl PathCond {
                 entries,
                 broken,
                 simple,
+                summary,
             }),
         }
     }
@@ -139,6 +151,8 @@ impl PathCond {
         let pick = self.entries.len();
         let broken = broken_with(self.broken, kind, holds, pick);
         let simple = simple_with(alloc, &self.simple, kind, pick)?;
+        an_inside_formula_has_cases();
+        let summary = self.summary.with(alloc, &formula, holds, kind, pick)?;
         let widths = self.widths.fork()?;
         let entries = self.entries.push(alloc, (formula, holds))?;
         Ok(PathCond {
@@ -146,6 +160,7 @@ impl PathCond {
             entries,
             broken,
             simple,
+            summary,
         })
     }
 
@@ -190,5 +205,33 @@ impl PathCond {
         ensures { unwrap_or (option_copied result) [] ≡ reverse (simple_picks symbol self.now) }
     {
         self.simple.get(&symbol.0)
+    }
+
+    /// The picks of the inside formulas, the newest first.
+    pub fn inside_picks(&self) -> &Shared<u32>
+        ensures { result.now ≡ reverse (inside_picks self.now) }
+    {
+        &self.summary.inside
+    }
+
+    /// The picks of the outside formulas, the newest first.
+    pub fn outside_picks(&self) -> &Shared<u32>
+        ensures { result.now ≡ reverse (outside_picks self.now) }
+    {
+        &self.summary.outside
+    }
+
+    /// The number of choices of a case of each inside formula, and `2^64 - 1` where there are more.
+    pub fn formula_choices(&self) -> u64
+        ensures { result ≡ capped (formula_choices self.now) }
+    {
+        self.summary.choices
+    }
+
+    /// The least pick of an inside formula without cases.
+    pub fn first_without_cases(&self) -> Option<u32>
+        ensures { result ≡ first_without_cases self.now }
+    {
+        self.summary.caseless
     }
 }

@@ -6,5 +6,6 @@ mod domain;
 mod kept;
 pub mod laws;
 mod sequence;
+mod summary;
 
 pub use condition::PathCond;

@@ -1,21 +1,36 @@
 -- Choices that are gathered one by one.
-use Rattle.std.proofs.Common.{◌≡◌, ℕ, zero, suc, ◌+◌, ◌<◌, Bool, true, false, cond, nat_eq, List, [], ◌∷◌, ◌++◌, map, take, length, get_or, refl, sym, ap, ◌∙◌, arith, append_assoc}
-use Rattle.std.specs.Prelude.{slice_get}
-use Rattle.std.proofs.lemmas.List.{map_push, map_more}
+use Rattle.std.proofs.Common.{◌≡◌, ℕ, zero, suc, ◌+◌, ◌<◌, ◌≤◌, Bool, true, false, cond, ◌&&◌, nat_eq, List, [], ◌∷◌, ◌++◌, map, take, length, get_or, refl, sym, ap, subst, ◌∙◌, arith, append_assoc}
+use Rattle.std.specs.List.{list_all}
+use Rattle.std.proofs.lemmas.List.{map_push, map_more, take_all}
 use Rattle.std.proofs.lemmas.Bool.{eq-eqb}
 use Rattle.sn_width.specs.declared.ids.SymId.{SymId}
 use Rattle.case_search.specs.Choices.{lists_of, cases_of}
 use Rattle.case_search.specs.declared.choice.Choice.{Choice}
 use Rattle.path_cond.specs.Conditions.{Condition, Entry}
 use Rattle.path_cases.specs.Bounds.{Case}
+use Rattle.path_cond.specs.Summaries.{inside_picks, picks_where}
 use Rattle.case_counts.specs.Coupled.{coupled_symbols, is_inside}
-use Rattle.path_solver.specs.Origins.{cases_from, choices_from, formula_origins}
-use Rattle.path_solver.specs.Problems.{IsProblem, one_origin}
+use Rattle.case_counts.specs.Picks.{is_inside_pick, are_inside_picks}
+use Rattle.path_solver.specs.Origins.{cases_from, choices_from, formula_origins, origins_of}
+use Rattle.path_solver.specs.Problems.{IsProblem}
 use Rattle.path_solver.specs.Unknowns.{is_listed, choice_of}
 use Rattle.path_solver.specs.declared.origin.Origin.{Origin}
 use Rattle.path_solver.specs.declared.origin.Origin.TheVariants.{Ranges, Cases}
 use Rattle.path_solver.specs.declared.problem.Problem.{Problem}
 use Rattle.path_solver.proofs.Atoms.{or_left, or_right}
+
+and_first : (a b : Bool) → (a && b) ≡ true → a ≡ true
+and_first true b h = refl
+and_first false b h = cc
+
+and_second : (a b : Bool) → (a && b) ≡ true → b ≡ true
+and_second true b h = h
+and_second false b h = cc
+
+all_get : (p : ℕ → Bool) (xs : List ℕ) (i : ℕ) → list_all p xs ≡ true → i < length xs → p (get_or xs i 0) ≡ true
+all_get p [] i h lt = absurd (omega arith)
+all_get p (x ∷ xs) zero h lt = and_first (p x) (list_all p xs) h
+all_get p (x ∷ xs) (suc i) h lt = all_get p xs i (and_second (p x) (list_all p xs) h) (omega arith)
 
 pub problem_push : (cond : Condition) (origins : List Origin) (o : Origin) (old new : Problem) (choice : Choice)
     (cases : List Case) → cases_of choice ≡ choice_of (coupled_symbols cond) cases → cases ≡ cases_from cond o
@@ -43,36 +58,34 @@ pub next_symbol : (symbols : List SymId) (i : ℕ) (s : SymId) → i < length sy
 next_symbol symbols i s lt e =
     map_more Ranges symbols i s lt ∙ ap (λ (r : SymId). map Ranges (take i symbols) ++ Ranges r ∷ []) (sym e)
 
-one_by : (b : Bool) (pick : ℕ) (rest more : List Origin)
-    → cond b (Cases pick ∷ (rest ++ more)) (rest ++ more) ≡ cond b (Cases pick ∷ rest) rest ++ more
-one_by true pick rest more = refl
-one_by false pick rest more = refl
+cases_by : (b : Bool) (pick : ℕ) (picks : List ℕ) (rest : List Origin) → map Cases picks ≡ rest
+    → map Cases (cond b (pick ∷ picks) picks) ≡ cond b (Cases pick ∷ rest) rest
+cases_by true pick picks rest h = ap (λ os. Cases pick ∷ os) h
+cases_by false pick picks rest h = h
 
--- the origins of one formula more
-pub formulas_more : (pick i : ℕ) (entries : List Entry) → i < length entries
-    → formula_origins pick (take (suc i) entries)
-    ≡ formula_origins pick (take i entries) ++ one_origin (pick + i) (slice_get entries i)
-formulas_more pick i [] lt = absurd (omega arith)
-formulas_more pick zero (e ∷ entries) lt =
-    let p : pick ≡ pick + 0 = omega arith in ap (λ (n : ℕ). cond (is_inside e) (Cases n ∷ []) []) p
-formulas_more pick (suc i) (e ∷ entries) lt =
-    let p : suc pick + i ≡ pick + suc i = omega arith in
-    let rest = formulas_more (suc pick) i entries (omega arith) in
-    ap (λ (os : List Origin). cond (is_inside e) (Cases pick ∷ os) os) rest
-    ∙ one_by (is_inside e) pick (formula_origins (suc pick) (take i entries)) (one_origin (suc pick + i) (slice_get entries i))
-    ∙ ap (λ (n : ℕ). cond (is_inside e) (Cases pick ∷ formula_origins (suc pick) (take i entries))
-    (formula_origins (suc pick) (take i entries)) ++ one_origin n (slice_get entries i)) p
+cases_from_pick : (pick : ℕ) (entries : List Entry) → map Cases (picks_where is_inside pick entries) ≡ formula_origins pick entries
+cases_from_pick pick [] = refl
+cases_from_pick pick (e ∷ entries) =
+    cases_by (is_inside e) pick (picks_where is_inside (suc pick) entries) (formula_origins (suc pick) entries) (cases_from_pick (suc pick) entries)
 
-pub next_formula : (c : Condition) (i : ℕ) → i < length c.entries
-    → map Ranges (coupled_symbols c) ++ formula_origins 0 (take (i + 1) c.entries)
-    ≡ (map Ranges (coupled_symbols c) ++ formula_origins 0 (take i c.entries)) ++ one_origin i
-    (slice_get c.entries i)
-next_formula c i lt =
-    let p : i + 1 ≡ suc i = omega arith in
-    let q : 0 + i ≡ i = omega arith in
-    ap (λ (n : ℕ). map Ranges (coupled_symbols c) ++ formula_origins 0 (take n c.entries)) p
-    ∙ ap (λ (os : List Origin). map Ranges (coupled_symbols c) ++ os) (formulas_more 0 i c.entries lt)
-    ∙ ap (λ (n : ℕ). map Ranges (coupled_symbols c) ++
-    (formula_origins 0 (take i c.entries) ++ one_origin n (slice_get c.entries i))) q
-    ∙ sym (append_assoc (map Ranges (coupled_symbols c)) (formula_origins 0 (take i c.entries))
-    (one_origin i (slice_get c.entries i)))
+-- the origins of the inside formulas are those of their picks
+pub picks_are_origins : (c : Condition) → map Ranges (coupled_symbols c) ++ map Cases (inside_picks c) ≡ origins_of c
+picks_are_origins c = ap (λ (os : List Origin). map Ranges (coupled_symbols c) ++ os) (cases_from_pick 0 c.entries)
+
+-- the problem of all picks of inside formulas is that of the condition
+pub whole_problem : (c : Condition) (picks : List ℕ) (i : ℕ) (p : Problem) → length picks ≤ i → picks ≡ inside_picks c
+    → IsProblem c (map Ranges (coupled_symbols c) ++ map Cases (take i picks)) p → IsProblem c (origins_of c) p
+whole_problem c picks i p le is h =
+    subst (λ (os : List Origin). IsProblem c os p)
+    (ap (λ (ps : List ℕ). map Ranges (coupled_symbols c) ++ map Cases ps) (take_all i picks le ∙ is) ∙ picks_are_origins c) h
+
+-- the origins of one inside formula more
+pub next_formula : (before : List Origin) (picks : List ℕ) (i : ℕ) → i < length picks
+    → before ++ map Cases (take (i + 1) picks) ≡ (before ++ map Cases (take i picks)) ++ Cases (get_or picks i 0) ∷ []
+next_formula before picks i lt =
+    ap (λ (os : List Origin). before ++ os) (map_more Cases picks i 0 lt)
+    ∙ sym (append_assoc before (map Cases (take i picks)) (Cases (get_or picks i 0) ∷ []))
+
+-- each of the picks is of an inside formula
+pub inside_at : (c : Condition) (picks : List ℕ) (i : ℕ) → are_inside_picks c picks ≡ true → i < length picks → is_inside_pick c (get_or picks i 0) ≡ true
+inside_at c picks i all lt = all_get (is_inside_pick c) picks i all lt

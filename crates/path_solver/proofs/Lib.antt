@@ -1,5 +1,6 @@
 pub mod Ascending
 pub mod Atoms
+pub mod Bases
 pub mod Bridge
 pub mod Candidates
 pub mod Caseless
@@ -15,3 +16,4 @@ pub mod Simple
 pub mod Solved
 pub mod Verdicts
 pub mod Words
+pub mod Unmet

@@ -12,7 +12,7 @@ use Rattle.path_cond.specs.Seen.{ConditionOf, first_broken, in_domain}
 use Rattle.case_counts.specs.Occurring.{symbol_at}
 use Rattle.case_counts.specs.Seen.{coupled_count, choice_count}
 use Rattle.refutation_check.specs.Accepted.{IsAccepted}
-use Rattle.refutation_check.specs.Seen.{most_coupled, most_choices, is_possible, HasEmptyDomain, IsSimplyOpen, IsWithinLimits, IsRefuted, IsUndecidedBy, IsMetBy, AreLeast, holds_unless_outside, first_broken_outside}
+use Rattle.refutation_check.specs.Seen.{most_coupled, most_choices, is_possible, HasEmptyDomain, IsSimplyOpen, IsWithinLimits, IsRefuted, IsUndecidedBy, IsMetBy, AreCandidates, AreLeast, holds_unless_outside, first_broken_outside}
 use Rattle.refutation_check.specs.declared.outcome.Cause.{Cause}
 use Rattle.refutation_check.specs.declared.outcome.Cause.TheVariants.{Outside as OutsideCause, Cases, Coupled}
 use Rattle.refutation_check.specs.declared.steps.Refute.{Refute}
@@ -120,6 +120,18 @@ module _ {X : Type 0} (tree : X → FormulaTree) where
 
   pub one_of_three : (c : ConditionOf X) → IsOneOfThree c
   one_of_three c = by_broken c (first_broken tree c) refl
+
+  open_by : (c : ConditionOf X) (broken : Option ℕ) → first_broken tree c ≡ broken → (IsRefuted tree c → ⊥) → IsSimplyOpen tree c
+  open_by c (Some pick) e never = absurd (never (inl (inl record { pick = pick; first = e })))
+  open_by c None e never =
+      elim (possible_or_empty c (length c.widths) (omega arith)) [
+        | inl possible ↦ record { unbroken = e; possible = possible }
+        | inr empty ↦ absurd (never (inl (inr empty)))
+      ]
+
+  -- constants and domains do not refute a condition that has candidates
+  pub candidates_open : Facts → (c : ConditionOf X) (values : List ℕ) → AreCandidates tree c values → IsSimplyOpen tree c
+  candidates_open facts c values h = open_by c (first_broken tree c) refl (λ r. refuted_none tree facts c values r h)
 
   -- No condition is two of the three
 

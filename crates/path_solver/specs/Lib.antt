@@ -1,3 +1,4 @@
+pub mod Bases
 pub mod Bounds
 pub mod Decisions
 pub mod Judged
@@ -6,4 +7,5 @@ pub mod Origins
 pub mod Problems
 pub mod Solutions
 pub mod Unknowns
+pub mod Unmet
 pub mod Values

@@ -1,19 +1,12 @@
 -- The choices of cases of a condition, as they are gathered.
-use Rattle.std.specs.Prelude.{◌≡◌, ℕ, List, [], ◌∷◌, Option, Some, None, if◌then◌else◌}
+use Rattle.std.specs.Prelude.{◌≡◌, List}
 use Rattle.case_search.specs.Choices.{lists_of}
-use Rattle.path_cond.specs.Conditions.{Condition, Entry}
-use Rattle.case_counts.specs.Coupled.{is_inside}
+use Rattle.path_cond.specs.Conditions.{Condition}
 use Rattle.path_solver.specs.Origins.{choices_from}
 use Rattle.path_solver.specs.declared.origin.Origin.{Origin}
-use Rattle.path_solver.specs.declared.origin.Origin.TheVariants.{Cases}
 use Rattle.path_solver.specs.declared.problem.Problem.{Problem}
 
 -- the choices are of these origins
 pub record IsProblem (cond : Condition) (origins : List Origin) (p : Problem) : Type 0 where
   pub origins_are : p.origins.items ≡ origins
   pub choices_are : lists_of p.choices.items ≡ choices_from cond origins
-
--- the choice of a formula, where there is one and it is inside
-abbrev pub one_origin : ℕ → Option Entry → List Origin
-one_origin pick None = []
-one_origin pick (Some entry) = if is_inside entry then Cases pick ∷ [] else []

@@ -1,28 +1,32 @@
 //! The decision of a condition.
 
-ghost use Rattle.std.specs.Prelude.{◌≡◌, ◌↔◌, ◌∷◌, [], ℕ, false, List, None, IfOk};
+ghost use Rattle.std.specs.Prelude.{◌≡◌, ◌↔◌, ◌∷◌, [], ℕ, false, List, None, IfOk, IfSome};
 ghost use Rattle.path_cond.specs.Conditions.{first_broken, holds_at};
 ghost use Rattle.interval_solver.specs.Domains.{AreDomainsOf};
 ghost use Rattle.interval_solver.specs.Verdicts.{AreLeastValues};
-ghost use Rattle.refutation_check.specs.Decisions.{IsMetBy, IsRefuted, IsUndecidedBy, IsWithinLimits};
+ghost use Rattle.refutation_check.specs.Decisions.{IsMetBy, IsRefuted, IsSimplyOpen, IsUndecidedBy, IsWithinLimits};
 ghost use Rattle.refutation_check.specs.Least.{AreLeast};
 ghost use Rattle.refutation_check.specs.declared.outcome.Cause.{Cause as CauseOf};
+ghost use Rattle.case_counts.specs.Coupled.{coupled_symbols};
+ghost use Rattle.path_solver.specs.Bases.{IsBaseOf, IsExcessOf};
 ghost use Rattle.path_solver.specs.Decisions.{IsDecisionOn, IsSat, IsUnsat, IsUndecided, IsSettled, IsInFragment, HasNoInside, HasLeastValues};
 
+use crate::base::{Base, values_that_stay};
 use crate::below::facts;
+use crate::choices::count_choices;
 use crate::laws::{
     sat_exactly_where_met, settled_in_the_fragment, simple_conditions_have_the_least_values,
     undecided_exactly_where_undecided, unsat_exactly_where_refuted,
 };
 use crate::outside::first_broken_outside;
 use crate::solve::{Solved, solve_cases};
-use case_counts::{case_count, coupled_symbols, first_without_cases};
+use case_counts::coupled_symbols;
 use interval_solver::{Domains, SimpleVerdict, decide_simple};
 use path_cond::PathCond;
 use path_cond::laws::each_formula_is_typed;
 use refutation_check::laws::an_accepted_refutation_refutes;
 use refutation_check::{Cause, Listed, MOST_CHOICES, MOST_COUPLED, Refutation, Refute};
-use sn_width::{NoMemory, Num};
+use sn_width::{NoMemory, Num, SymId};
 use std::alloc::{AllocError, Global};
 
 /// What is decided of a condition.
@@ -37,13 +41,21 @@ pub enum Decided {
     Undecided { cause: Cause },
 }
 
-/// The decision of a condition that has these domains. The constant formulas come first, then the domains, the number of
+/// The decision of a condition that has these domains, where a base is known or none. The constant formulas come first, then the domains, the number of
 /// coupled symbols, the number of choices of cases, the cases, and last the formulas that are outside.
 ///
 /// It is Sat or Unsat where each formula is constant or simple, and where each is constant, simple or inside, at most
 /// `MOST_COUPLED` symbols are coupled and there are at most `MOST_CHOICES` choices of cases.
-pub fn decide(alloc: Global, cond: &PathCond, domains: &Domains) -> Result<Decided, NoMemory>
-    requires { AreDomainsOf cond.now domains.now }
+///
+/// Where the least values of the base satisfy each formula that is newer, they stay, and nothing is searched.
+pub fn decide_after(
+    alloc: Global,
+    cond: &PathCond,
+    domains: &Domains,
+    base: Option<&Base>,
+) -> Result<Decided, NoMemory>
+    requires domains { AreDomainsOf cond.now domains.now }
+    requires base { IfSome base (λ b. IsBaseOf cond.now b.now) }
 
     ensures decision { IfOk result (IsDecisionOn cond.now) }
     ensures sat { IfOk result (λ decided. (values : List ℕ) → IsSat values decided ↔ IsMetBy cond.now values) }
@@ -60,7 +72,98 @@ pub fn decide(alloc: Global, cond: &PathCond, domains: &Domains) -> Result<Decid
     simple_conditions_have_the_least_values();
     an_accepted_refutation_refutes();
     cond.formulas_are_typed();
-    decide_in_order(alloc, cond, domains)
+    decide_from(alloc, cond, domains, base)
+}
+
+/// The decision of a condition that has these domains, with no base: that of `decide_after`.
+pub fn decide(alloc: Global, cond: &PathCond, domains: &Domains) -> Result<Decided, NoMemory>
+    requires { AreDomainsOf cond.now domains.now }
+
+    ensures decision { IfOk result (IsDecisionOn cond.now) }
+    ensures sat { IfOk result (λ decided. (values : List ℕ) → IsSat values decided ↔ IsMetBy cond.now values) }
+    ensures unsat { IfOk result (λ decided. IsUnsat decided ↔ IsRefuted cond.now) }
+    ensures undecided { IfOk result (λ decided. (cause : CauseOf) → IsUndecided cause decided ↔ IsUndecidedBy cond.now cause) }
+    ensures settled { IfOk result (λ decided. IsInFragment cond.now → IsSettled decided) }
+    ensures least { IfOk result (λ decided. HasNoInside cond.now → HasLeastValues cond.now decided) }
+    ensures never { IfOk result (λ decided. IsUnsat decided → (values : List ℕ) → holds_at cond.now values ≡ false) }
+{
+    decide_after(alloc, cond, domains, None)
+}
+
+/// The decision of a condition that has these domains, from the base or with none.
+fn decide_from(
+    alloc: Global,
+    cond: &PathCond,
+    domains: &Domains,
+    base: Option<&Base>,
+) -> Result<Decided, NoMemory>
+    requires domains { AreDomainsOf cond.now domains.now }
+    requires base { IfSome base (λ b. IsBaseOf cond.now b.now) }
+    ensures { IfOk result (IsDecisionOn cond.now) }
+{
+    match base {
+        None => decide_in_order(alloc, cond, domains),
+        Some(base) => decide_on(alloc, cond, domains, base),
+    }
+}
+
+/// The decision of a condition that has these domains, from the base.
+fn decide_on(
+    alloc: Global,
+    cond: &PathCond,
+    domains: &Domains,
+    base: &Base,
+) -> Result<Decided, NoMemory>
+    requires domains { AreDomainsOf cond.now domains.now }
+    requires base { IsBaseOf cond.now base.now }
+    ensures { IfOk result (IsDecisionOn cond.now) }
+{
+    match values_that_stay(alloc, cond, base)? {
+        None => decide_in_order(alloc, cond, domains),
+        Some(values) => decide_by(alloc, cond, domains, values),
+    }
+}
+
+/// The decision of a condition that has these domains, where these are its least values.
+fn decide_by(
+    alloc: Global,
+    cond: &PathCond,
+    domains: &Domains,
+    values: Vec<Num>,
+) -> Result<Decided, NoMemory>
+    requires domains { AreDomainsOf cond.now domains.now }
+    requires least { AreLeast cond.now values.items }
+    ensures { IfOk result (IsDecisionOn cond.now) }
+{
+    facts();
+    let symbols = coupled_symbols(alloc, cond)?;
+    match excess_of(alloc, cond, domains, symbols.as_slice())? {
+        Some(cause) => Ok(Decided::Undecided { cause }),
+        None => settle(alloc, cond, values),
+    }
+}
+
+/// The limit that a condition of these coupled symbols does not keep, where constants and domains do not refute it.
+fn excess_of(
+    alloc: Global,
+    cond: &PathCond,
+    domains: &Domains,
+    symbols: &[SymId],
+) -> Result<Option<Cause>, NoMemory>
+    requires domains { AreDomainsOf cond.now domains.now }
+    requires symbols { symbols.now ≡ coupled_symbols cond.now }
+    requires simply_open { IsSimplyOpen cond.now }
+    ensures { IfOk result (IsExcessOf cond.now) }
+{
+    let count = symbols.len() as u64;
+    if count > MOST_COUPLED {
+        return Ok(Some(Cause::Coupled { count }));
+    }
+    let count = count_choices(alloc, cond, domains, symbols)?;
+    if count > MOST_CHOICES {
+        return Ok(Some(Cause::Cases { count }));
+    }
+    Ok(None)
 }
 
 /// The decision of a condition that has these domains, step by step.
@@ -103,41 +206,48 @@ fn decide_open(
     ensures { IfOk result (IsDecisionOn cond.now) }
 {
     let symbols = coupled_symbols(alloc, cond)?;
-    let count = symbols.len() as u64;
-    if count > MOST_COUPLED {
-        return Ok(Decided::Undecided {
-            cause: Cause::Coupled { count },
-        });
+    match excess_of(alloc, cond, domains, symbols.as_slice())? {
+        Some(cause) => Ok(Decided::Undecided { cause }),
+        None => decide_within(alloc, cond, domains, symbols.as_slice(), leasts),
     }
-    let count = case_count(alloc, cond)?;
-    if count > MOST_CHOICES {
-        return Ok(Decided::Undecided {
-            cause: Cause::Cases { count },
-        });
-    }
-    // No choice at all: a formula without cases is not looked into, nor are the cases of the others.
-    if count == 0 {
+}
+
+/// The decision of such a condition, of these coupled symbols, that keeps the limits.
+fn decide_within(
+    alloc: Global,
+    cond: &PathCond,
+    domains: &Domains,
+    symbols: &[SymId],
+    leasts: Vec<Num>,
+) -> Result<Decided, NoMemory>
+    requires domains { AreDomainsOf cond.now domains.now }
+    requires symbols { symbols.now ≡ coupled_symbols cond.now }
+    requires within { IsWithinLimits cond.now }
+    requires unbroken { first_broken cond.now ≡ None }
+    requires leasts { AreLeastValues cond.now leasts.items }
+    ensures { IfOk result (IsDecisionOn cond.now) }
+{
+    // A formula without cases is not looked into, nor are the cases of the others.
+    if let Some(pick) = cond.first_without_cases() {
         facts();
         each_formula_is_typed();
         cond.formulas_are_typed();
-        if let Some(pick) = first_without_cases(alloc, cond)? {
-            let refutation = one_step(alloc, Refute::Split { pick })?;
-            return Ok(Decided::Unsat { refutation });
-        }
+        let refutation = one_step(alloc, Refute::Split { pick })?;
+        return Ok(Decided::Unsat { refutation });
     }
-    match solve_cases(alloc, cond, domains, symbols.as_slice(), leasts)? {
+    match solve_cases(alloc, cond, domains, symbols, leasts)? {
         Solved::Refuted { refutation } => Ok(Decided::Unsat { refutation }),
-        Solved::Values { values } => settle(cond, values),
+        Solved::Values { values } => settle(alloc, cond, values),
     }
 }
 
 /// The decision where these are the least values that satisfy every formula that is not outside.
-fn settle(cond: &PathCond, values: Vec<Num>) -> Result<Decided, NoMemory>
+fn settle(alloc: Global, cond: &PathCond, values: Vec<Num>) -> Result<Decided, NoMemory>
     requires within { IsWithinLimits cond.now }
     requires least { AreLeast cond.now values.items }
     ensures { IfOk result (IsDecisionOn cond.now) }
 {
-    let broken = first_broken_outside(cond, values.as_slice())?;
+    let broken = first_broken_outside(alloc, cond, values.as_slice())?;
     let values = Listed::from_vec(values);
     match broken {
         None => Ok(Decided::Sat { values }),

@@ -1,11 +1,14 @@
 //! What holds of all decisions. Each is the contract of a function that has nothing to do.
 
-ghost use Rattle.std.specs.Prelude.{◌≡◌, ◌↔◌, ◌⊎◌, ℕ, true, List};
-ghost use Rattle.path_cond.specs.Conditions.{AllTyped, Condition, holds_at};
+ghost use Rattle.std.specs.Prelude.{◌≡◌, ◌↔◌, ◌⊎◌, ℕ, true, List, length};
+ghost use Rattle.path_cond.specs.Conditions.{AllTyped, Condition, Entry, holds_at};
 ghost use Rattle.path_cond.specs.Seen.{itself};
 ghost use Rattle.refutation_check.specs.Decisions.{IsMetBy, IsUndecidedBy, IsLicensed, IsRefuted};
 ghost use Rattle.refutation_check.specs.Least.{AreFitting};
 ghost use Rattle.refutation_check.specs.declared.outcome.Cause.{Cause as CauseOf};
+ghost use Rattle.refutation_check.specs.Longer.{with_entries, with_widths};
+ghost use Rattle.path_solver.specs.Bases.{HasValues, IsBaseOf};
+ghost use Rattle.path_solver.specs.declared.base.Base.{Base as BaseOf};
 ghost use Rattle.path_solver.specs.Decisions.{IsDecisionOn, IsSat, IsUnsat, IsUndecided, IsSettled, IsInFragment, HasNoInside, HasLeastValues};
 ghost use Rattle.path_solver.specs.Judged.{AreExact};
 ghost use Rattle.path_solver.specs.declared.decision.Decided.{Decided as Decision};
@@ -85,3 +88,18 @@ pub fn simple_conditions_have_the_least_values()
 {
     facts();
 }
+
+/// The least values that a decision of a condition has, and the number of its formulas, are a base of it.
+pub fn the_values_of_a_decision_are_a_base()
+    ensures { (cond : Condition) (decision : Decision) (base : BaseOf) → AllTyped cond.widths cond.entries
+        → IsDecisionOn cond decision → HasValues base.least decision → base.formulas ≡ length cond.entries
+        → IsBaseOf cond base }
+{}
+
+/// A base of a condition is one of the condition with more symbols, and with more formulas.
+pub fn a_base_stays_one()
+    ensures symbols { (cond : Condition) (base : BaseOf) (widths : List ℕ)
+        → IsBaseOf cond base → IsBaseOf (with_widths cond widths) base }
+    ensures formulas { (cond : Condition) (base : BaseOf) (more : List Entry)
+        → IsBaseOf cond base → IsBaseOf (with_entries cond more) base }
+{}

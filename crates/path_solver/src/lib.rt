@@ -1,7 +1,9 @@
 //! The whole decision of a path condition: whether values make it true, with the least such values or a refutation.
 #![tactic(auto)]
 
+mod base;
 mod below;
+mod choices;
 mod decision;
 pub mod laws;
 mod origin;
@@ -12,4 +14,5 @@ mod steps;
 mod unknowns;
 mod values;
 
-pub use decision::{Decided, decide};
+pub use base::Base;
+pub use decision::{Decided, decide, decide_after};

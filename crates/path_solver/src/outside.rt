@@ -1,44 +1,47 @@
 //! The first outside formula that values break.
 
-ghost use Rattle.std.specs.Prelude.{◌≡◌, ◌<◌, length, slice_get, IfOk, IfSome};
-ghost use Rattle.std.specs.Option.{option_map};
-ghost use Rattle.refutation_check.specs.Least.{is_outside_kind, is_broken_outside, first_broken_outside};
+ghost use Rattle.std.specs.Prelude.{◌≡◌, IfOk};
+ghost use Rattle.case_counts.specs.Picks.{first_where};
+ghost use Rattle.refutation_check.specs.Least.{first_broken_outside};
+ghost use Rattle.path_solver.specs.Unmet.{is_unmet_at};
 
-use case_counts::formula_count;
+use case_counts::laws::the_first_of_the_picks_is_the_first_of_the_formulas;
+use case_counts::outside_picks;
 use path_cond::PathCond;
-use path_formula::Kind;
 use sn_width::{NoMemory, Num};
+use std::alloc::Global;
 
-fn is_outside(kind: Kind) -> bool
-    ensures { result ≡ is_outside_kind kind }
-{
-    match kind {
-        Kind::Constant(_) => false,
-        Kind::Simple { .. } => false,
-        Kind::Inside => false,
-        Kind::Outside => true,
-    }
-}
-
-/// Whether the formula of the pick is outside and has not the truth that it must have.
-fn is_broken(cond: &PathCond, pick: u32, values: &[Num]) -> bool
-    requires { pick < length cond.now.entries }
-    ensures { IfSome (slice_get cond.now.entries pick) (λ entry. result ≡ is_broken_outside values.now entry) }
+/// Whether there is a formula of the pick and it has not the truth that it must have.
+fn is_unmet(cond: &PathCond, pick: u32, values: &[Num]) -> bool
+    ensures { result ≡ is_unmet_at cond.now values.now pick }
 {
     match cond.entry(pick) {
-        None => unreachable!(),
-        Some((formula, holds)) => is_outside(formula.kind()) && formula.truth(values) != holds,
+        None => false,
+        Some((formula, holds)) => formula.truth(values) != holds,
     }
 }
 
-/// The least pick of an outside formula that has not the truth that it must have.
-pub(crate) fn first_broken_outside(cond: &PathCond, values: &[Num]) -> Result<Option<u32>, NoMemory>
-    ensures { IfOk result (λ first. first ≡ first_broken_outside cond.now values.now) }
+/// The first of the picks whose formula has not the truth that it must have.
+fn first_unmet(cond: &PathCond, picks: &[u32], values: &[Num]) -> Option<u32>
+    ensures { result ≡ first_where (is_unmet_at cond.now values.now) picks.now }
 {
-    for pick in 0..formula_count(cond)? {
-        if is_broken(cond, pick, values) {
-            return Ok(Some(pick));
+    for pick in picks {
+        if is_unmet(cond, *pick, values) {
+            return Some(*pick);
         }
     }
-    Ok(None)
+    None
+}
+
+/// The least pick of an outside formula that has not the truth that it must have. Only the outside formulas are looked at.
+pub(crate) fn first_broken_outside(
+    alloc: Global,
+    cond: &PathCond,
+    values: &[Num],
+) -> Result<Option<u32>, NoMemory>
+    ensures { IfOk result (λ first. first ≡ first_broken_outside cond.now values.now) }
+{
+    the_first_of_the_picks_is_the_first_of_the_formulas();
+    let picks = outside_picks(alloc, cond)?;
+    Ok(first_unmet(cond, &picks, values))
 }

@@ -1,25 +1,25 @@
 //! The choices of cases of a condition.
 
-ghost use Rattle.std.specs.Prelude.{◌≡◌, ◌≤◌, ◌<◌, ◌++◌, ◌∷◌, [], true, List, length, slice_get, OnOk, IfOk};
+ghost use Rattle.std.specs.Prelude.{◌≡◌, ◌≤◌, ◌++◌, ◌∷◌, [], true, List, length, OnOk, IfOk};
 ghost use Rattle.path_cond.specs.Conditions.{Condition};
 ghost use Rattle.path_cases.specs.Bounds.{lists_of as cases_seen};
-ghost use Rattle.case_counts.specs.Coupled.{coupled_symbols, is_inside_kind};
+ghost use Rattle.case_counts.specs.Coupled.{coupled_symbols};
+ghost use Rattle.case_counts.specs.Picks.{is_inside_pick};
 ghost use Rattle.interval_solver.specs.Domains.{AreDomainsOf};
 ghost use Rattle.path_solver.specs.Origins.{cases_from, origins_of};
-ghost use Rattle.path_solver.specs.Problems.{IsProblem, one_origin};
+ghost use Rattle.path_solver.specs.Problems.{IsProblem};
 ghost use Rattle.path_solver.specs.Unknowns.{is_listed};
 ghost use Rattle.path_solver.specs.declared.origin.Origin.{Origin as OriginOf};
-ghost use Rattle.path_solver.specs.declared.origin.Origin.TheVariants.{Ranges as OfRanges};
+ghost use Rattle.path_solver.specs.declared.origin.Origin.TheVariants.{Ranges as OfRanges, Cases as OfCases};
 
 use crate::below::facts;
 use crate::origin::Origin;
 use crate::unknowns::choice_of;
-use case_counts::formula_count;
+use case_counts::inside_picks;
 use case_search::Choice;
 use interval_solver::Domains;
 use path_cases::{SymBound, cases, range_cases};
 use path_cond::PathCond;
-use path_formula::Kind;
 use sn_width::{NoMemory, SymId};
 use std::alloc::Global;
 
@@ -28,17 +28,6 @@ use std::alloc::Global;
 pub struct Problem {
     pub origins: Vec<Origin>,
     pub choices: Vec<Choice>,
-}
-
-fn is_inside(kind: Kind) -> bool
-    ensures { result ≡ is_inside_kind kind }
-{
-    match kind {
-        Kind::Constant(_) => false,
-        Kind::Simple { .. } => false,
-        Kind::Inside => true,
-        Kind::Outside => false,
-    }
 }
 
 /// The ranges of the domain of a coupled symbol, as cases.
@@ -80,7 +69,7 @@ impl Problem {
         Ok(())
     }
 
-    /// Adds the cases of the formula of a pick, where it is inside.
+    /// Adds the cases of the formula of a pick, which is inside.
     fn add_formula(
         &mut self,
         alloc: Global,
@@ -90,18 +79,15 @@ impl Problem {
     ) -> Result<(), NoMemory>
         requires symbols { symbols.now ≡ coupled_symbols cond.now }
         requires few { length symbols.now ≤ 64 }
-        requires pick { pick < length cond.now.entries }
+        requires inside { is_inside_pick cond.now pick ≡ true }
         ensures { OnOk result ((origins : List OriginOf) → IsProblem cond.now origins self.old
-            → IsProblem cond.now (origins ++ one_origin pick (slice_get cond.now.entries pick)) self.new) }
+            → IsProblem cond.now (origins ++ OfCases pick ∷ []) self.new) }
     {
         facts();
         cond.formulas_are_typed();
         match cond.entry(pick) {
             None => unreachable!(),
             Some((formula, holds)) => {
-                if !is_inside(formula.kind()) {
-                    return Ok(());
-                }
                 let found = cases(alloc, formula, holds)?;
                 self.push(alloc, symbols, Origin::Cases { pick }, found.as_slice())
             }
@@ -133,8 +119,9 @@ impl Problem {
                 ranges.as_slice(),
             )?;
         }
-        for pick in 0..formula_count(cond)? {
-            problem.add_formula(alloc, cond, symbols, pick)?;
+        let picks = inside_picks(alloc, cond)?;
+        for pick in &picks {
+            problem.add_formula(alloc, cond, symbols, *pick)?;
         }
         Ok(problem)
     }

@@ -3,11 +3,8 @@ use Rattle.std.specs.Prelude.{ℕ, Bool, List, Option}
 use Rattle.path_formula.specs.View.{view}
 use Rattle.path_cond.specs.Conditions.{Condition, Entry}
 use Rattle.refutation_check.specs.Seen as any
-pub use Rattle.refutation_check.specs.Seen.{FitsAt, AreFitting, is_outside_kind, is_at_most}
-
--- the formula is outside
-abbrev pub is_outside : Entry → Bool
-is_outside = any.is_outside view
+pub use Rattle.refutation_check.specs.Seen.{FitsAt, AreFitting, is_at_most}
+pub use Rattle.path_cond.specs.Summaries.{is_outside_kind, is_outside}
 
 -- the formula is outside, or has the truth that it must have at these values
 abbrev pub holds_unless_outside : List ℕ → Entry → Bool

@@ -5,11 +5,9 @@ use Rattle.sn_width.specs.Width.{FitsWidth}
 use Rattle.sn_width.specs.declared.ids.SymId.{SymId}
 use Rattle.sn_ranges.specs.Ranges.{fits_width}
 use Rattle.path_formula.specs.Formulas.{FormulaTree}
-use Rattle.path_formula.specs.Kinds.{kind_of}
-use Rattle.path_formula.specs.declared.kinds.Kind.{Kind}
-use Rattle.path_formula.specs.declared.kinds.Kind.TheVariants.{Constant, Simple, Inside, Outside}
 use Rattle.path_cond.specs.Seen.{ConditionOf, entry_holds, first_broken}
 pub use Rattle.path_cond.specs.Seen.{is_possible}
+pub use Rattle.path_cond.specs.Kept.{is_outside_kind, is_outside}
 use Rattle.path_cases.specs.Bounds.{AreValues, Case}
 use Rattle.path_cases.specs.Cases.{cases_of, with_bounds}
 use Rattle.path_cases.specs.Splits.{CanSplit}
@@ -36,12 +34,6 @@ pub record AreFitting (widths values : List ℕ) : Type 0 where
   pub one_each : length values ≡ length widths
   pub fit : AreValues widths values
 
-abbrev pub is_outside_kind : Kind → Bool
-is_outside_kind (Constant truth) = false
-is_outside_kind (Simple s) = false
-is_outside_kind Inside = false
-is_outside_kind Outside = true
-
 -- the first list is the second, or comes before it in the order of words
 abbrev pub is_at_most : List ℕ → List ℕ → Bool
 is_at_most [] ys = true
@@ -49,17 +41,13 @@ is_at_most (x ∷ xs) [] = false
 is_at_most (x ∷ xs) (y ∷ ys) = nat_lt x y || (x == y && is_at_most xs ys)
 
 module _ {X : Type 0} (tree : X → FormulaTree) where
-  -- the formula is outside
-  abbrev pub is_outside : X × Bool → Bool
-  is_outside entry = is_outside_kind (kind_of (tree entry.0))
-
   -- the formula is outside, or has the truth that it must have at these values
   abbrev pub holds_unless_outside : List ℕ → X × Bool → Bool
-  holds_unless_outside values entry = is_outside entry || entry_holds tree values entry
+  holds_unless_outside values entry = is_outside tree entry || entry_holds tree values entry
 
   -- the formula is outside, and has not the truth that it must have at these values
   abbrev pub is_broken_outside : List ℕ → X × Bool → Bool
-  is_broken_outside values entry = is_outside entry && not (entry_holds tree values entry)
+  is_broken_outside values entry = is_outside tree entry && not (entry_holds tree values entry)
 
   -- one fitting number for each symbol, which satisfy every formula that is not outside
   pub record AreCandidates (cond : ConditionOf X) (values : List ℕ) : Type 0 where
@@ -146,7 +134,7 @@ module _ {X : Type 0} (tree : X → FormulaTree) where
   pub record AreBreaking (cond : ConditionOf X) (pick : ℕ) (values : List ℕ) : Type 0 where
     pub entry : X × Bool
     pub at : slice_get cond.entries pick ≡ Some entry
-    pub outside : is_outside entry ≡ true
+    pub outside : is_outside tree entry ≡ true
     pub candidates : AreCandidates cond values
     pub broken : entry_holds tree values entry ≡ false
 

@@ -12,7 +12,7 @@ pub solutions_in-requires : goal.solutions_in-requires
 solutions_in-requires c =
     let s = c.args.symbol in
     let is = ap (λ (d : Condition). slice_get d.widths s.0) c.self.view_is ∙ sym c.width.ensures ∙ c.in-Some.is in
-    solvable_typed s c.in-Some.width c.self.inside.widths c.a_simple_formula_is_over_its_symbol.ensures is c.self.inside.entries c.self.invariant.typed
+    solvable_typed s c.in-Some.width c.self.inside.widths c.a_simple_formula_is_over_its_symbol.ensures is c.self.inside.entries c.self.invariant.0.typed
 
 pub returns : goal.returns
 returns c =

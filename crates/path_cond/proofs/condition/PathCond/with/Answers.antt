@@ -10,4 +10,4 @@ invariant_of-result c =
     let old = c.self.inside in
     let typed = subst (λ ws. IsTyped ws (view c.args.formula)) (sym (ap (λ (d : Condition). d.widths) c.self.view_is)) c.requires in
     rw (c.in_ok-widths.ensures, c.in_ok-entries.ensures)
-    (IsKept-more old.widths old.entries old.broken c.broken_with-broken.result old.simple c.in_ok-simple.simple (c.args.formula, c.args.holds) c.kind-kind.result c.len-pick.result c.self.invariant typed c.kind-kind.ensures c.len-pick.ensures c.broken_with-broken.ensures c.in_ok-simple.ensures)
+    (IsKept-more old.widths old.entries old.broken c.broken_with-broken.result old.simple c.in_ok-simple.simple (c.args.formula, c.args.holds) c.kind-kind.result c.len-pick.result c.self.invariant.0 typed c.kind-kind.ensures c.len-pick.ensures c.broken_with-broken.ensures c.in_ok-simple.ensures, c.in_ok-summary.ensures old.entries c.len-pick.ensures c.self.invariant.1)

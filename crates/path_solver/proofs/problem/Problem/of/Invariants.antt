@@ -1,8 +1,7 @@
 use Rattle.std.proofs.Common.{map, take, ◌++◌}
 use Rattle.case_counts.specs.Coupled.{coupled_symbols}
-use Rattle.path_solver.specs.Origins.{formula_origins}
 use Rattle.path_solver.specs.Problems.{IsProblem}
-use Rattle.path_solver.specs.declared.origin.Origin.TheVariants.{Ranges}
+use Rattle.path_solver.specs.declared.origin.Origin.TheVariants.{Ranges, Cases}
 use Rattle.path_solver.proofs.problem.Problem.of.Given as goal
 
 abbrev pub invariant-loop-symbol : goal.invariant-loop-symbol
@@ -10,4 +9,4 @@ invariant-loop-symbol l = IsProblem l.cond (map Ranges (take l.symbol-index l.sy
 
 abbrev pub invariant-loop-pick : goal.invariant-loop-pick
 invariant-loop-pick l =
-    IsProblem l.cond (map Ranges (coupled_symbols l.cond) ++ formula_origins 0 (take l.pick l.cond.entries)) l.problem
+    IsProblem l.cond (map Ranges (coupled_symbols l.cond) ++ map Cases (take l.pick-index l.pick-items)) l.problem

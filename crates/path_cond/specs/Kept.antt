@@ -1,0 +1,64 @@
+-- What is kept of the formulas of a condition, over any formulas that are seen as trees.
+use Rattle.std.specs.Prelude.{ℕ, ◌*◌, ◌==◌, Bool, true, false, List, [], ◌∷◌, Option, map, suc, length, if◌then◌else◌}
+use Rattle.std.specs.List.{position_from}
+use Rattle.path_formula.specs.Formulas.{FormulaTree}
+use Rattle.path_formula.specs.Kinds.{kind_of}
+use Rattle.path_formula.specs.declared.kinds.Kind.{Kind}
+use Rattle.path_formula.specs.declared.kinds.Kind.TheVariants.{Constant, Simple, Inside, Outside}
+use Rattle.path_cases.specs.Cases.{cases_of}
+use Rattle.path_cond.specs.Seen.{ConditionOf}
+
+abbrev pub is_inside_kind : Kind → Bool
+is_inside_kind (Constant truth) = false
+is_inside_kind (Simple s) = false
+is_inside_kind Inside = true
+is_inside_kind Outside = false
+
+abbrev pub is_outside_kind : Kind → Bool
+is_outside_kind (Constant truth) = false
+is_outside_kind (Simple s) = false
+is_outside_kind Inside = false
+is_outside_kind Outside = true
+
+abbrev pub product : List ℕ → ℕ
+product [] = 1
+product (n ∷ ns) = n * product ns
+
+-- the picks of the formulas that pass the test, where the first formula has this pick
+abbrev pub picks_where : {E : Type 0} → (E → Bool) → ℕ → List E → List ℕ
+picks_where test pick [] = []
+picks_where test pick (entry ∷ entries) =
+    if test entry then pick ∷ picks_where test (suc pick) entries else picks_where test (suc pick) entries
+
+module _ {X : Type 0} (tree : X → FormulaTree) where
+  -- the formula is inside
+  abbrev pub is_inside : X × Bool → Bool
+  is_inside entry = is_inside_kind (kind_of (tree entry.0))
+
+  -- the formula is outside
+  abbrev pub is_outside : X × Bool → Bool
+  is_outside entry = is_outside_kind (kind_of (tree entry.0))
+
+  -- the picks of the inside formulas
+  abbrev pub inside_picks : ConditionOf X → List ℕ
+  inside_picks cond = picks_where is_inside 0 cond.entries
+
+  -- the picks of the outside formulas
+  abbrev pub outside_picks : ConditionOf X → List ℕ
+  outside_picks cond = picks_where is_outside 0 cond.entries
+
+  -- the number of cases of an inside formula, with the truth that it must have; 1 for any other
+  abbrev pub entry_case_count : X × Bool → ℕ
+  entry_case_count entry = if is_inside entry then length (cases_of (tree entry.0) entry.1) else 1
+
+  -- the number of choices of a case of each inside formula
+  abbrev pub formula_choices : ConditionOf X → ℕ
+  formula_choices cond = product (map entry_case_count cond.entries)
+
+  -- the formula is inside and has no cases
+  abbrev pub has_no_cases : X × Bool → Bool
+  has_no_cases entry = entry_case_count entry == 0
+
+  -- the least pick of a formula without cases
+  abbrev pub first_without_cases : ConditionOf X → Option ℕ
+  first_without_cases cond = position_from has_no_cases 0 cond.entries

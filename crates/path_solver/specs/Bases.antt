@@ -1,0 +1,38 @@
+-- What an earlier decision found, as a base of a later one.
+use Rattle.std.specs.Prelude.{◌≡◌, ◌≤◌, ℕ, List, Option, Some, None, length, take}
+use Rattle.path_cond.specs.Conditions.{AllTyped, Condition}
+use Rattle.refutation_check.specs.Decisions.{IsUndecidedBy, IsWithinLimits}
+use Rattle.refutation_check.specs.Least.{AreLeast}
+use Rattle.refutation_check.specs.declared.outcome.Cause.{Cause}
+use Rattle.refutation_check.specs.declared.outcome.Cause.TheVariants.{Outside, Cases, Coupled}
+use Rattle.path_solver.specs.declared.base.Base.{Base}
+use Rattle.path_solver.specs.declared.decision.Decided.{Decided}
+use Rattle.path_solver.specs.declared.decision.Decided.TheVariants.{Sat, Unsat, Undecided}
+
+-- the condition with its first symbols and its first formulas alone, so many of each
+abbrev pub front_of : ℕ → ℕ → Condition → Condition
+front_of symbols formulas cond = record { widths = take symbols cond.widths; entries = take formulas cond.entries }
+
+-- the base has the least values of the condition with the first symbols, one for each value, and its first formulas alone
+pub record IsBaseOf (cond : Condition) (b : Base) : Type 0 where
+  pub symbols : length b.least ≤ length cond.widths
+  pub formulas : b.formulas ≤ length cond.entries
+  pub typed : AllTyped (take (length b.least) cond.widths) (take b.formulas cond.entries)
+  pub least : AreLeast (front_of (length b.least) b.formulas cond) b.least
+
+-- the cause has these values, which break an outside formula
+abbrev pub IsWithValues : List ℕ → Cause → Type 0
+IsWithValues values (Outside pick found) = found ≡ values
+IsWithValues values (Cases count) = ⊥
+IsWithValues values (Coupled count) = ⊥
+
+-- the decision has these values: they meet the condition, or they break an outside formula
+abbrev pub HasValues : List ℕ → Decided → Type 0
+HasValues values (Sat found) = found ≡ values
+HasValues values (Unsat refutation) = ⊥
+HasValues values (Undecided cause) = IsWithValues values cause
+
+-- the limits are kept, or the condition is undecided by this cause
+abbrev pub IsExcessOf : Condition → Option Cause → Type 0
+IsExcessOf cond None = IsWithinLimits cond
+IsExcessOf cond (Some cause) = IsUndecidedBy cond cause

@@ -1,0 +1,88 @@
+//! What an earlier decision found, as a base of a later one.
+
+ghost use Rattle.std.specs.Prelude.{◌≡◌, ◌<◌, ◌≤◌, ◌-◌, ◌++◌, length, drop, slice_get, IfOk, IfSome};
+ghost use Rattle.std.specs.List.{list_all};
+ghost use Rattle.refutation_check.specs.Least.{AreLeast, holds_unless_outside, is_outside_kind};
+ghost use Rattle.refutation_check.specs.Longer.{zeros};
+ghost use Rattle.path_solver.specs.Bases.{IsBaseOf};
+
+use case_counts::formula_count;
+use path_cond::PathCond;
+use path_formula::Kind;
+use refutation_check::Listed;
+use refutation_check::laws::least_values_stay;
+use sn_width::{NoMemory, Num};
+use std::alloc::Global;
+
+/// What an earlier decision found of a condition that had the first symbols and the first formulas of a later one.
+#[derive(Drop)]
+pub struct Base {
+    /// How many formulas it had.
+    pub formulas: u32,
+    /// Its least values, one for each of its symbols.
+    pub least: Listed<Num>,
+}
+
+fn is_outside(kind: Kind) -> bool
+    ensures { result ≡ is_outside_kind kind }
+{
+    match kind {
+        Kind::Constant(_) => false,
+        Kind::Simple { .. } => false,
+        Kind::Inside => false,
+        Kind::Outside => true,
+    }
+}
+
+/// Whether the formula of the pick is outside, or has the truth that it must have.
+fn holds_at(cond: &PathCond, pick: u32, values: &[Num]) -> bool
+    requires { pick < length cond.now.entries }
+    ensures { IfSome (slice_get cond.now.entries pick) (λ entry. result ≡ holds_unless_outside values.now entry) }
+{
+    match cond.entry(pick) {
+        None => unreachable!(),
+        Some((formula, holds)) => is_outside(formula.kind()) || formula.truth(values) == holds,
+    }
+}
+
+/// Whether each formula from a pick on is outside, or has the truth that it must have.
+fn hold_from(cond: &PathCond, first: u32, values: &[Num]) -> Result<bool, NoMemory>
+    requires { first ≤ length cond.now.entries }
+    ensures { IfOk result (λ yes. yes ≡ list_all (holds_unless_outside values.now) (drop first cond.now.entries)) }
+{
+    for pick in first..formula_count(cond)? {
+        if !holds_at(cond, pick, values) {
+            return Ok(false);
+        }
+    }
+    Ok(true)
+}
+
+/// The values, with a zero behind for each further symbol of the condition.
+fn padded(alloc: Global, cond: &PathCond, least: &[Num]) -> Result<Vec<Num>, NoMemory>
+    requires { length least.now ≤ length cond.now.widths }
+    ensures { IfOk result (λ values. values.items ≡ least.now ++ zeros (drop (length least.now) cond.now.widths)) }
+{
+    let mut values = Vec::from_slice(alloc, least)?;
+    for place in least.len() as u64..cond.symbols() {
+        let _symbol = place;
+        values.push(0)?;
+    }
+    Ok(values)
+}
+
+/// The values of the base with zeros behind, where these satisfy each formula that is newer than the base and not outside:
+/// they are the least of this condition too.
+pub(crate) fn values_that_stay(
+    alloc: Global,
+    cond: &PathCond,
+    base: &Base,
+) -> Result<Option<Vec<Num>>, NoMemory>
+    requires { IsBaseOf cond.now base.now }
+    ensures { IfOk result (λ found. IfSome found (λ values. AreLeast cond.now values.items)) }
+{
+    least_values_stay();
+    let values = padded(alloc, cond, base.least.as_slice())?;
+    let stay = hold_from(cond, base.formulas, values.as_slice())?;
+    if stay { Ok(Some(values)) } else { Ok(None) }
+}
