@@ -8,7 +8,7 @@ use Rattle.sefl_meaning.specs.declared.walk.End.{End}
 use Rattle.sefl_meaning.specs.Courses.{Asking, at_if, at_constrain, Progress}
 use Rattle.sefl_meaning.specs.Trees.{Tree, over, arrives, tests, splits, Copies, no_copies, copy_and}
 use Rattle.sefl_meaning.specs.Valued.{tree_valued, copies_valued, progress_valued}
-use Rattle.sefl_meaning.specs.Walks.{Passage, by_way_of, decided}
+use Rattle.sefl_meaning.specs.Walks.{Passage, Trail, shown, by_way_of, decided}
 use Rattle.sefl_meaning.specs.Taken.{decision_at, walks_of, walks_of_copies}
 use Rattle.sefl_meaning.specs.Routes.{truth_of, number_of, Route, waiting, arriving, taking, by_truth, by_number, route, copy_route, route_valued, Holds, IsWay, Has}
 use Rattle.sefl_meaning.proofs.AllLemmas.{all_append, all_map, all_weaker}
@@ -414,3 +414,17 @@ mutual
         holds = h.holds;
         left = h.left;
       })))
+
+-- ---- what walks show
+
+pub shown_of_one : (ws : List Passage) (t : Trail) → Has (map shown ws) t → (w : Passage) × Has ws w × (shown w ≡ t)
+shown_of_one [] t h = absurd h
+shown_of_one (w ∷ ws) t (inl e) = (w, inl refl, e)
+shown_of_one (w ∷ ws) t (inr h) =
+    let one = shown_of_one ws t h in
+    (one.0, inr one.1, one.2)
+
+pub one_is_shown : (ws : List Passage) (w : Passage) (t : Trail) → Has ws w → shown w ≡ t → Has (map shown ws) t
+one_is_shown [] w t h e = absurd h
+one_is_shown (v ∷ ws) w t (inl same) e = inl (ap shown same ∙ e)
+one_is_shown (v ∷ ws) w t (inr h) e = inr (one_is_shown ws w t h e)

@@ -24,7 +24,7 @@ ghost use Rattle.sefl_meaning.specs.Injected.{injected, unknown_widths};
 ghost use Rattle.sefl_meaning.specs.Courses.{Progress, Course, after, course_code};
 ghost use Rattle.sefl_meaning.specs.Trees as trees;
 ghost use Rattle.sefl_meaning.specs.Trees.{Tree};
-ghost use Rattle.sefl_meaning.specs.Walks.{Passage, shown};
+ghost use Rattle.sefl_meaning.specs.Walks.{Passage, Trail, shown};
 ghost use Rattle.sefl_meaning.specs.declared.walk.Decision.{Decision};
 ghost use Rattle.sefl_meaning.specs.Routes.{IsFirstClosed, IsOpen, IsWay, Route, Splits, behind, offers, route, route_valued};
 ghost use Rattle.sefl_meaning.specs.Laws.{StackLaws, StateLaws};
@@ -221,10 +221,11 @@ pub fn sequences_associate<V: Drop, F: Truths>()
 {}
 
 /// The walks of a packet are the ways through its tree at which each test has the truth that is taken,
-/// from the start to an end, and no more.
+/// from the start to an end, and no more. What is shown is shown of one of them.
 pub fn walks_are_routes()
     ensures ways { (t : Tree ℕ Bool) → AllByRecursion (IsWay (route t)) (walks_of t) }
     ensures walks { (t : Tree ℕ Bool) (w : Passage) → IsWay (route t) w → Has (walks_of t) w }
+    ensures shown { (ws : List Passage) (t : Trail) → (Has (map shown ws) t ↔ (w : Passage) × Has ws w × (shown w ≡ t)) }
 {}
 
 /// Functions of values and truths commute with routes.

@@ -1,7 +1,7 @@
 use Rattle.std.proofs.Common.{◌-◌, ◌<◌, take, drop, length, reverse, ap, sym, ◌∙◌, arith}
 use Rattle.sefl_syntax.specs.Views.{instr_tree}
 use Rattle.sefl_meaning.specs.Runs.{noting, run_instr, then_run}
-use Rattle.concrete_run.specs.Passing.{begun_once, of_frame, progress_of, ran_of, run_frames, scene_in}
+use Rattle.concrete_run.specs.Passing.{of_frame, progress_of, ran_of, run_frames, scene_in}
 use Rattle.concrete_run.proofs.Counting.{first_of}
 use Rattle.concrete_run.proofs.Framing.{code_taken}
 use Rattle.concrete_run.proofs.Runs.{same_whole}
