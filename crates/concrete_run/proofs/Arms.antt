@@ -1,12 +1,14 @@
 -- The arms of an instruction.
-use Rattle.std.proofs.Common.{◌≡◌, ℕ, suc, ◌+◌, Bool, List, reverse, Result, IfOk, sym, ap, ◌∙◌, arith}
+use Rattle.std.proofs.Common.{◌≡◌, ℕ, suc, ◌+◌, Bool, List, reverse, Result, Err, IfOk, sym, ap, ◌∙◌, arith, subst}
 use Rattle.std.proofs.lemmas.List.{reverse-reverse}
 use Rattle.sn_width.specs.declared.ids.NodeId.{NodeId}
 use Rattle.sn_width.specs.declared.ids.NameId.{NameId}
 use Rattle.sn_width.specs.declared.faults.LayoutFault.{LayoutFault}
 use Rattle.sn_width.specs.declared.faults.StepFault.{StepFault}
+use Rattle.sn_width.specs.declared.faults.StepFault.TheVariants.{Layout}
 use Rattle.sn_width.specs.declared.memory.NoMemory.{NoMemory}
 use Rattle.cell_stacks.specs.Outcome.{Meets}
+use Rattle.instr_steps.specs.Scenes.{GivesBy}
 use Rattle.sefl_syntax.specs.Trees.{InstrTree, CodeTree, CondTree, block, each}
 use Rattle.sefl_syntax.specs.Views.{instr_tree, code_tree}
 use Rattle.sefl_syntax.specs.declared.instr.Instr.{Instr}
@@ -27,8 +29,12 @@ use Rattle.concrete_run.proofs.Runs.{Next, ahead, left_at, stepped}
 
 -- the truth of a condition in the scene that a run is in
 pub truth_seen : (v v' : List ℕ) (u u' : ℕ) (at at' : Scene) (test : CondTree) (s : Carried ℕ) (truth : Result Bool LayoutFault)
-    → v' ≡ v → u' ≡ u → at' ≡ at → truth ≡ truth_in (numbers v' u') at' test s → truth_in (numbers v u) at test s ≡ truth
-truth_seen v v' u u' at at' test s truth ev eu ea h = sym (h ∙ (λ j. truth_in (numbers (ev j) (eu j)) (ea j) test s))
+    → v' ≡ v → u' ≡ u → at' ≡ at → truth_in (numbers v' u') at' test s ≡ truth → truth_in (numbers v u) at test s ≡ truth
+truth_seen v v' u u' at at' test s truth ev eu ea h = sym (λ j. truth_in (numbers (ev j) (eu j)) (ea j) test s) ∙ h
+
+-- the fault of an evaluation that was refused
+pub fault_seen : (truth : Result Bool LayoutFault) (found : StepFault) (fault : LayoutFault) → GivesBy (λ t. t) truth (Err found) → found ≡ Layout fault → truth ≡ Err fault
+fault_seen truth found fault gives is = subst (λ f. GivesBy (λ t. t) truth (Err f)) is gives
 
 -- in the scene that a run is in
 module _ (run : Run) (node : NodeId) (turns : List Turn) (v : List ℕ) (u : ℕ) (at : Scene)

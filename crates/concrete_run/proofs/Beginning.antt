@@ -12,6 +12,7 @@ use Rattle.sefl_syntax.specs.declared.job.RawInjection.{RawInjection}
 use Rattle.sefl_syntax.specs.declared.reference.Addr.{Addr}
 use Rattle.sn_width.specs.declared.faults.LayoutFault.{LayoutFault}
 use Rattle.sn_width.specs.declared.faults.StepFault.{StepFault}
+use Rattle.sn_width.specs.declared.faults.StepFault.TheVariants.{Layout}
 use Rattle.cell_stacks.specs.Outcome.{Meets, and_then}
 use Rattle.sefl_syntax.specs.declared.cond.Cond.{Cond}
 use Rattle.sefl_syntax.specs.declared.job.RawField.{RawField}
@@ -23,7 +24,9 @@ use Rattle.sefl_meaning.specs.Steps.{tag_set}
 use Rattle.sefl_meaning.specs.Network.{Network}
 use Rattle.sefl_meaning.specs.Values.{Values, numbers}
 use Rattle.sefl_meaning.specs.declared.walk.Turn.{Turn}
+use Rattle.instr_steps.specs.Scenes.{GivesBy}
 use Rattle.concrete_run.specs.Starting.{Goes, HasNoFault, IsFirstTooWide, IsFirstOther, StartsBut}
+use Rattle.concrete_run.proofs.Arms.{fault_seen}
 use Rattle.concrete_run.proofs.Counting.{next_of}
 
 -- what the test of a field's value tells
@@ -200,11 +203,14 @@ module _ (net : Network) (p : EntryParts) (v : List ℕ) (raw : RawInjection) (f
   }
 
 -- the truth of a test that is not true
-pub not_true : (r t : Result Bool LayoutFault) (b : Bool) → r ≡ t → r ≡ Ok b → b ≡ false → t ≡ Ok true → ⊥
-not_true r t b e is false_is h = cc
+pub is_truth : (r : Result Bool StepFault) (t : Result Bool LayoutFault) (b : Bool) → GivesBy (λ truth. truth) t r → r ≡ Ok b → t ≡ Ok b
+is_truth r t b gives is = subst (GivesBy (λ truth. truth) t) is gives
 
-pub no_truth : (r t : Result Bool LayoutFault) (fault : LayoutFault) → r ≡ t → r ≡ Err fault → t ≡ Ok true → ⊥
-no_truth r t fault e is h = cc
+pub not_true : (r : Result Bool StepFault) (t : Result Bool LayoutFault) (b : Bool) → GivesBy (λ truth. truth) t r → r ≡ Ok b → b ≡ false → t ≡ Ok true → ⊥
+not_true r t b gives is false_is h = let e = is_truth r t b gives is in cc
+
+pub no_truth : (t : Result Bool LayoutFault) (found : StepFault) (fault : LayoutFault) → GivesBy (λ truth. truth) t (Err found) → found ≡ Layout fault → t ≡ Ok true → ⊥
+no_truth t found fault gives is h = let e = fault_seen t found fault gives is in cc
 
 -- steps without a fault
 pub goes_first : (step : Result (Carried ℕ) LayoutFault) (next : Carried ℕ → Result (Carried ℕ) LayoutFault) → Goes (and_then step next) → Goes step

@@ -1,9 +1,9 @@
 -- Whether a packet starts, or why it does not.
-use Rattle.std.specs.Prelude.{◌≡◌, ◌<◌, ◌≤◌, ℕ, List, [], ◌∷◌, length, Result, Ok, Err}
+use Rattle.std.specs.Prelude.{◌≡◌, ◌<◌, ◌≤◌, ℕ, Bool, List, [], ◌∷◌, length, Result, Ok, Err}
 use Rattle.sefl_meaning.specs.Carried.{Carried, scene_at}
 use Rattle.sefl_meaning.specs.Injected.{FitWidths, IsTrueIn, Starts, injected, unknown_count, unknown_widths}
 use Rattle.sefl_meaning.specs.Network.{Network, Entry}
-use Rattle.sefl_meaning.specs.Values.{numbers}
+use Rattle.sefl_meaning.specs.Values.{Values, numbers}
 use Rattle.sefl_meaning.specs.View.{carried_of}
 use Rattle.sefl_meaning.specs.declared.walk.Carried.{Carried as State}
 use Rattle.sn_width.specs.Width.{FitsWidth}
@@ -13,8 +13,13 @@ use Rattle.sn_width.specs.declared.faults.StepFault.TheVariants.{Layout}
 use Rattle.sefl_syntax.specs.Trees.{CondTree}
 use Rattle.std.specs.Prelude.{zero, suc, Option, None, Some}
 use Rattle.std.specs.List.{AllByRecursion}
+use Rattle.concrete_run.specs.declared.injecting.Origin.{Origin}
 use Rattle.concrete_run.specs.declared.injecting.StartFault.{StartFault}
 use Rattle.concrete_run.specs.declared.injecting.StartFault.TheVariants.{Short, ValueTooWide, WhereFalse, NoMemory}
+
+-- the operations on numbers of the packet
+abbrev pub operations_of : Origin → Values ℕ Bool
+operations_of at = numbers at.values.numbers.now at.values.unknowns
 
 -- the number at this index is the first that does not fit its width
 abbrev pub IsFirstTooWide : List ℕ → List ℕ → ℕ → Type 0

@@ -11,13 +11,13 @@ ghost use Rattle.concrete_run.specs.Weights.{code_weight, frames_weight, instr_w
 
 use crate::instrs::{Exit, choose, constrain, exit_after, failed};
 use crate::packet::{Packet, Run};
-use concrete_steps::{allocate, assign, create_tag, deallocate, destroy_tag, set_tag, truth_of};
+use instr_steps::{allocate, assign, create_tag, deallocate, destroy_tag, set_tag, truth_of};
 use net_tables::{behind_code, behind_instr, behind_item};
 use sefl_meaning::laws::sequences_associate;
 use sefl_meaning::{Decision, Failure, State, Turn};
 use sefl_syntax::{Cond, Instr, Name, Text};
 use sn_tree::Shared;
-use sn_width::{NameId, NoMemory, NodeId, Num};
+use sn_width::{NameId, NoMemory, NodeId, Num, StepFault};
 use std::alloc::Global;
 
 /// Code that is still to run, in the turns of the Fors round it.
@@ -194,6 +194,7 @@ fn run_instr<'a>(
     ensures weight { OnOk result (frames_weight (network run.now.net.now) (reverse frames.new.items)
         < instr_weight (network run.now.net.now) (instr_tree instr.now) + frames_weight (network run.now.net.now) (reverse frames.old.items)) }
 {
+    let o = run.values();
     let at = run.scene(node, &turns);
     match instr {
         Instr::Allocate(target) => {
@@ -203,9 +204,12 @@ fn run_instr<'a>(
             exit_after(site, deallocate(alloc, &at, &mut packet.state, target))
         }
         Instr::Assign { target, value } => {
-            exit_after(site, assign(alloc, &at, &mut packet.state, target, value))
+            exit_after(
+                site,
+                assign(alloc, &o, &at, &mut packet.state, target, value),
+            )
         }
-        Instr::AssignAny(target) => choose(alloc, &at, site, target, packet),
+        Instr::AssignAny(target) => choose(alloc, &o, &at, site, target, packet),
         Instr::CreateTag { name, addr } => {
             exit_after(site, create_tag(alloc, &at, &mut packet.state, name, addr))
         }
@@ -215,13 +219,15 @@ fn run_instr<'a>(
         Instr::DestroyTag(name) => {
             exit_after(site, destroy_tag(alloc, &at, &mut packet.state, name))
         }
-        Instr::Constrain(test) => constrain(&at, site, test, packet),
+        Instr::Constrain(test) => constrain(alloc, &o, &at, site, test, packet),
         Instr::Fail(text) => {
             let text = text.clone()?;
             Ok(failed(site, Failure::Message { text }))
         }
         Instr::If { test, first, other } => {
-            branch(run, node, turns, site, test, first, other, frames, packet)
+            branch(
+                alloc, run, node, turns, site, test, first, other, frames, packet,
+            )
         }
         Instr::For { var, pattern, body } => {
             each(
@@ -276,6 +282,7 @@ fn each<'a>(
 
 /// An If: puts the block that is taken on the frames.
 fn branch<'a>(
+    alloc: Global,
     run: &Run<'a>,
     node: NodeId,
     turns: Shared<Turn>,
@@ -294,9 +301,11 @@ fn branch<'a>(
         < instr_weight (network run.now.net.now) (branch (cond_tree test.now) (code_tree first.now) (code_tree other.now)) + frames_weight (network run.now.net.now) (reverse frames.old.items)) }
 {
     let inner = behind_item(site)?;
+    let o = run.values();
     let at = run.scene(node, &turns);
-    match truth_of(&at, &packet.state, test) {
-        Err(fault) => Ok(failed(site, Failure::Layout(fault))),
+    match truth_of(alloc, &o, &at, &packet.state, test) {
+        Err(StepFault::Layout(fault)) => Ok(failed(site, Failure::Layout(fault))),
+        Err(StepFault::NoMemory) => Err(NoMemory),
         Ok(true) => {
             packet.decide(Decision::Then)?;
             put_code(frames, turns, inner, first)?;

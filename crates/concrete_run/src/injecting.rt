@@ -6,11 +6,11 @@ ghost use Rattle.net_check.specs.Sound.{AreOfOneJob};
 ghost use Rattle.sefl_syntax.specs.Views.{cond_tree, injection_tree};
 ghost use Rattle.sefl_meaning.specs.Injected.{IsTrueIn, injected, unknown_widths, with_field, with_fields, with_tags};
 ghost use Rattle.sefl_meaning.specs.View.{carried_of};
-ghost use Rattle.concrete_steps.specs.Scenes.{operations_of, scene_of};
-ghost use Rattle.concrete_run.specs.Starting.{Goes, HasNoFault, OtherAnswer, StartAnswer, TooWideAnswer};
+ghost use Rattle.instr_steps.specs.Scenes.{scene_of};
+ghost use Rattle.concrete_run.specs.Starting.{Goes, HasNoFault, OtherAnswer, StartAnswer, TooWideAnswer, operations_of};
 
-use concrete_steps::{Scene, allocate, number_at, put, reduced, set_tag, truth_of, width_of};
 use header_layers::Layers;
+use instr_steps::{Numbers, Scene, allocate, put, reduced, set_tag, truth_of, width_of};
 use metadata_scopes::Scopes;
 use net_check::{Injection, Net};
 use sefl_meaning::State;
@@ -68,18 +68,29 @@ pub fn start(
     }
     let (node, _) = injection.place();
     let turns = Shared::empty();
-    let at = Scene {
-        net,
-        numbers: values,
-        unknowns,
-        node,
-        turns: &turns,
+    let at = Origin {
+        scene: Scene {
+            net,
+            node,
+            turns: &turns,
+        },
+        values: Numbers {
+            numbers: values,
+            unknowns,
+        },
     };
     let state = injected(alloc, &at, raw)?;
-    if let Some(index) = first_false(&at, &state, &raw.tests) {
-        return Err(StartFault::WhereFalse { index });
+    match first_false(alloc, &at, &state, &raw.tests)? {
+        Some(index) => Err(StartFault::WhereFalse { index }),
+        None => Ok(state),
     }
-    Ok(state)
+}
+
+/// Where a packet is injected, and its numbers.
+#[derive(Clone, Copy)]
+struct Origin<'a> {
+    scene: Scene<'a>,
+    values: Numbers<'a>,
 }
 
 /// The first unknown field, by its number from 0, whose number exceeds its width.
@@ -100,23 +111,29 @@ fn first_too_wide(fields: &[RawField], values: &[Num]) -> Option<u64>
 }
 
 /// The first test, by its index from 0, that is not true.
-fn first_false(at: &Scene<'_>, state: &State, tests: &[Cond]) -> Option<u64>
-    ensures { OtherAnswer (IsTrueIn (scene_of at.now) (operations_of at.now) (carried_of state.now)) (map cond_tree tests.now) result }
+fn first_false(
+    alloc: Global,
+    at: &Origin<'_>,
+    state: &State,
+    tests: &[Cond],
+) -> Result<Option<u64>, NoMemory>
+    ensures { IfOk result (OtherAnswer (IsTrueIn (scene_of at.now.scene) (operations_of at.now) (carried_of state.now)) (map cond_tree tests.now)) }
 {
     for (index, test) in tests.iter().enumerate() {
-        match truth_of(at, state, test) {
+        match truth_of(alloc, &at.values, &at.scene, state, test) {
             Ok(true) => {}
-            Ok(false) => return Some(index as u64),
-            Err(_) => return Some(index as u64),
+            Ok(false) => return Ok(Some(index as u64)),
+            Err(StepFault::Layout(_)) => return Ok(Some(index as u64)),
+            Err(StepFault::NoMemory) => return Err(NoMemory),
         }
     }
-    None
+    Ok(None)
 }
 
 /// The tags and then the fields.
-fn injected(alloc: Global, at: &Scene<'_>, raw: &RawInjection) -> Result<State, NoMemory>
-    requires { Goes (injected (operations_of at.now) (scene_of at.now) (injection_tree raw.now)) }
-    ensures { IfOk result (λ s. injected (operations_of at.now) (scene_of at.now) (injection_tree raw.now) ≡ Ok (carried_of s)) }
+fn injected(alloc: Global, at: &Origin<'_>, raw: &RawInjection) -> Result<State, NoMemory>
+    requires { Goes (injected (operations_of at.now) (scene_of at.now.scene) (injection_tree raw.now)) }
+    ensures { IfOk result (λ s. injected (operations_of at.now) (scene_of at.now.scene) (injection_tree raw.now) ≡ Ok (carried_of s)) }
 {
     let mut state = State {
         layers: Layers::new(),
@@ -141,27 +158,27 @@ fn taken(step: Result<(), StepFault>) -> Result<(), NoMemory>
 
 fn add_tags(
     alloc: Global,
-    at: &Scene<'_>,
+    at: &Origin<'_>,
     state: &mut State,
     tags: &[(Name, Addr)],
 ) -> Result<(), NoMemory>
-    requires { Goes (with_tags (operations_of at.now) (scene_of at.now) tags.now (carried_of state.old)) }
-    ensures { OnOk result (with_tags (operations_of at.now) (scene_of at.now) tags.now (carried_of state.old) ≡ Ok (carried_of state.new)) }
+    requires { Goes (with_tags (operations_of at.now) (scene_of at.now.scene) tags.now (carried_of state.old)) }
+    ensures { OnOk result (with_tags (operations_of at.now) (scene_of at.now.scene) tags.now (carried_of state.old) ≡ Ok (carried_of state.new)) }
 {
     for (name, addr) in tags {
-        taken(set_tag(alloc, at, state, name, addr))?;
+        taken(set_tag(alloc, &at.scene, state, name, addr))?;
     }
     Ok(())
 }
 
 fn add_fields(
     alloc: Global,
-    at: &Scene<'_>,
+    at: &Origin<'_>,
     state: &mut State,
     fields: &[RawField],
 ) -> Result<(), NoMemory>
-    requires { Goes (with_fields (operations_of at.now) (scene_of at.now) 0 fields.now (carried_of state.old)) }
-    ensures { OnOk result (with_fields (operations_of at.now) (scene_of at.now) 0 fields.now (carried_of state.old) ≡ Ok (carried_of state.new)) }
+    requires { Goes (with_fields (operations_of at.now) (scene_of at.now.scene) 0 fields.now (carried_of state.old)) }
+    ensures { OnOk result (with_fields (operations_of at.now) (scene_of at.now.scene) 0 fields.now (carried_of state.old) ≡ Ok (carried_of state.new)) }
 {
     let mut number: usize = 0;
     for field in fields {
@@ -176,19 +193,19 @@ fn add_fields(
 /// A field is one cell, with the given value or with that of the unknown field of this number.
 fn add_field(
     alloc: Global,
-    at: &Scene<'_>,
+    at: &Origin<'_>,
     state: &mut State,
     number: usize,
     field: &RawField,
 ) -> Result<(), NoMemory>
-    requires { Goes (with_field (operations_of at.now) (scene_of at.now) number field.now (carried_of state.old)) }
-    ensures { OnOk result (with_field (operations_of at.now) (scene_of at.now) number field.now (carried_of state.old) ≡ Ok (carried_of state.new)) }
+    requires { Goes (with_field (operations_of at.now) (scene_of at.now.scene) number field.now (carried_of state.old)) }
+    ensures { OnOk result (with_field (operations_of at.now) (scene_of at.now.scene) number field.now (carried_of state.old) ≡ Ok (carried_of state.new)) }
 {
     let width = width_of(&field.target);
     let value = match field.value {
-        None => number_at(at, width, number),
+        None => at.values.unknown(width, number),
         Some(value) => reduced(width, value),
     };
-    taken(allocate(alloc, at, state, &field.target))?;
-    taken(put(alloc, at, state, &field.target, value))
+    taken(allocate(alloc, &at.scene, state, &field.target))?;
+    taken(put(alloc, &at.scene, state, &field.target, value))
 }

@@ -1,10 +1,10 @@
 //! A packet on its way.
 
 ghost use Rattle.std.specs.Prelude.{◌≡◌, ◌∷◌, [], ◌++◌, OnOk};
-ghost use Rattle.concrete_steps.specs.Scenes.{scene_of};
+ghost use Rattle.instr_steps.specs.Scenes.{scene_of};
 ghost use Rattle.concrete_run.specs.Passing.{begun_once, progress_of, scene_in};
 
-use concrete_steps::Scene;
+use instr_steps::{Numbers, Scene};
 use net_check::Net;
 use sefl_meaning::{Decision, State, Turn};
 use sn_tree::Shared;
@@ -22,15 +22,22 @@ impl<'a> Run<'a> {
     /// Where code of a box runs, in these turns of Fors.
     pub(crate) fn scene<'b>(&'b self, node: NodeId, turns: &'b Shared<Turn>) -> Scene<'b>
         ensures scene { scene_of result ≡ scene_in self.now node turns.now }
-        ensures numbers { result.numbers.now ≡ self.now.numbers.now }
-        ensures unknowns { result.unknowns ≡ self.now.unknowns }
     {
         Scene {
             net: self.net,
-            numbers: self.numbers,
-            unknowns: self.unknowns,
             node,
             turns,
+        }
+    }
+
+    /// The numbers, as the values of cells.
+    pub(crate) fn values(&self) -> Numbers<'a>
+        ensures numbers { result.numbers.now ≡ self.now.numbers.now }
+        ensures unknowns { result.unknowns ≡ self.now.unknowns }
+    {
+        Numbers {
+            numbers: self.numbers,
+            unknowns: self.unknowns,
         }
     }
 }

@@ -2,15 +2,15 @@
 
 use crate::cells::{Answer, answered, width_of};
 use crate::jobs::{accepted, job_of, nothing};
-use concrete_steps::{
-    Scene, allocate, assign, assign_any, choice_at, create_tag, deallocate, destroy_tag, number_at,
-    put, reduced, set_tag, truth_of, value_of, width_of as width_at,
+use instr_steps::{
+    Numbers, Scene, allocate, assign, create_tag, deallocate, destroy_tag, put, reduced, set_tag,
+    truth_of, value_of, width_of as width_at,
 };
 use net_check::Net;
 use sefl_meaning::{State, Turn};
 use sefl_syntax::{Body, Instr, Job, Name, NodeDecl, Target};
 use sn_tree::Shared;
-use sn_width::{LayoutFault, NameId, NodeId, Num};
+use sn_width::{LayoutFault, NameId, NodeId, Num, StepFault};
 use std::alloc::Global;
 use std::process::Abort;
 
@@ -53,14 +53,28 @@ fn first_of(job: &Job) -> Option<&Instr> {
     node.codes.first()?.code.first()
 }
 
-/// The packet's numbers are one unknown field, 5, and one choice, 258.
 fn scene<'a>(net: &'a Net, node: u32, turns: &'a Shared<Turn>) -> Scene<'a> {
     Scene {
         net,
-        numbers: &[5, 258],
-        unknowns: 1,
         node: NodeId(node),
         turns,
+    }
+}
+
+/// The packet's numbers are one unknown field, 5, and one choice, 258.
+fn numbers() -> Numbers<'static> {
+    Numbers {
+        numbers: &[5, 258],
+        unknowns: 1,
+    }
+}
+
+/// The answer of an evaluation.
+fn evaluated<T>(rt: &impl Abort, found: Result<T, StepFault>) -> Result<T, LayoutFault> {
+    match found {
+        Ok(value) => Ok(value),
+        Err(StepFault::Layout(fault)) => Err(fault),
+        Err(StepFault::NoMemory) => panic!(rt; "memory"),
     }
 }
 
@@ -83,15 +97,24 @@ fn answer(
     state: &mut State,
     instr: &Instr,
 ) -> Answer {
+    let o = numbers();
     match instr {
         Instr::Allocate(target) => answered(rt, allocate(alloc, at, state, target)),
         Instr::Deallocate(target) => answered(rt, deallocate(alloc, at, state, target)),
-        Instr::Assign { target, value } => answered(rt, assign(alloc, at, state, target, value)),
-        Instr::AssignAny(target) => answered(rt, assign_any(alloc, at, state, target, 0)),
+        Instr::Assign { target, value } => {
+            answered(rt, assign(alloc, &o, at, state, target, value))
+        },
+        Instr::AssignAny(target) => {
+            let choice = o.choice(width_at(target), 0);
+            answered(rt, put(alloc, at, state, target, choice))
+        },
         Instr::CreateTag { name, addr } => answered(rt, create_tag(alloc, at, state, name, addr)),
         Instr::SetTag { name, addr } => answered(rt, set_tag(alloc, at, state, name, addr)),
         Instr::DestroyTag(name) => answered(rt, destroy_tag(alloc, at, state, name)),
-        Instr::Constrain(test) => Ok(Num::from(truth_of(at, state, test)?)),
+        Instr::Constrain(test) => {
+            let truth = evaluated(rt, truth_of(alloc, &o, at, state, test))?;
+            Ok(Num::from(truth))
+        },
         _ => panic!(rt; "not one step"),
     }
 }
@@ -108,12 +131,14 @@ fn assert_steps(rt: &impl Abort, alloc: Global, here: &mut Here, steps: &[(&str,
 }
 
 /// What the value of an assignment is, at 8 bits, in the box with this number.
-fn value(rt: &impl Abort, here: &Here, node: u32, instr: &Instr) -> Answer {
+fn value(rt: &impl Abort, alloc: Global, here: &Here, node: u32, instr: &Instr) -> Answer {
     let Instr::Assign { value, .. } = instr else {
         panic!(rt; "not an assignment")
     };
     let at = scene(&here.net, node, &here.turns);
-    value_of(&at, &here.state, width_of(rt, 8), value)
+    let width = width_of(rt, 8);
+    let found = value_of(alloc, &numbers(), &at, &here.state, width, value);
+    evaluated(rt, found)
 }
 
 /// What is assigned, at 8 bits, in the boxes with these numbers.
@@ -121,7 +146,7 @@ fn assert_values(rt: &impl Abort, alloc: Global, here: &Here, rows: &[(u32, &str
     for (node, text, wanted) in rows {
         let job = job(rt, alloc, text);
         let instr = first_of(&job).expect(rt, "an instruction");
-        let found = value(rt, here, *node, instr);
+        let found = value(rt, alloc, here, *node, instr);
         assert!(rt; found == *wanted, "{text}");
     }
 }
@@ -208,21 +233,18 @@ fn a_variable_stands_for_metadata_of_its_box(rt: HostRuntime) {
 }
 
 /// The number at the place, and the choice of that number, at 8 bits.
-fn assert_numbers(rt: &impl Abort, here: &Here, place: usize, number: Num, choice: Num) {
-    let at = scene(&here.net, 0, &here.turns);
+fn assert_numbers(rt: &impl Abort, place: usize, number: Num, choice: Num) {
     let width = width_of(rt, 8);
-    assert_eq!(rt; number_at(&at, width, place), number);
-    assert_eq!(rt; choice_at(&at, width, place), choice);
+    assert_eq!(rt; numbers().unknown(width, place), number);
+    assert_eq!(rt; numbers().choice(width, place), choice);
 }
 
 #[test]
 fn numbers_are_reduced_and_are_0_past_the_end(rt: HostRuntime) {
-    let here = at_start(net(&rt, rt.alloc()), Shared::empty());
     assert_eq!(rt; reduced(width_of(&rt, 8), 300), 44);
     for (place, number, choice) in [(0, 5, 2), (1, 2, 0), (2, 0, 0), (usize::MAX, 0, 0)] {
-        assert_numbers(&rt, &here, place, number, choice);
+        assert_numbers(&rt, place, number, choice);
     }
-    let_go(here);
 }
 
 #[test]

@@ -4,8 +4,9 @@ use Rattle.sefl_syntax.specs.Views.{cond_tree, expr_tree, instr_tree}
 use Rattle.net_check.specs.Network.{network}
 use Rattle.sefl_meaning.specs.Runs.{noting}
 use Rattle.sefl_meaning.specs.Steps.{evaluated, tag_created, tag_set, tag_destroyed}
+use Rattle.sefl_meaning.specs.Values.{numbers}
 use Rattle.sefl_meaning.specs.View.{carried_of}
-use Rattle.concrete_steps.specs.Scenes.{operations_of, scene_of}
+use Rattle.instr_steps.specs.Scenes.{scene_of}
 use Rattle.concrete_run.specs.Passing.{progress_of, ran_of, run_frames}
 use Rattle.concrete_run.specs.Weights.{frames_weight}
 use Rattle.concrete_run.proofs.Arms.{block_put, run_in, stepped_in}
@@ -32,20 +33,22 @@ returns-in-Block-clause-weight c =
 pub returns-in-Assign-clause-runs : goal.returns-in-Assign-clause-runs
 returns-in-Assign-clause-runs c =
     let old = c.args.packet.now in
+    let o = c.values-o in
     let at = c.scene-at in
-    stepped_in c.args.run.now c.args.node c.args.turns at.result.numbers.now at.result.unknowns (scene_of at.result)
-    at.ensures.numbers at.ensures.unknowns at.ensures.scene c.args.site c.args.instr.now (tree.assign c.in-Assign.target (expr_tree c.in-Assign.value))
+    stepped_in c.args.run.now c.args.node c.args.turns o.result.numbers.now o.result.unknowns (scene_of at.result)
+    o.ensures.numbers o.ensures.unknowns at.ensures.scene c.args.site c.args.instr.now (tree.assign c.in-Assign.target (expr_tree c.in-Assign.value))
     (ap instr_tree c.in-Assign.is ∙ tree_of_assign c.in-Assign.target c.in-Assign.value)
-    (evaluated (operations_of at.result) (scene_of at.result) c.in-Assign.target (expr_tree c.in-Assign.value) (carried_of old.state)) c.assign.result c.exit_after-in-Assign.result
+    (evaluated (numbers o.result.numbers.now o.result.unknowns) (scene_of at.result) c.in-Assign.target (expr_tree c.in-Assign.value) (carried_of old.state)) c.assign.result c.exit_after-in-Assign.result
     old.decisions.items (carried_of old.state) (carried_of c.assign.new.state) old.choices.items old.begun (run_frames c.args.run.now c.args.node (reverse c.args.frames.now.items))
     refl c.assign.ensures c.exit_after-in-Assign.ensures
 
 pub returns-in-CreateTag-clause-runs : goal.returns-in-CreateTag-clause-runs
 returns-in-CreateTag-clause-runs c =
     let old = c.args.packet.now in
+    let o = c.values-o in
     let at = c.scene-at in
-    stepped_in c.args.run.now c.args.node c.args.turns at.result.numbers.now at.result.unknowns (scene_of at.result)
-    at.ensures.numbers at.ensures.unknowns at.ensures.scene c.args.site c.args.instr.now (tree.create_tag c.in-CreateTag.name c.in-CreateTag.addr)
+    stepped_in c.args.run.now c.args.node c.args.turns o.result.numbers.now o.result.unknowns (scene_of at.result)
+    o.ensures.numbers o.ensures.unknowns at.ensures.scene c.args.site c.args.instr.now (tree.create_tag c.in-CreateTag.name c.in-CreateTag.addr)
     (ap instr_tree c.in-CreateTag.is ∙ tree_of_create_tag c.in-CreateTag.name c.in-CreateTag.addr)
     (tag_created (scene_of at.result) c.in-CreateTag.name c.in-CreateTag.addr (carried_of old.state)) c.create_tag.result c.exit_after-in-CreateTag.result
     old.decisions.items (carried_of old.state) (carried_of c.create_tag.new.state) old.choices.items old.begun (run_frames c.args.run.now c.args.node (reverse c.args.frames.now.items))
@@ -54,9 +57,10 @@ returns-in-CreateTag-clause-runs c =
 pub returns-in-SetTag-clause-runs : goal.returns-in-SetTag-clause-runs
 returns-in-SetTag-clause-runs c =
     let old = c.args.packet.now in
+    let o = c.values-o in
     let at = c.scene-at in
-    stepped_in c.args.run.now c.args.node c.args.turns at.result.numbers.now at.result.unknowns (scene_of at.result)
-    at.ensures.numbers at.ensures.unknowns at.ensures.scene c.args.site c.args.instr.now (tree.set_tag c.in-SetTag.name c.in-SetTag.addr)
+    stepped_in c.args.run.now c.args.node c.args.turns o.result.numbers.now o.result.unknowns (scene_of at.result)
+    o.ensures.numbers o.ensures.unknowns at.ensures.scene c.args.site c.args.instr.now (tree.set_tag c.in-SetTag.name c.in-SetTag.addr)
     (ap instr_tree c.in-SetTag.is ∙ tree_of_set_tag c.in-SetTag.name c.in-SetTag.addr)
     (tag_set (scene_of at.result) c.in-SetTag.name c.in-SetTag.addr (carried_of old.state)) c.set_tag.result c.exit_after-in-SetTag.result
     old.decisions.items (carried_of old.state) (carried_of c.set_tag.new.state) old.choices.items old.begun (run_frames c.args.run.now c.args.node (reverse c.args.frames.now.items))
@@ -65,9 +69,10 @@ returns-in-SetTag-clause-runs c =
 pub returns-in-DestroyTag-clause-runs : goal.returns-in-DestroyTag-clause-runs
 returns-in-DestroyTag-clause-runs c =
     let old = c.args.packet.now in
+    let o = c.values-o in
     let at = c.scene-at in
-    stepped_in c.args.run.now c.args.node c.args.turns at.result.numbers.now at.result.unknowns (scene_of at.result)
-    at.ensures.numbers at.ensures.unknowns at.ensures.scene c.args.site c.args.instr.now (tree.destroy_tag c.in-DestroyTag.name)
+    stepped_in c.args.run.now c.args.node c.args.turns o.result.numbers.now o.result.unknowns (scene_of at.result)
+    o.ensures.numbers o.ensures.unknowns at.ensures.scene c.args.site c.args.instr.now (tree.destroy_tag c.in-DestroyTag.name)
     (ap instr_tree c.in-DestroyTag.is ∙ tree_of_destroy_tag c.in-DestroyTag.name)
     (tag_destroyed (scene_of at.result) c.in-DestroyTag.name (carried_of old.state)) c.destroy_tag.result c.exit_after-in-DestroyTag.result
     old.decisions.items (carried_of old.state) (carried_of c.destroy_tag.new.state) old.choices.items old.begun (run_frames c.args.run.now c.args.node (reverse c.args.frames.now.items))
@@ -76,9 +81,10 @@ returns-in-DestroyTag-clause-runs c =
 pub returns-in-Constrain-clause-runs : goal.returns-in-Constrain-clause-runs
 returns-in-Constrain-clause-runs c =
     let old = c.args.packet.now in
+    let o = c.values-o in
     let at = c.scene-at in
-    run_in c.args.run.now c.args.node c.args.turns at.result.numbers.now at.result.unknowns (scene_of at.result)
-    at.ensures.numbers at.ensures.unknowns at.ensures.scene c.args.site c.args.instr.now (tree.constrain (cond_tree c.in-Constrain.test))
+    run_in c.args.run.now c.args.node c.args.turns o.result.numbers.now o.result.unknowns (scene_of at.result)
+    o.ensures.numbers o.ensures.unknowns at.ensures.scene c.args.site c.args.instr.now (tree.constrain (cond_tree c.in-Constrain.test))
     (ap instr_tree c.in-Constrain.is ∙ tree_of_constrain c.in-Constrain.test)
     c.constrain.result (ran_of c.constrain.new.packet) old.decisions.items (progress_of old) (run_frames c.args.run.now c.args.node (reverse c.args.frames.now.items))
     c.constrain.ensures

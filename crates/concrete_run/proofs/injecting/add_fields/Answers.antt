@@ -2,7 +2,8 @@ use Rattle.std.proofs.Common.{◌≡◌, ℕ, ◌+◌, length, drop, arith, subs
 use Rattle.sefl_meaning.specs.Injected.{with_fields}
 use Rattle.net_check.specs.Network.{unknown_width}
 use Rattle.sefl_meaning.specs.View.{carried_of}
-use Rattle.concrete_steps.specs.Scenes.{operations_of, scene_of}
+use Rattle.instr_steps.specs.Scenes.{scene_of}
+use Rattle.concrete_run.specs.Starting.{operations_of}
 use Rattle.concrete_run.proofs.Beginning.{field_goes, fields_next, none_of, some_of, count_unknown, count_given}
 use Rattle.concrete_run.proofs.injecting.add_fields.Goals as goal
 use Rattle.concrete_run.proofs.injecting.add_fields.Goals.{then-is_none, else-is_none}
@@ -10,14 +11,14 @@ use Rattle.concrete_run.proofs.injecting.add_fields.Goals.{then-is_none, else-is
 pub add_field-requires : goal.add_field-requires
 add_field-requires c =
     let o = operations_of c.args.at.now in
-    let at = scene_of c.args.at.now in
+    let at = scene_of c.args.at.now.scene in
     field_goes o at c.args.fields.now c.loop-field.field-index c.loop-field.number c.field-item.result (carried_of c.loop-field.state)
     (with_fields o at 0 c.args.fields.now (carried_of c.args.state.now)) c.loop-field-test.true c.field-item.is c.loop-field.invariant.whole c.requires
 
 pub loop-field-preserved : goal.loop-field-preserved
 loop-field-preserved c =
     let o = operations_of c.args.at.now in
-    let at = scene_of c.args.at.now in
+    let at = scene_of c.args.at.now.scene in
     let f = c.field-item.result in
     let whole = with_fields o at 0 c.args.fields.now (carried_of c.args.state.now) in
     let next = fields_next o at c.args.fields.now c.loop-field.field-index c.loop-field.number f (carried_of c.loop-field.state) (carried_of c.add_field.new.state)

@@ -1,13 +1,14 @@
 use Rattle.std.proofs.Common.{◌≡◌, ◌≤◌, drop}
 use Rattle.sefl_meaning.specs.Injected.{with_fields}
 use Rattle.sefl_meaning.specs.View.{carried_of}
-use Rattle.concrete_steps.specs.Scenes.{operations_of, scene_of}
+use Rattle.instr_steps.specs.Scenes.{scene_of}
+use Rattle.concrete_run.specs.Starting.{operations_of}
 use Rattle.concrete_run.proofs.injecting.add_fields.Given as goal
 
 -- the fields that are left, on what is carried so far, make the whole
 abbrev pub invariant-loop-field : goal.invariant-loop-field
 invariant-loop-field l = record {
   counted : l.number ≤ l.field-index;
-  whole : with_fields (operations_of l.at) (scene_of l.at) l.number (drop l.field-index l.fields) (carried_of l.state)
-      ≡ with_fields (operations_of l.at) (scene_of l.at) 0 l.fields (carried_of l.initial.state);
+  whole : with_fields (operations_of l.at) (scene_of l.at.scene) l.number (drop l.field-index l.fields) (carried_of l.state)
+      ≡ with_fields (operations_of l.at) (scene_of l.at.scene) 0 l.fields (carried_of l.initial.state);
 }

@@ -1,11 +1,12 @@
 use Rattle.std.proofs.Common.{◌≡◌, drop}
 use Rattle.sefl_meaning.specs.Injected.{with_tags}
 use Rattle.sefl_meaning.specs.View.{carried_of}
-use Rattle.concrete_steps.specs.Scenes.{operations_of, scene_of}
+use Rattle.instr_steps.specs.Scenes.{scene_of}
+use Rattle.concrete_run.specs.Starting.{operations_of}
 use Rattle.concrete_run.proofs.injecting.add_tags.Given as goal
 
 -- the tags that are left, on what is carried so far, make the whole
 abbrev pub invariant-loop-name : goal.invariant-loop-name
 invariant-loop-name l =
-    with_tags (operations_of l.at) (scene_of l.at) (drop l.name-index l.tags) (carried_of l.state)
-    ≡ with_tags (operations_of l.at) (scene_of l.at) l.tags (carried_of l.initial.state)
+    with_tags (operations_of l.at) (scene_of l.at.scene) (drop l.name-index l.tags) (carried_of l.state)
+    ≡ with_tags (operations_of l.at) (scene_of l.at.scene) l.tags (carried_of l.initial.state)

@@ -1,0 +1,9 @@
+use Rattle.sefl_meaning.specs.View.{carried_of}
+use Rattle.instr_steps.specs.Scenes.{scene_of}
+use Rattle.instr_steps.proofs.Metadata.{deallocates}
+use Rattle.instr_steps.proofs.steps.deallocate.Goals as goal
+
+pub returns-in-Meta : goal.returns-in-Meta
+returns-in-Meta g c =
+    deallocates (scene_of c.args.at.now) c.args.target.now c.in-Meta.scope c.in-Meta.name c.in-Meta.width c.owner.result c.name_id.result
+    c.in-Meta.is c.owner.ensures c.name_id.ensures (carried_of c.args.state.now) c.deallocate-in-Meta.result c.deallocate-in-Meta.new.self c.deallocate-in-Meta.ensures.step

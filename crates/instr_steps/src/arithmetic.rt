@@ -1,0 +1,73 @@
+//! Values of cells and truths of tests, as the operations on them.
+
+ghost use Rattle.std.specs.Prelude.{◌≡◌, ℕ, map, IfOk};
+ghost use Rattle.sefl_meaning.specs.Values.{Values};
+
+use sn_width::{NoMemory, Num, Rel, Width};
+use std::alloc::Global;
+
+/// Operations on values of cells and on truths of tests. What they compute is `values`; a test is
+/// seen as its truth.
+pub trait Arithmetic {
+    type Value: Drop;
+
+    type Test: Drop;
+
+    /// What a test is seen as.
+    ghost Truth: { Type 0 };
+
+    ghost truth: { Self.Test → Truth };
+
+    ghost values: { Self → Values Self.Value Truth };
+
+    /// An equal value.
+    fn copied(&self, alloc: Global, value: &Self::Value) -> Result<Self::Value, NoMemory>
+        ensures { IfOk result (λ copy. copy ≡ value.now) };
+
+    /// The number, modulo `2^w`.
+    fn constant(&self, alloc: Global, width: Width, number: Num) -> Result<Self::Value, NoMemory>
+        ensures { IfOk result (λ v. v ≡ (values self.now).constant width number) };
+
+    fn plus(
+        &self,
+        alloc: Global,
+        width: Width,
+        left: &Self::Value,
+        right: &Self::Value,
+    ) -> Result<Self::Value, NoMemory>
+        ensures { IfOk result (λ v. v ≡ (values self.now).plus width left.now right.now) };
+
+    fn minus(
+        &self,
+        alloc: Global,
+        width: Width,
+        left: &Self::Value,
+        right: &Self::Value,
+    ) -> Result<Self::Value, NoMemory>
+        ensures { IfOk result (λ v. v ≡ (values self.now).minus width left.now right.now) };
+
+    fn compare(&self, width: Width, rel: Rel, left: Self::Value, right: Self::Value) -> Self::Test
+        ensures { truth result ≡ (values self.now).compare width rel left right };
+
+    fn member(
+        &self,
+        alloc: Global,
+        width: Width,
+        value: Self::Value,
+        ranges: &[(Num, Num)],
+    ) -> Result<Self::Test, NoMemory>
+        ensures { IfOk result (λ t. truth t ≡ (values self.now).member width value ranges.now) };
+
+    /// The test that is true.
+    fn always(&self) -> Self::Test
+        ensures { truth result ≡ (values self.now).always };
+
+    fn all_of(&self, tests: Vec<Self::Test>) -> Self::Test
+        ensures { truth result ≡ (values self.now).all_of (map truth tests.items) };
+
+    fn any_of(&self, tests: Vec<Self::Test>) -> Self::Test
+        ensures { truth result ≡ (values self.now).any_of (map truth tests.items) };
+
+    fn negation(&self, alloc: Global, test: Self::Test) -> Result<Self::Test, NoMemory>
+        ensures { IfOk result (λ t. truth t ≡ (values self.now).negation (truth test)) };
+}
