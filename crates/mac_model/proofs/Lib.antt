@@ -1,1 +1,2 @@
 pub mod MacLemmas
+pub mod RowLemmas

@@ -1,6 +1,8 @@
 //! MAC tables: their files.
 #![tactic(auto)]
 
+mod node;
 mod table;
 
+pub use node::mac_node;
 pub use table::{MacTable, read_mac};
