@@ -1,2 +1,4 @@
 pub mod MacLemmas
 pub mod RowLemmas
+pub mod SetLemmas
+pub mod NodeLemmas

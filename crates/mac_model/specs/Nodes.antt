@@ -16,6 +16,10 @@ mac_port rows a = option_map (λ row. row.1) (find (λ row. a == row.0) rows)
 abbrev pub address_key : Row → ℕ
 address_key row = row.0
 
+-- the address of the row, as a range
+abbrev pub point : Row → ℕ × ℕ
+point row = (row.0, row.0)
+
 -- all bits of an address count
 abbrev pub whole : Row → nodes.Row
 whole row = (row.0, 48, row.1)

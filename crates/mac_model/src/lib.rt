@@ -2,6 +2,7 @@
 #![tactic(auto)]
 
 mod node;
+mod sets;
 mod table;
 
 pub use node::mac_node;
