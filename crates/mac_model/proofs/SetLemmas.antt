@@ -1,11 +1,12 @@
 -- The addresses of rows as ranges.
-use Rattle.std.proofs.Common.{◌≡◌, ◌∙◌, refl, sym, ap, ℕ, ◌==◌, ◌&&◌, ◌||◌, nat_le, not, Bool, true, false, cond, List, [], ◌∷◌, map, filter, Option, None, Some, option_map, arith}
+use Rattle.std.proofs.Common.{◌≡◌, ◌∙◌, refl, sym, ap, ℕ, ◌==◌, ◌&&◌, ◌||◌, ◌^◌, ◌≤◌, ◌<◌, All, nat_le, not, Bool, true, false, cond, List, [], ◌∷◌, map, filter, Option, None, Some, option_map, arith}
 use Rattle.std.specs.Prelude.{find, is_none}
 use Rattle.std.specs.List.{AllByRecursion}
 use Rattle.std.proofs.lemmas.Bool.Decides.{nat_tests}
+use Rattle.std.proofs.lemmas.List.Elements.{All-from_recursion, recursion_from_All}
+use Rattle.sn_ranges.specs.Ranges.{RangeSet, IsSetOf, fits_width, is_member}
 use Rattle.table_nodes.specs.Exits.{lies_in}
-use Rattle.table_nodes.specs.TableNodes.{is_port, lets}
-use Rattle.sefl_syntax.specs.declared.net.TableKind.TheVariants.{Mac}
+use Rattle.table_nodes.specs.TableNodes.{is_port}
 use Rattle.mac_model.specs.MacTables.{Row, NoneTwice}
 use Rattle.mac_model.specs.Nodes.{mac_port, point}
 
@@ -59,5 +60,38 @@ own port (row ∷ rows) a apart = by (a == row.0) refl (row.1 == port) refl (own
     by false is true at rest = ap (λ b. b || lies_in a (map point kept)) (one row.0 a ∙ is) ∙ rest
     by false is false at rest = rest
 
-or_same : (b : Bool) (found : Option ℕ) (port : ℕ) → b ≡ true → ((b && is_none found) || is_port found port) ≡ lets Mac found port
-or_same b found port is = ap (λ b. (b && is_none found) || is_port found port) is
+-- ---- as sets
+
+points_fit : (rows : List Row) → AllByRecursion (λ row. row.0 < 2 ^ 48) rows → AllByRecursion (λ pair. (pair.0 ≤ pair.1) × (pair.1 < 2 ^ 48)) (map point rows)
+points_fit [] all = tt
+points_fit (row ∷ rows) all = (((omega arith), all.0), points_fit rows all.1)
+
+pub all_fit : (rows : List Row) → All (λ row. row.0 < 2 ^ 48) rows → All (λ pair. (pair.0 ≤ pair.1) × (pair.1 < 2 ^ 48)) (map point rows)
+all_fit rows all = All-from_recursion (λ pair. (pair.0 ≤ pair.1) × (pair.1 < 2 ^ 48)) (map point rows) (points_fit rows (recursion_from_All (λ row. row.0 < 2 ^ 48) rows all))
+
+kept : (P : Row → Type 0) (test : Row → Bool) (rows : List Row) → AllByRecursion P rows → AllByRecursion P (filter test rows)
+kept P test [] all = tt
+kept P test (row ∷ rows) all = by (test row) (kept P test rows all.1)
+  where
+    by : (b : Bool) → AllByRecursion P (filter test rows) → AllByRecursion P (cond b (row ∷ filter test rows) (filter test rows))
+    by true rest = (all.0, rest)
+    by false rest = rest
+
+pub all_kept : (test : Row → Bool) (rows : List Row) → All (λ row. row.0 < 2 ^ 48) rows → All (λ row. row.0 < 2 ^ 48) (filter test rows)
+all_kept test rows all = All-from_recursion (λ row. row.0 < 2 ^ 48) (filter test rows) (kept (λ row. row.0 < 2 ^ 48) test rows (recursion_from_All (λ row. row.0 < 2 ^ 48) rows all))
+
+pub own_is : (port : ℕ) (rows some : List Row) → some ≡ filter (λ row. row.1 == port) rows → NoneTwice rows → (set : RangeSet) → IsSetOf 48 (λ a. lies_in a (map point some)) set
+    → IsSetOf 48 (λ a. is_port (mac_port rows a) port) set
+own_is port rows some is apart set made = record {
+  same_width = made.same_width;
+  canonical = made.canonical;
+  members = λ a. made.members a ∙ ap (λ rows. lies_in a (map point rows)) is ∙ own port rows a apart;
+}
+
+pub unknown_is : (rows : List Row) (all : RangeSet) → IsSetOf 48 (λ a. lies_in a (map point rows)) all → (set : RangeSet)
+    → IsSetOf all.width (λ a. fits_width all.width a && not (is_member all.pairs a)) set → IsSetOf 48 (λ a. fits_width 48 a && is_none (mac_port rows a)) set
+unknown_is rows all is set made = record {
+  same_width = made.same_width ∙ is.same_width;
+  canonical = made.canonical;
+  members = λ a. made.members a ∙ (λ i. fits_width (is.same_width i) a && not (is.members a i)) ∙ ap (λ b. fits_width 48 a && b) (known rows a);
+}
