@@ -1,12 +1,9 @@
 -- The row of an address is one, in whatever order the rows stand.
-use Rattle.std.proofs.Common.{◌≡◌, ◌∙◌, refl, sym, ap, subst, ℕ, ◌==◌, ◌⊎◌, inl, inr, Bool, true, false, cond, if◌then◌else◌, List, [], ◌∷◌, map, Option, None, Some, option_map, IsPermutation, true≢false, arith}
+use Rattle.std.proofs.Common.{◌≡◌, ◌∙◌, refl, ap, ℕ, ◌==◌, ◌⊎◌, inl, inr, Bool, true, false, cond, if◌then◌else◌, List, [], ◌∷◌, map, Option, None, Some, option_map}
 use Rattle.std.specs.Prelude.{find}
-use Rattle.std.specs.List.{AllByRecursion}
-use Rattle.std.proofs.lemmas.List.Elements.{All-from_recursion, recursion_from_All}
-use Rattle.std.proofs.lemmas.List.Sorted.{All-permutation, IsPermutation-sym}
 use Rattle.sefl_syntax.specs.declared.net.TableKind.TheVariants.{Mac}
 use Rattle.table_nodes.specs.TableNodes.{first_held, row_guard}
-use Rattle.mac_model.specs.MacTables.{Row, NoneTwice}
+use Rattle.mac_model.specs.MacTables.{Row}
 use Rattle.mac_model.specs.Nodes.{mac_port, whole}
 
 abbrev pub Has : List Row → Row → Type 0

@@ -1,5 +1,5 @@
 -- The addresses of rows as ranges.
-use Rattle.std.proofs.Common.{◌≡◌, ◌∙◌, refl, sym, ap, ℕ, ◌==◌, ◌&&◌, ◌||◌, ◌^◌, ◌≤◌, ◌<◌, All, nat_le, not, Bool, true, false, cond, List, [], ◌∷◌, map, filter, Option, None, Some, option_map, arith}
+use Rattle.std.proofs.Common.{◌≡◌, ◌∙◌, refl, sym, ap, ℕ, ◌==◌, ◌&&◌, ◌||◌, ◌^◌, ◌≤◌, ◌<◌, All, nat_le, not, Bool, true, false, cond, List, [], ◌∷◌, map, filter, Some, option_map, arith}
 use Rattle.std.specs.Prelude.{find, is_none}
 use Rattle.std.specs.List.{AllByRecursion}
 use Rattle.std.proofs.lemmas.Bool.Decides.{nat_tests}

@@ -1,4 +1,4 @@
-//! MAC tables: their files.
+//! MAC tables: their files, and the nodes that they stand for.
 #![tactic(auto)]
 
 mod node;

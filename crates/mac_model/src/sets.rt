@@ -70,11 +70,7 @@ fn own(alloc: Global, rows: &[(u64, u32)], port: u32) -> Result<Ranges, NoMemory
 }
 
 /// The least list of ranges of the addresses of a port.
-fn own_ranges(
-    alloc: Global,
-    rows: &[(u64, u32)],
-    port: u32,
-) -> Result<Vec<(Num, Num)>, NoMemory>
+fn own_ranges(alloc: Global, rows: &[(u64, u32)], port: u32) -> Result<Vec<(Num, Num)>, NoMemory>
     requires addresses { All (λ row. row.0 < 2 ^ 48) rows.now }
     requires apart { NoneTwice rows.now }
     ensures canonical { IfOk result (λ ranges. IsCanonical 48 ranges.items) }

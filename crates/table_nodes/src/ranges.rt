@@ -13,11 +13,7 @@ use sn_width::{NoMemory, Num};
 use std::alloc::Global;
 
 /// The set of the addresses in any of the pairs.
-pub fn address_set(
-    alloc: Global,
-    kind: TableKind,
-    list: &[(Num, Num)],
-) -> Result<Ranges, NoMemory>
+pub fn address_set(alloc: Global, kind: TableKind, list: &[(Num, Num)]) -> Result<Ranges, NoMemory>
     requires { All (λ pair. (pair.0 ≤ pair.1) × (pair.1 < 2 ^ bits_of kind)) list.now }
     ensures { IfOk result (IsSetOf (bits_of kind) (λ a. lies_in a list.now)) }
 {

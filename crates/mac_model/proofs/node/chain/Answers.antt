@@ -1,4 +1,4 @@
-use Rattle.std.proofs.Common.{◌≡◌, ◌∙◌, ◌≤◌, All, List, map, sym, ap, subst}
+use Rattle.std.proofs.Common.{◌≡◌, ◌∙◌, ◌≤◌, All, map, sym, subst}
 use Rattle.table_nodes.specs.TableNodes.{Row}
 use Rattle.mac_model.specs.Nodes.{whole}
 use Rattle.mac_model.proofs.NodeLemmas.{all_whole}

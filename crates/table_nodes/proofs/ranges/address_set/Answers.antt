@@ -1,4 +1,4 @@
-use Rattle.std.proofs.Common.{◌≡◌, ◌∙◌, sym, subst}
+use Rattle.std.proofs.Common.{◌∙◌, sym, subst}
 use Rattle.sn_ranges.specs.Ranges.{IsSetOf, is_member}
 use Rattle.table_nodes.specs.TableNodes.{bits_of}
 use Rattle.table_nodes.proofs.Growth.{lies_is_member}
