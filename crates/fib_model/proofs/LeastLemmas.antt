@@ -1,29 +1,18 @@
 -- The least ranges of each port.
-use Rattle.std.proofs.Common.{◌≡◌, ◌∙◌, refl, sym, ap, subst, ℕ, zero, suc, ◌+◌, ◌^◌, ◌≤◌, ◌<◌, ◌&&◌, ◌||◌, Bool, true, false, nat_le, nat_lt, List, [], ◌∷◌, ◌++◌, length, take, All, Some, add-one, arith}
-use Rattle.std.specs.Prelude.{slice_get}
+use Rattle.std.proofs.Common.{◌≡◌, ◌∙◌, refl, sym, ap, ℕ, ◌^◌, ◌≤◌, ◌<◌, ◌&&◌, ◌||◌, Bool, true, false, nat_le, nat_lt, List, [], ◌∷◌, ◌++◌, length, All, arith}
 use Rattle.std.specs.List.{AllByRecursion}
-use Rattle.std.proofs.lemmas.List.{length-map, map-append}
 use Rattle.std.specs.declared.alloc.Global.{Global}
 use Rattle.std.specs.declared.vec.Vec.{Vec}
 use Rattle.std.proofs.lemmas.Bool.{le-leb}
 use Rattle.std.proofs.lemmas.Bool.Decides.{nat_tests}
 use Rattle.std.proofs.lemmas.List.Elements.{All-from_recursion}
-use Rattle.std.proofs.lemmas.Option.{none-some, same_Some}
 use Rattle.sn_ranges.specs.Ranges.{IsCanonical, is_member, in_range}
 use Rattle.sefl_syntax.specs.declared.net.TableKind.TheVariants.{Fib}
 use Rattle.table_nodes.specs.Exits.{lies_in}
 use Rattle.table_nodes.specs.Codes.{lists}
+use Rattle.table_nodes.specs.Laws.{SetsGrow}
 use Rattle.table_nodes.specs.TableNodes.{Set, SetsFor, is_port}
 use Rattle.fib_model.specs.Prefixes.{Row, fib_port}
-
-pub taken_more : {A : Type 0} (xs : List A) (i : ℕ) (x : A) → slice_get xs i ≡ Some x → take (i + 1) xs ≡ take i xs ++ x ∷ []
-taken_more xs i x is = rw add-one (by xs i x is)
-  where
-    by : {A : Type 0} (xs : List A) (i : ℕ) (x : A) → slice_get xs i ≡ Some x → take (suc i) xs ≡ take i xs ++ x ∷ []
-    by [] zero x is = absurd (none-some x is)
-    by [] (suc i) x is = absurd (none-some x is)
-    by (y ∷ ys) zero x is = ap (λ z. z ∷ []) (same_Some y x is)
-    by (y ∷ ys) (suc i) x is = ap (λ zs. y ∷ zs) (by ys i x is)
 
 pub lies_is_member : (set : Set) (a : ℕ) → lies_in a set ≡ is_member set a
 unfolding is_member in_range
@@ -61,27 +50,13 @@ raw_fits test set ordered is =
     All-from_recursion (λ r. (r.0 ≤ r.1) × (r.1 < 2 ^ 32)) set
     (fit (2 ^ 32) set ordered (λ a member. let h : nat_lt a 4294967296 ≡ true = and_first (nat_lt a 4294967296) (test a) (sym (is a) ∙ member) in grind (arith, nat_tests, h)))
 
-pub sets_more : (test : ℕ → ℕ → Bool) (port : ℕ) (sets : List Set) (set : Set) → SetsFor Fib test port sets → IsCanonical 32 set
-    → ((a : ℕ) → a < 2 ^ 32 → lies_in a set ≡ test a (port + length sets)) → SetsFor Fib test port (sets ++ set ∷ [])
-sets_more test port [] set are canonical is = (canonical, λ a less. is a less ∙ ap (test a) (omega arith), tt)
-sets_more test port (x ∷ sets) set are canonical is =
-    (are.0, are.1, sets_more test (suc port) sets set are.2 canonical (λ a less. is a less ∙ ap (test a) (omega arith)))
-
 -- the set of the next port
-pub next_set : (rows : List Row) (sets : List (Vec (ℕ × ℕ) Global)) (raw : Set) (set : Vec (ℕ × ℕ) Global) (port : ℕ) → length sets ≡ port
-    → SetsFor Fib (λ a. is_port (fib_port rows a)) 0 (lists sets) → IsCanonical 32 set.items → ((a : ℕ) → is_member set.items a ≡ is_member raw a)
+pub next_set : SetsGrow → (rows : List Row) (sets : List (Vec (ℕ × ℕ) Global)) (raw : Set) (set : Vec (ℕ × ℕ) Global) (port : ℕ) → length sets ≡ port
+    → SetsFor Fib (λ a. is_port (fib_port rows a)) 0 (lists sets) → IsCanonical 32 set.items → ((a : ℕ) → lies_in a set.items ≡ lies_in a raw)
     → ((a : ℕ) → is_member raw a ≡ (nat_lt a 4294967296 && is_port (fib_port rows a) port))
     → SetsFor Fib (λ a. is_port (fib_port rows a)) 0 (lists (sets ++ set ∷ []))
-next_set rows sets raw set port many are canonical members is =
-    subst (SetsFor Fib (λ a. is_port (fib_port rows a)) 0) (sym (map-append (λ set. set.items) sets (set ∷ [])))
-    (sets_more (λ a. is_port (fib_port rows a)) 0 (lists sets) set.items are canonical
+next_set grow rows sets raw set port many are canonical members is =
+    grow Fib (λ a. is_port (fib_port rows a)) sets set are canonical
     (λ a less.
     let e : nat_lt a 4294967296 ≡ true = grind (arith, nat_tests, less) in
-    let n : port ≡ 0 + length (lists sets) = sym many ∙ sym (length-map sets (λ (set : Vec (ℕ × ℕ) Global). set.items)) ∙ omega arith in
-    lies_is_member set.items a ∙ members a ∙ is a ∙ (λ i. e i && is_port (fib_port rows a) (n i))))
-
-pub within_more : {A : Type 0} (xs : List A) (i : ℕ) (x : A) → slice_get xs i ≡ Some x → i + 1 ≤ length xs
-within_more [] zero x is = absurd (none-some x is)
-within_more [] (suc i) x is = absurd (none-some x is)
-within_more (y ∷ ys) zero x is = omega arith
-within_more (y ∷ ys) (suc i) x is = let h = within_more ys i x is in omega (arith, h)
+    members a ∙ lies_is_member raw a ∙ is a ∙ (λ i. e i && is_port (fib_port rows a) (sym many i)))

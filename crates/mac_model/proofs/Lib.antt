@@ -1,1 +1,4 @@
 pub mod MacLemmas
+pub mod RowLemmas
+pub mod SetLemmas
+pub mod NodeLemmas

@@ -1,1 +1,2 @@
 pub mod MacTables
+pub mod Nodes

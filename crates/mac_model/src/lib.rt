@@ -1,6 +1,9 @@
-//! MAC tables: their files.
+//! MAC tables: their files, and the nodes that they stand for.
 #![tactic(auto)]
 
+mod node;
+mod sets;
 mod table;
 
+pub use node::mac_node;
 pub use table::{MacTable, read_mac};

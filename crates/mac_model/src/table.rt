@@ -14,8 +14,8 @@ use table_lines::{Row, TableFault, read_table};
 /// ones once: an address of 48 bits, and a port.
 #[derive(Drop)]
 pub struct MacTable {
-    ports: u32,
-    rows: Vec<(u64, u32)>,
+    pub(crate) ports: u32,
+    pub(crate) rows: Vec<(u64, u32)>,
 }
 
 impl Model for MacTable {

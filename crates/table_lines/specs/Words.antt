@@ -1,6 +1,6 @@
 -- The words of a line.
 use Rattle.std.specs.Prelude.{ℕ, Bool, not, nat_lt, List, [], ◌∷◌, filter}
-use Rattle.table_lines.specs.declared.pieces.Separator.TheVariants.{Blank, Number}
+use Rattle.table_lines.specs.declared.pieces.Separator.TheVariants.{Blank, NumberSign}
 use Rattle.table_lines.specs.Pieces.{pieces}
 use Rattle.table_lines.specs.Lines.{is_nil}
 
@@ -13,7 +13,7 @@ first_piece (piece ∷ later) = piece
 
 -- a comment goes from its first byte to the end of the line
 abbrev pub before_comment : List ℕ → List ℕ
-before_comment line = first_piece (pieces Number line)
+before_comment line = first_piece (pieces NumberSign line)
 
 abbrev pub is_word : List ℕ → Bool
 is_word piece = not (is_nil piece)

@@ -10,8 +10,8 @@ pub enum Separator {
     LineFeed,
     /// A space or a tab.
     Blank,
-    /// What begins a comment.
-    Number,
+    /// `#`, which begins a comment.
+    NumberSign,
     Colon,
     Dot,
     Slash,
@@ -24,7 +24,7 @@ impl Separator {
         match self {
             Separator::LineFeed => byte == b'\n',
             Separator::Blank => byte == b' ' || byte == b'\t',
-            Separator::Number => byte == b'#',
+            Separator::NumberSign => byte == b'#',
             Separator::Colon => byte == b':',
             Separator::Dot => byte == b'.',
             Separator::Slash => byte == b'/',

@@ -17,7 +17,7 @@ pub(crate) fn is_ascii(bytes: &[u8]) -> bool
 pub(crate) fn before_comment(bytes: &[u8]) -> &[u8]
     ensures { result.now ≡ before_comment bytes.now }
 {
-    next_piece(bytes, Separator::Number).0
+    next_piece(bytes, Separator::NumberSign).0
 }
 
 /// What stands behind a piece; nothing, where it is the last.

@@ -1,7 +1,7 @@
 //! What the nodes of tables test.
 
 ghost use Rattle.std.specs.Prelude.{◌≡◌, IfOk, codes};
-ghost use Rattle.table_nodes.specs.TableNodes.{mac_destination, fib_destination, destination};
+ghost use Rattle.table_nodes.specs.TableNodes.{mac_destination, fib_destination, destination, bits_of};
 
 use sefl_syntax::{Addr, Name, TableKind, Target};
 use sn_width::{NoMemory, Width};
@@ -81,5 +81,15 @@ pub(crate) fn destination(alloc: Global, kind: TableKind) -> Result<Target, NoMe
     match kind {
         TableKind::Mac => mac_destination(alloc),
         TableKind::Fib => fib_destination(alloc),
+    }
+}
+
+/// The width of an address.
+pub(crate) fn bits_of(kind: TableKind) -> Width
+    ensures { result ≡ bits_of kind }
+{
+    match kind {
+        TableKind::Mac => mac_width(),
+        TableKind::Fib => ip_width(),
     }
 }

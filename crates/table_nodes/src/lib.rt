@@ -5,5 +5,7 @@ mod destination;
 pub mod laws;
 mod node;
 mod pieces;
+mod ranges;
 
 pub use node::{chain_node, egress_node, grouped_node};
+pub use ranges::{address_set, ranges_of};

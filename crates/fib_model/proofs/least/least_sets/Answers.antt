@@ -11,17 +11,17 @@ use Rattle.fib_model.proofs.least.least_sets.Goals as goal
 
 pub least-requires : goal.least-requires
 least-requires c =
-    let raw : c.ranges_of.result.now ≡ set_at c.in_ok-raw.raw.items c.loop-port.port = c.ranges_of.ensures ∙ ap (λ sets. set_at sets c.loop-port.port) c.deref.ensures.value in
-    raw_fits (λ a. is_port (fib_port c.args.rows.now a) c.loop-port.port) c.ranges_of.result.now
+    let raw : c.raw_of.result.now ≡ set_at c.in_ok-raw.raw.items c.loop-port.port = c.raw_of.ensures ∙ ap (λ sets. set_at sets c.loop-port.port) c.deref.ensures.value in
+    raw_fits (λ a. is_port (fib_port c.args.rows.now a) c.loop-port.port) c.raw_of.result.now
     (subst (AllByRecursion (λ r. r.0 ≤ r.1)) (sym raw) (c.in_ok-raw.ensures.ordered c.loop-port.port))
     (λ a. ap (λ set. is_member set a) raw ∙ c.in_ok-raw.ensures.sets a c.loop-port.port)
 
 pub loop-port-preserved : goal.loop-port-preserved
 loop-port-preserved c =
-    let raw : c.ranges_of.result.now ≡ set_at c.in_ok-raw.raw.items c.loop-port.port = c.ranges_of.ensures ∙ ap (λ sets. set_at sets c.loop-port.port) c.deref.ensures.value in
+    let raw : c.raw_of.result.now ≡ set_at c.in_ok-raw.raw.items c.loop-port.port = c.raw_of.ensures ∙ ap (λ sets. set_at sets c.loop-port.port) c.deref.ensures.value in
     record {
       len = search rules;
       sets = subst (λ sets. SetsFor Fib (λ a. is_port (fib_port c.args.rows.now a)) 0 (lists sets)) (sym c.in_ok-push.ensures.items)
-          (next_set c.args.rows.now c.loop-port.sets.items c.ranges_of.result.now c.in_ok-least.field-0 c.loop-port.port c.loop-port.invariant.len c.loop-port.invariant.sets
+          (next_set c.sets_grow.ensures c.args.rows.now c.loop-port.sets.items c.raw_of.result.now c.in_ok-least.field-0 c.loop-port.port c.loop-port.invariant.len c.loop-port.invariant.sets
           c.in_ok-least.ensures.canonical c.in_ok-least.ensures.members (λ a. ap (λ set. is_member set a) raw ∙ c.in_ok-raw.ensures.sets a c.loop-port.port));
     }

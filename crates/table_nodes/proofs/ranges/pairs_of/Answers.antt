@@ -1,7 +1,7 @@
 use Rattle.std.proofs.Common.{◌≡◌, ◌∙◌, ◌++◌, ◌∷◌, [], Some, sym, ap}
 use Rattle.std.specs.Prelude.{slice_get}
-use Rattle.fib_model.proofs.LeastLemmas.{taken_more, within_more}
-use Rattle.fib_model.proofs.least.pairs_of.Goals as goal
+use Rattle.table_nodes.proofs.Growth.{taken_more, within_more}
+use Rattle.table_nodes.proofs.ranges.pairs_of.Goals as goal
 
 pub loop-range-preserved : goal.loop-range-preserved
 loop-range-preserved c =
