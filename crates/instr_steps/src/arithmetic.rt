@@ -9,15 +9,19 @@ use std::alloc::Global;
 /// Operations on values of cells and on truths of tests. What they compute is `values`; a test is
 /// seen as its truth.
 pub trait Arithmetic {
+    /// What a cell holds.
     type Value: Drop;
 
+    /// What a condition is evaluated to.
     type Test: Drop;
 
     /// What a test is seen as.
     ghost Truth: { Type 0 };
 
+    /// The truth of a test.
     ghost truth: { Self.Test → Truth };
 
+    /// The operations of the meaning.
     ghost values: { Self → Values Self.Value Truth };
 
     /// An equal value.
@@ -28,6 +32,7 @@ pub trait Arithmetic {
     fn constant(&self, alloc: Global, width: Width, number: Num) -> Result<Self::Value, NoMemory>
         ensures { IfOk result (λ v. v ≡ (values self.now).constant width number) };
 
+    /// The sum, modulo `2^w`.
     fn plus(
         &self,
         alloc: Global,
@@ -37,6 +42,7 @@ pub trait Arithmetic {
     ) -> Result<Self::Value, NoMemory>
         ensures { IfOk result (λ v. v ≡ (values self.now).plus width left.now right.now) };
 
+    /// The difference, modulo `2^w`.
     fn minus(
         &self,
         alloc: Global,
@@ -46,9 +52,11 @@ pub trait Arithmetic {
     ) -> Result<Self::Value, NoMemory>
         ensures { IfOk result (λ v. v ≡ (values self.now).minus width left.now right.now) };
 
+    /// Whether the first stands in the relation to the second.
     fn compare(&self, width: Width, rel: Rel, left: Self::Value, right: Self::Value) -> Self::Test
         ensures { truth result ≡ (values self.now).compare width rel left right };
 
+    /// Whether the value lies in one of the ranges.
     fn member(
         &self,
         alloc: Global,
@@ -62,12 +70,15 @@ pub trait Arithmetic {
     fn always(&self) -> Self::Test
         ensures { truth result ≡ (values self.now).always };
 
+    /// Whether all of the tests hold.
     fn all_of(&self, tests: Vec<Self::Test>) -> Self::Test
         ensures { truth result ≡ (values self.now).all_of (map truth tests.items) };
 
+    /// Whether one of the tests holds.
     fn any_of(&self, tests: Vec<Self::Test>) -> Self::Test
         ensures { truth result ≡ (values self.now).any_of (map truth tests.items) };
 
+    /// Whether the test does not hold.
     fn negation(&self, alloc: Global, test: Self::Test) -> Result<Self::Test, NoMemory>
         ensures { IfOk result (λ t. truth t ≡ (values self.now).negation (truth test)) };
 }

@@ -5,6 +5,7 @@ ghost use Rattle.path_formula.specs.View.{view};
 ghost use Rattle.term_values.specs.TermValues.{number_term, symbol_term, terms};
 
 use crate::sets::set_of;
+use instr_steps::Arithmetic;
 use lin_term::Term;
 use path_formula::Formula;
 use sn_width::{NoMemory, Num, Rel, SymId, Width};
@@ -17,52 +18,6 @@ pub struct Terms {
 }
 
 impl Terms {
-    /// An equal term.
-    pub fn copied(&self, alloc: Global, value: &Term) -> Result<Term, NoMemory>
-        ensures { IfOk result (λ t. t ≡ value.now) }
-    {
-        value.copy(alloc)
-    }
-
-    /// The number modulo `2^w`.
-    pub fn constant(&self, alloc: Global, width: Width, number: Num) -> Result<Term, NoMemory>
-        ensures { IfOk result (λ t. t ≡ (terms self.now.unknowns).constant width number) }
-    {
-        number_term(alloc, width, number)
-    }
-
-    /// `left + right`, modulo `2^w`; 0 where one of the two has another width.
-    pub fn plus(
-        &self,
-        alloc: Global,
-        width: Width,
-        left: &Term,
-        right: &Term,
-    ) -> Result<Term, NoMemory>
-        ensures { IfOk result (λ t. t ≡ (terms self.now.unknowns).plus width left.now right.now) }
-    {
-        if left.width() == width && right.width() == width {
-            return left.plus(alloc, right);
-        }
-        number_term(alloc, width, 0)
-    }
-
-    /// `left - right`, modulo `2^w`; 0 where one of the two has another width.
-    pub fn minus(
-        &self,
-        alloc: Global,
-        width: Width,
-        left: &Term,
-        right: &Term,
-    ) -> Result<Term, NoMemory>
-        ensures { IfOk result (λ t. t ≡ (terms self.now.unknowns).minus width left.now right.now) }
-    {
-        if left.width() == width && right.width() == width {
-            return left.minus(alloc, right);
-        }
-        number_term(alloc, width, 0)
-    }
-
     /// The unknown field of this number.
     pub fn unknown(&self, alloc: Global, width: Width, number: u64) -> Result<Term, NoMemory>
         ensures { IfOk result (λ t. t ≡ (terms self.now.unknowns).unknown width number) }
@@ -79,54 +34,99 @@ impl Terms {
             None => Err(NoMemory),
         }
     }
+}
+
+impl Arithmetic for Terms {
+    ghost use Rattle.path_formula.specs.Formulas.{FormulaTree};
+    ghost use Rattle.path_formula.specs.View.{view};
+    ghost use Rattle.term_values.specs.TermValues.{terms};
+
+    type Value = Term;
+
+    type Test = Formula;
+
+    ghost Truth = { FormulaTree };
+
+    ghost truth = { view };
+
+    ghost values = { λ o. terms o.unknowns };
+
+    /// An equal term.
+    fn copied(&self, alloc: Global, value: &Term) -> Result<Term, NoMemory> {
+        value.copy(alloc)
+    }
+
+    /// The number modulo `2^w`.
+    fn constant(&self, alloc: Global, width: Width, number: Num) -> Result<Term, NoMemory> {
+        number_term(alloc, width, number)
+    }
+
+    /// `left + right`, modulo `2^w`; 0 where one of the two has another width.
+    fn plus(
+        &self,
+        alloc: Global,
+        width: Width,
+        left: &Term,
+        right: &Term,
+    ) -> Result<Term, NoMemory> {
+        if left.width() == width && right.width() == width {
+            return left.plus(alloc, right);
+        }
+        number_term(alloc, width, 0)
+    }
+
+    /// `left - right`, modulo `2^w`; 0 where one of the two has another width.
+    fn minus(
+        &self,
+        alloc: Global,
+        width: Width,
+        left: &Term,
+        right: &Term,
+    ) -> Result<Term, NoMemory> {
+        if left.width() == width && right.width() == width {
+            return left.minus(alloc, right);
+        }
+        number_term(alloc, width, 0)
+    }
 
     /// Whether the first stands in the relation to the second.
-    pub fn compare(&self, width: Width, rel: Rel, left: Term, right: Term) -> Formula
-        ensures { view result ≡ (terms self.now.unknowns).compare width rel left right }
-    {
-        let _ = width;
+    fn compare(&self, _width: Width, rel: Rel, left: Term, right: Term) -> Formula {
         Formula::Compare { rel, left, right }
     }
 
     /// Whether the term lies in one of the ranges, which may come in any order.
-    pub fn member(
+    fn member(
         &self,
         alloc: Global,
         width: Width,
         value: Term,
         ranges: &[(Num, Num)],
-    ) -> Result<Formula, NoMemory>
-        ensures { IfOk result (λ f. view f ≡ (terms self.now.unknowns).member width value ranges.now) }
-    {
+    ) -> Result<Formula, NoMemory> {
         let set = set_of(alloc, width, ranges)?;
         Formula::member(alloc, value, set)
     }
 
     /// The test that always holds.
-    pub fn always(&self) -> Formula
-        ensures { view result ≡ (terms self.now.unknowns).always }
-    {
+    fn always(&self) -> Formula {
         Formula::Truth(true)
     }
 
     /// Whether all of the tests hold.
-    pub fn all_of(&self, tests: Vec<Formula>) -> Formula
+    fn all_of(&self, tests: Vec<Formula>) -> Formula
         ensures { view result ≡ (terms self.now.unknowns).all_of (map view tests.items) }
     {
         Formula::And(tests)
     }
 
     /// Whether one of the tests holds.
-    pub fn any_of(&self, tests: Vec<Formula>) -> Formula
+    fn any_of(&self, tests: Vec<Formula>) -> Formula
         ensures { view result ≡ (terms self.now.unknowns).any_of (map view tests.items) }
     {
         Formula::Or(tests)
     }
 
     /// Whether the test does not hold.
-    pub fn negation(&self, alloc: Global, test: Formula) -> Result<Formula, NoMemory>
-        ensures { IfOk result (λ f. view f ≡ (terms self.now.unknowns).negation (view test)) }
-    {
+    fn negation(&self, alloc: Global, test: Formula) -> Result<Formula, NoMemory> {
         Ok(Formula::Not(Box::new(alloc, test)?))
     }
 }
