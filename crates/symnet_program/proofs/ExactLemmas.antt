@@ -4,7 +4,7 @@ use Rattle.std.specs.Prelude.{if◌then◌else◌}
 use Rattle.std.proofs.Math.Nat.{mod-eq_of_lt}
 use Rattle.sn_width.specs.Rel.{relates}
 use Rattle.sefl_syntax.specs.declared.thin.Thin.{Thin}
-use Rattle.path_exec.specs.Sides.{IsLeast}
+use Rattle.thin_paths.specs.Sides.{IsLeast}
 use Rattle.symnet_program.specs.Meaning.{walk_of, walk_by}
 use Rattle.symnet_program.specs.Paths.{path_of, unknown_field, term_value, Shows, IsShownOnce, HasLeastPacket, AreExact}
 use Rattle.symnet_program.specs.declared.path.Decision.{Decision}

@@ -1,7 +1,7 @@
 -- The report of a thin job.
 use Rattle.std.proofs.Common.{ℕ, [], ◌∷◌, true, false, refl}
 use Rattle.sefl_syntax.specs.declared.thin.Thin.{Thin}
-use Rattle.path_exec.specs.Sides.{IsLeast}
+use Rattle.thin_paths.specs.Sides.{IsLeast}
 use Rattle.symnet_program.specs.Outcome.{HasBothSides, IsThinReport}
 use Rattle.symnet_program.specs.Paths.{path_of}
 use Rattle.symnet_program.specs.ReportText.{report_text}

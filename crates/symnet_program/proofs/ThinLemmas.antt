@@ -17,7 +17,7 @@ use Rattle.sefl_syntax.specs.declared.job.RawField.{RawField}
 use Rattle.sefl_syntax.specs.Trees.{ExprTree, constant, CondTree, always, compare, InstrTree, fail, branch, forward, CodeTree, no_code, instr_and, PortTree, BodyTree, code, table, DeclTree, JobTree}
 use Rattle.net_check.specs.Sound.{IsSound}
 use Rattle.job_names.specs.Occurrences.{patterns_of}
-use Rattle.path_exec.specs.Sides.{IsOneSided}
+use Rattle.thin_paths.specs.Sides.{IsOneSided}
 use Rattle.thin_jobs.specs.Thins.{HasShortOffsets, arm_code, thin_job}
 use Rattle.symnet_program.specs.Outcome.{HasBothSides, IsFoundIn, IsNotRun, IsThinJob}
 

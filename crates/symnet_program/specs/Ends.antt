@@ -14,7 +14,7 @@ use Rattle.sefl_syntax.specs.declared.thin.Thin.{Thin}
 use Rattle.sefl_reader.specs.Outcome.{Outcome, a_job, IsOutcome, IsSpellable}
 use Rattle.net_check.specs.Network.{Network, Entry, network, entry}
 use Rattle.net_check.specs.declared.acceptance.Accepted.{Accepted}
-use Rattle.path_exec.specs.Sides.{IsOneSided}
+use Rattle.thin_paths.specs.Sides.{IsOneSided}
 use Rattle.packet_file.specs.Packet.{packet_of}
 use Rattle.symnet_program.specs.Flaws.{Flaw, HasFlaw, flaw_of}
 use Rattle.symnet_program.specs.Outcome.{HasBothSides, HasFile, HasTables, IsAccepted, IsBadAt, IsBeginning, IsFoundIn, IsRefusedAt, IsTextOf, IsThinReport, file_limit}

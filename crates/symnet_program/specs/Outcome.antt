@@ -19,7 +19,7 @@ use Rattle.net_check.specs.Acceptance.{IsBadPatternAt}
 use Rattle.net_check.specs.Network.{Network, Entry}
 use Rattle.net_check.specs.Sound.{IsSound, IsNetOf, IsEntryOf}
 use Rattle.thin_jobs.specs.Thins.{HasShortOffsets, thin_job}
-use Rattle.path_exec.specs.Sides.{IsOneSided}
+use Rattle.thin_paths.specs.Sides.{IsOneSided}
 use Rattle.symnet_program.specs.Paths.{Path, AreExact}
 use Rattle.symnet_program.specs.Refusals.{rule_number}
 use Rattle.symnet_program.specs.ReportText.{report_text}

@@ -4,7 +4,7 @@ ghost use Rattle.std.specs.Prelude.{◌≡◌, ◌<◌, ◌≤◌, true, false, 
 ghost use Rattle.std.specs.Option.{ForSome};
 ghost use Rattle.sn_width.specs.Width.{FitsWidth};
 ghost use Rattle.pattern_answers.specs.Asking.{IsStep};
-ghost use Rattle.path_exec.specs.Sides.{IsLeast, IsOneSided};
+ghost use Rattle.thin_paths.specs.Sides.{IsLeast, IsOneSided};
 ghost use Rattle.symnet_program.specs.Ends.{IsRun, ReportEnds, ThinEnds};
 ghost use Rattle.symnet_program.specs.Words.{explore};
 
@@ -12,7 +12,7 @@ use crate::open::open_job;
 use crate::report::report_pieces;
 use crate::status::Status;
 use crate::write::put_pieces;
-use path_exec::sides;
+use thin_paths::sides;
 use sefl_syntax::Thin;
 use sn_edge::{Folder, Patterns, Put, Sink};
 use sn_width::Num;

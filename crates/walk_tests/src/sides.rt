@@ -1,7 +1,7 @@
 //! Rows of the two sides of a test at the ends of a width.
 
 use crate::cells::width_of;
-use path_exec::sides;
+use thin_paths::sides;
 use sn_width::{Num, Rel};
 use std::process::Abort;
 

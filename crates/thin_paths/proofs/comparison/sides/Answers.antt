@@ -1,9 +1,9 @@
 use Rattle.std.proofs.Common.{true, false, sym, subst}
 use Rattle.std.proofs.lemmas.Bool.{true≢false}
 use Rattle.sn_width.specs.declared.rel.Rel.{Rel}
-use Rattle.path_exec.specs.Sides.{IsLeast}
-use Rattle.path_exec.proofs.SideLemmas.{two_sided, least_equal, least_unequal, least_of_negation}
-use Rattle.path_exec.proofs.comparison.sides.Goals as goal
+use Rattle.thin_paths.specs.Sides.{IsLeast}
+use Rattle.thin_paths.proofs.SideLemmas.{two_sided, least_equal, least_unequal, least_of_negation}
+use Rattle.thin_paths.proofs.comparison.sides.Goals as goal
 
 pub returns-in-Eq-clause-unmet : goal.returns-in-Eq-clause-unmet
 returns-in-Eq-clause-unmet c =

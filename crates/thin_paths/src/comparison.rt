@@ -2,7 +2,7 @@
 
 ghost use Rattle.std.specs.Prelude.{ℕ, ◌↔◌, ◌≢◌, ◌≤◌, true, false, IsNone, IfSome};
 ghost use Rattle.sn_width.specs.Width.{FitsWidth};
-ghost use Rattle.path_exec.specs.Sides.{IsLeast, IsOneSided};
+ghost use Rattle.thin_paths.specs.Sides.{IsLeast, IsOneSided};
 
 use sn_width::{Num, Rel, Width};
 

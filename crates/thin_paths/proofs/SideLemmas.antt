@@ -6,7 +6,7 @@ use Rattle.std.proofs.lemmas.Nat.{pow_below}
 use Rattle.sn_width.specs.Rel.{relates}
 use Rattle.sn_width.specs.declared.rel.Rel.{Rel}
 use Rattle.sn_width.specs.declared.rel.Rel.TheVariants.{Eq, Ne}
-use Rattle.path_exec.specs.Sides.{IsLeast, IsOneSided}
+use Rattle.thin_paths.specs.Sides.{IsLeast, IsOneSided}
 
 -- a test with a value on each side is not one-sided
 pub two_sided : (width : ℕ) (rel : Rel) (bound met unmet : ℕ) →
