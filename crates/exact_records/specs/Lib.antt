@@ -1,0 +1,6 @@
+pub mod Records
+pub mod Exact
+pub mod Work
+pub mod Packets
+pub mod Shapes
+pub mod Spots

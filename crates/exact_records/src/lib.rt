@@ -1,0 +1,4 @@
+//! What the records of an exploration mean, when a list of them is exact, and what keeps it so.
+#![tactic(auto)]
+
+pub mod laws;
