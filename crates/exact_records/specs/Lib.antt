@@ -4,3 +4,4 @@ pub mod Work
 pub mod Packets
 pub mod Shapes
 pub mod Spots
+pub mod Laws

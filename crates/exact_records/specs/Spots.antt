@@ -1,11 +1,14 @@
 -- Where an exploration stands, and what is known there.
-use Rattle.std.specs.Prelude.{ℕ, zero, suc, ◌≡◌, Bool, true, false, List, [], ◌∷◌, ◌++◌, map, Option, None, Some, option_map, if◌then◌else◌}
+use Rattle.std.specs.Prelude.{ℕ, zero, suc, ◌≡◌, ◌-◌, Bool, true, false, List, [], ◌∷◌, ◌++◌, length, map, replicate, Option, None, Some, option_map, if◌then◌else◌}
 use Rattle.std.specs.List.{AllByRecursion}
 use Rattle.lin_term.specs.Terms.{LinearTerm}
 use Rattle.path_formula.specs.Formulas.{FormulaTree}
 use Rattle.path_cond.specs.Seen.{AllTyped, itself}
 use Rattle.refutation_check.specs.Longer.{condition_of}
+use Rattle.refutation_check.specs.declared.outcome.Cause.{Cause}
+use Rattle.refutation_check.specs.declared.outcome.Cause.TheVariants.{Outside, Cases, Coupled}
 use Rattle.refutation_check.specs.declared.outcome.Verdict.{Verdict}
+use Rattle.refutation_check.specs.declared.outcome.Verdict.TheVariants.{Sat, Undecided}
 use Rattle.sefl_meaning.specs.declared.walk.Decision.{Decision}
 use Rattle.sefl_meaning.specs.declared.walk.Decision.TheVariants.{Copy}
 use Rattle.sefl_meaning.specs.declared.walk.Place.{Place}
@@ -81,6 +84,20 @@ pub record IsKnown (c : SymCondition) (verdict : Verdict) : Type 0 where
   pub widths : c.widths ≡ first ++ more
   pub typed : AllTyped itself first c.entries
   pub is : IsVerdictOn (condition_of first c.entries) verdict
+
+-- with zeros behind the values, until there are so many
+abbrev pub filled : ℕ → List ℕ → List ℕ
+filled count values = values ++ replicate (count - length values) 0
+
+abbrev pub filled_cause : ℕ → Cause → Cause
+filled_cause count (Outside pick values) = Outside pick (filled count values)
+filled_cause count (Cases number) = Cases number
+filled_cause count (Coupled number) = Coupled number
+
+-- the verdict with a value for each of so many symbols: those that no formula has are 0
+abbrev pub filled_verdict : ℕ → Verdict → Verdict
+filled_verdict count (Sat values) = Sat (filled count values)
+filled_verdict count (Undecided cause) = Undecided (filled_cause count cause)
 
 -- with what is explored
 module _ (s : SymStart) where
