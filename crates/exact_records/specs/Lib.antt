@@ -5,3 +5,4 @@ pub mod Packets
 pub mod Shapes
 pub mod Spots
 pub mod Laws
+pub mod Below

@@ -72,9 +72,13 @@ module _ (s : SymStart) where
   abbrev pub Leads : List Decision → SymRoute → Type 0
   Leads ds r = route s.tree ds ≡ Some r
 
+  -- the tests of the injection, each of which must hold
+  abbrev pub injection_tests : List (FormulaTree × Bool)
+  injection_tests = map (λ f. (f, true)) s.tests
+
   -- the condition of the injection alone
   abbrev pub first_condition : SymCondition
-  first_condition = record { widths = s.unknowns; entries = map (λ f. (f, true)) s.tests }
+  first_condition = record { widths = s.unknowns; entries = injection_tests }
 
   -- the condition of a route, where it waits or is over
   abbrev pub condition_on : SymRoute → SymCondition

@@ -17,7 +17,7 @@ use Rattle.sefl_meaning.specs.Trees.{Tree, over, arrives, tests, splits, Copies,
 use Rattle.sefl_meaning.specs.Taken.{decision_at}
 use Rattle.sefl_meaning.specs.Routes.{behind, route}
 use Rattle.sefl_meaning.specs.Start.{progress_of}
-use Rattle.exact_records.specs.Records.{IsVerdictOn, RecordTree, SymCondition, SymStart, SymTree}
+use Rattle.exact_records.specs.Records.{IsVerdictOn, RecordTree, SymCondition, SymStart, SymTree, injection_tests}
 use Rattle.exact_records.specs.Exact.{IsGood, IsUnrefuted}
 use Rattle.exact_records.specs.Shapes.{Continues, Piece}
 
@@ -107,7 +107,7 @@ module _ (s : SymStart) where
 
   -- all tests with their truths, those of the injection first
   abbrev pub condition_at : Spot → SymCondition
-  condition_at a = record { widths = a.widths; entries = map (λ f. (f, true)) s.tests ++ a.tests }
+  condition_at a = record { widths = a.widths; entries = injection_tests s ++ a.tests }
 
   -- the run came from the start: whatever decisions follow, they lead on from here
   pub record IsAt (a : Spot) : Type 0 where
