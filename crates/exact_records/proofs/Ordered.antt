@@ -12,7 +12,7 @@ use Rattle.sefl_meaning.specs.Order.{BeginsWith, Parts, rank}
 use Rattle.exact_records.specs.Records.{RecordTree, path, pruned, unexplored, decisions_of}
 use Rattle.exact_records.specs.Exact.{ExactlyOne, RecordsAscend}
 use Rattle.exact_records.specs.Shapes.{IsPathAt, IsNotRun, One, Joined, Side, Covers, CoverCopies, SideOf}
-use Rattle.exact_records.proofs.Lists.{all_append, all_weaker, one_before, one_after, some_first, some_later, some_either, some_weaker, some_with, cancel, same_first, same_rest, nothing_after}
+use Rattle.exact_records.proofs.Lists.{append_nil, all_append, all_weaker, one_before, one_after, some_first, some_later, some_either, some_weaker, some_with, cancel, same_first, same_rest, nothing_after}
 use Rattle.exact_records.proofs.Begins.{behind_one, begins_part, parts_of, same_decision, less_asked, less_not_same}
 
 -- the record's decisions begin with these
@@ -30,11 +30,7 @@ at_side ds (pruned es before refutation) h = h
 at_side ds (unexplored es) h = h
 
 pub begins_same : (ds : List Decision) (x : RecordTree) → decisions_of x ≡ ds → Behind ds x
-begins_same ds x e = ([], nil_append ds ∙ sym e)
-  where
-    nil_append : (xs : List Decision) → xs ++ [] ≡ xs
-    nil_append [] = refl
-    nil_append (y ∷ ys) = ap (λ zs. y ∷ zs) (nil_append ys)
+begins_same ds x e = ([], append_nil ds ∙ sym e)
 
 -- one record, of these decisions
 one_behind : (P : RecordTree → Type 0) (ds : List Decision) (rs : List RecordTree) → ((x : RecordTree) → P x → decisions_of x ≡ ds) → One P rs

@@ -34,10 +34,10 @@ use Rattle.sefl_meaning.specs.Routes.{IsWay, Route, places_on, route, route_valu
 use Rattle.sefl_meaning.specs.Injected.{FitWidths, Starts, injected, passages_from, unknown_count, unknown_widths, walks_from}
 use Rattle.sefl_meaning.specs.Start.{Start, StartsAt, start_from, start_of, start_valued, tests_in, tree_from}
 use Rattle.exact_records.specs.Below.{Facts, Meanings, formula_at, term_at}
-use Rattle.exact_records.specs.Records.{HasMeaning, IsPath, Leads, RecordTree, SymRoute, SymStart, SymTree, Takes, condition_on, decisions_of, path, pruned, unexplored}
+use Rattle.exact_records.specs.Records.{HasMeaning, IsPath, Leads, RecordTree, SymRoute, SymStart, SymTree, Takes, decisions_of, injection_tests, path, pruned, unexplored}
 use Rattle.exact_records.specs.Exact.{AreExact, AreExactUpTo, IsGood, IsNoOtherPath, IsShownOnce}
-use Rattle.exact_records.specs.Packets.{AreExactFor, AreExactUpToFor, HasPacket, HasWalk, IsExplored, IsNotTaken, IsShown, IsWalkOf, Shows, fields_at, fields_valued}
-use Rattle.exact_records.specs.Laws.{ExactRecordsShowWalks, PacketsTakeRoutes, RecordsTellPackets}
+use Rattle.exact_records.specs.Packets.{AreExactFor, AreExactUpToFor, HasPacket, HasWalk, IsAlong, IsExplored, IsNotTaken, IsShown, IsWalkOf, Shows, fields_at, fields_valued}
+use Rattle.exact_records.specs.Laws.{ExactRecordsShowWalks, PacketsTakeRoutes, PassagesTakeRoutes, RecordsTellPackets}
 use Rattle.exact_records.proofs.Lists.{all_both, all_weaker, both, left_of, pass_append, pass_first, pass_later, right_of}
 use Rattle.exact_records.proofs.Ordered.{mapped_some}
 use Rattle.exact_records.proofs.Arriving.{only_way}
@@ -137,6 +137,12 @@ module _ {V F W G : Type 0} (f : V → W) (g : F → G) where
       let bad : tests asking (progress_valued f q) (g test) (tree_valued f g held) (tree_valued f g broken) ≡ over p end' = h in cc
   over_before (splits q branches) p end' h = let bad : splits (progress_valued f q) (copies_valued f g branches) ≡ over p end' = h in cc
 
+places_valued : {V W : Type 0} (f : V → W) (arrivals : List (Place × Progress V))
+    → map (λ (at : Place × Progress V). at.0) arrivals
+    ≡ map (λ (at : Place × Progress W). at.0) (map (λ (at : Place × Progress V). (at.0, progress_valued f at.1)) arrivals)
+places_valued f [] = refl
+places_valued f (at ∷ arrivals) = ap (λ places. at.0 ∷ places) (places_valued f arrivals)
+
 over_same : {V F : Type 0} (t : Tree V F) (p q : Progress V) (e d : End) → t ≡ over p e → t ≡ over q d → (p ≡ q) × (e ≡ d)
 over_same t p q e d h k = (cc, cc)
 
@@ -206,29 +212,13 @@ module _ (means : Meanings) (net : Network) (i : Entry) (hops : ℕ) (start : Sy
       (subst (λ d. start_from (numbers v (unknown_count i)) net i hops d ≡ Ok at_packet) (starts_alike c h) begun.starts) in
       subst (λ (st : Start ℕ Bool). AllByRecursion (λ truth. truth ≡ true) st.tests) same at.holds
 
-  -- the walk is what a route is at the packet
-  pub record Follows (w : Trail) : Type 0 where
-    pub way : SymRoute
-    pub progress : Progress LinearTerm
-    pub leads : Leads start w.decisions way
-    pub ended : way.left ≡ over progress w.end'
-    pub places : places_on way ≡ w.places
-    pub state : carried_valued (term_at v) progress.state ≡ w.state
-    pub takes : Takes start v w.decisions
-
-  follows : (u : Passage) → FitWidths start.unknowns v → AllByRecursion (λ truth. truth ≡ true) at_packet.tests → IsWay (route at_packet.tree) u → Follows (shown u)
-  follows u fits truths way =
+  along : (u : Passage) → FitWidths start.unknowns v → AllByRecursion (λ truth. truth ≡ true) at_packet.tests → IsWay (route at_packet.tree) u → IsAlong start v u
+  along u fits truths way =
       let m = mapped_some (route_valued (term_at v) (formula_at v)) (route start.tree u.decisions) way.way (sym (means.routes v start.tree u.decisions) ∙ way.found) in
       let left : tree_valued (term_at v) (formula_at v) m.0.left ≡ over u.progress u.end' = ap (λ (r : Route ℕ Bool). r.left) (sym m.2) ∙ way.left in
       let b = over_before (term_at v) (formula_at v) m.0.left u.progress u.end' left in
       let taken = subst (AllByRecursion (λ (test : Bool × Bool). test.0 ≡ test.1)) (ap (λ (r : Route ℕ Bool). r.tests) m.2) way.holds in
       record {
-        way = m.0;
-        progress = b.0;
-        leads = m.1;
-        ended = b.1;
-        places = ap places_on (sym m.2) ∙ ap (map (λ a. a.0)) way.arrivals;
-        state = ap (λ (p : Progress ℕ). p.state) b.2;
         takes = record {
           fits = fits;
           way = m.0;
@@ -236,17 +226,30 @@ module _ (means : Meanings) (net : Network) (i : Entry) (hops : ℕ) (start : Sy
           end' = u.end';
           leads = m.1;
           ended = b.1;
-          holds = pass_append (entry_holds itself v) (map (λ f. (f, true)) start.tests) m.0.tests (pass_true v start.tests truths) (pass_same v m.0.tests taken);
+          holds = pass_append (entry_holds itself v) (injection_tests start) m.0.tests (pass_true v start.tests truths) (pass_same v m.0.tests taken);
         };
+        arrivals = ap (λ (r : Route ℕ Bool). r.arrivals) (sym m.2) ∙ way.arrivals;
+        ended = refl;
+        progress = b.2;
       }
 
-  pub walk_follows : (w : Trail) → IsWalkOf net i hops v w → Follows w
-  walk_follows w walk =
-      let fits : FitWidths start.unknowns v = subst (λ ws. FitWidths ws v) (sym unknowns_are) walk.1.fits in
+  pub passage_along : (c : Carried ℕ) → Starts net i v c → (u : Passage) → Has (passages_from net i v hops c) u → IsAlong start v u
+  passage_along c h u has =
+      let fits : FitWidths start.unknowns v = subst (λ ws. FitWidths ws v) (sym unknowns_are) h.fits in
+      let same : passages_from net i v hops c ≡ walks_of at_packet.tree = ap (passages_from net i v hops) (sym (starts_alike c h)) ∙ walks_are in
+      let way = has_all (IsWay (route at_packet.tree)) (walks_of at_packet.tree) u (means.ways at_packet.tree) (subst (λ ws. Has ws u) same has) in
+      along u fits (all_true c h) way
+
+  -- a walk is shown of a passage
+  pub walk_along : (w : Trail) → IsWalkOf net i hops v w → (u : Passage) × (shown u ≡ w) × IsAlong start v u
+  walk_along w walk =
       let p = (means.shown_of (passages_from net i v hops walk.0) w).0 walk.2 in
-      let same : passages_from net i v hops walk.0 ≡ walks_of at_packet.tree = ap (passages_from net i v hops) (sym (starts_alike walk.0 walk.1)) ∙ walks_are in
-      let way = has_all (IsWay (route at_packet.tree)) (walks_of at_packet.tree) p.0 (means.ways at_packet.tree) (subst (λ ws. Has ws p.0) same p.1) in
-      subst Follows p.2 (follows p.0 fits (all_true walk.0 walk.1) way)
+      (p.0, p.2, passage_along walk.0 walk.1 p.0 p.1)
+
+  pub walk_takes : (w : Trail) → IsWalkOf net i hops v w → Takes start v w.decisions
+  walk_takes w walk =
+      let a = walk_along w walk in
+      subst (λ (x : Trail). Takes start v x.decisions) a.1 a.2.takes
 
   pub takes_walk : (ds : List Decision) → Takes start v ds → HasWalk net i hops v ds
   takes_walk ds t =
@@ -260,7 +263,7 @@ module _ (means : Meanings) (net : Network) (i : Entry) (hops : ℕ) (start : Sy
         way = route_valued (term_at v) (formula_at v) t.way;
         found = means.routes v start.tree ds ∙ ap (option_map (route_valued (term_at v) (formula_at v))) t.leads;
         arrivals = refl;
-        holds = same_pass v t.way.tests (pass_later (entry_holds itself v) (map (λ f. (f, true)) start.tests) t.way.tests t.holds);
+        holds = same_pass v t.way.tests (pass_later (entry_holds itself v) (injection_tests start) t.way.tests t.holds);
         left = ap (tree_valued (term_at v) (formula_at v)) t.ended;
       } in
       let has : Has (passages_from net i v hops begun.carried) u = subst (λ ws. Has ws u) (sym walks_are) (means.to_walk at_packet.tree u way) in
@@ -269,33 +272,35 @@ module _ (means : Meanings) (net : Network) (i : Entry) (hops : ℕ) (start : Sy
         carries = begun.carries;
         start = at_packet;
         starts = begun.starts;
-        holds = true_pass v start.tests (pass_first (entry_holds itself v) (map (λ f. (f, true)) start.tests) t.way.tests t.holds);
+        holds = true_pass v start.tests (pass_first (entry_holds itself v) (injection_tests start) t.way.tests t.holds);
       }) in
       (shown u, (begun.carried, starts, (means.shown_of (passages_from net i v hops begun.carried) (shown u)).1 (u, has, refl)), refl)
 
 -- ---- records
 
 module _ (facts : Facts) (means : Meanings) (net : Network) (i : Entry) (hops : ℕ) (start : SymStart) (explored : IsExplored net i hops start) where
-  path_shows : (v : List ℕ) (w : Trail) → Follows means net i hops start explored v w → (x : RecordTree) → HasMeaning start x → IsNoOtherPath w.decisions x → Shows v w x
-  path_shows v w f (path es places end' fields verdict) h same =
-      let ways : h.way ≡ f.way = only_way start w.decisions h.way f.way (subst (λ zs. Leads start zs h.way) same h.leads) f.leads in
-      let ends = over_same f.way.left h.progress f.progress end' w.end' (ap (λ (r : SymRoute). r.left) (sym ways) ∙ h.ended) f.ended in (
+  path_shows : (v : List ℕ) (u : Passage) → IsAlong start v u → (x : RecordTree) → HasMeaning start x → IsNoOtherPath u.decisions x → Shows v (shown u) x
+  path_shows v u a (path es places end' fields verdict) h same =
+      let ways : h.way ≡ a.takes.way = only_way start u.decisions h.way a.takes.way (subst (λ zs. Leads start zs h.way) same h.leads) a.takes.leads in
+      let ends = over_same a.takes.way.left h.progress a.takes.progress end' a.takes.end' (ap (λ (r : SymRoute). r.left) (sym ways) ∙ h.ended) a.takes.ended in (
         same,
-        sym h.places_are ∙ (ap places_on ways ∙ f.places),
-        ends.1,
+        sym h.places_are ∙ (ap places_on ways ∙ (places_valued (term_at v) a.takes.way.arrivals ∙ ap (map (λ (at : Place × Progress ℕ). at.0)) a.arrivals)),
+        ends.1 ∙ a.ended,
         ap (fields_at v) (sym h.fields_are) ∙ (fields_commute (term_at v) h.progress.state
-        ∙ (ap (λ (p : Progress LinearTerm). fields_of (carried_valued (term_at v) p.state)) ends.0 ∙ ap fields_of f.state)),
+        ∙ (ap (λ (p : Progress LinearTerm). fields_of (carried_valued (term_at v) p.state)) ends.0 ∙ ap (λ (p : Progress ℕ). fields_of p.state) a.progress)),
       )
-  path_shows v w f (pruned es before refutation) h same = absurd same
-  path_shows v w f (unexplored es) h same = tt
+  path_shows v u a (pruned es before refutation) h same = absurd same
+  path_shows v u a (unexplored es) h same = tt
 
   shows : (v : List ℕ) (w : Trail) (rs : List RecordTree) → IsWalkOf net i hops v w → AllByRecursion (IsGood start) rs → IsShownOnce w.decisions rs → IsShown v w rs
-  shows v w rs walk good once = record {
-    once = once.once;
-    shown = all_both _ _ _ rs
-        (λ x (g : IsGood start x) (s : BeginsWith (decisions_of x) w.decisions → IsNoOtherPath w.decisions x) begins.
-        path_shows v w (walk_follows means net i hops start explored v w walk) x g.meaning (s begins)) good once.shown;
-  }
+  shows v w rs walk good once =
+      let a = walk_along means net i hops start explored v w walk in
+      record {
+        once = once.once;
+        shown = all_both _ _ _ rs
+            (λ x (g : IsGood start x) (s : BeginsWith (decisions_of x) w.decisions → IsNoOtherPath w.decisions x) begins.
+            subst (λ (t : Trail). Shows v t x) a.1 (path_shows v a.0 a.2 x g.meaning (subst (λ (t : Trail). IsNoOtherPath t.decisions x) (sym a.1) (s begins)))) good once.shown;
+      }
 
   path_has_packet : (ds : List Decision) (places : List Place) (end' : End) (fields : Fields LinearTerm) (verdict : Verdict)
       → IsPath start ds places end' fields verdict → HasPacket net i hops (path ds places end' fields verdict)
@@ -310,8 +315,7 @@ module _ (facts : Facts) (means : Meanings) (net : Network) (i : Entry) (hops : 
   not_taken : (x : RecordTree) → HasMeaning start x → IsNotTaken net i hops x
   not_taken (path ds places end' fields verdict) h = tt
   not_taken (pruned ds before refutation) h = λ v w walk begins.
-      let f = walk_follows means net i hops start explored v w walk in
-      shown_by facts start v w.decisions f.takes (pruned ds before refutation) h begins
+      shown_by facts start v w.decisions (walk_takes means net i hops start explored v w walk) (pruned ds before refutation) h begins
   not_taken (unexplored ds) h = tt
 
   all_packets : (rs : List RecordTree) → AllByRecursion (IsGood start) rs → AllByRecursion (HasPacket net i hops) rs
@@ -320,13 +324,17 @@ module _ (facts : Facts) (means : Meanings) (net : Network) (i : Entry) (hops : 
   none_taken : (rs : List RecordTree) → AllByRecursion (IsGood start) rs → AllByRecursion (IsNotTaken net i hops) rs
   none_taken rs good = all_weaker _ _ rs (λ x (g : IsGood start x). not_taken x g.meaning) good
 
-module _ (facts : Facts) (means : Meanings) (net : Network) (i : Entry) (hops : ℕ) where
+module _ (means : Meanings) (net : Network) (i : Entry) (hops : ℕ) where
   pub packets_take : PacketsTakeRoutes net i hops
   packets_take start explored v ds = (
     takes_walk means net i hops start explored v ds,
-    λ h. subst (Takes start v) h.2 (walk_follows means net i hops start explored v h.0 h.1).takes,
+    λ h. subst (Takes start v) h.2 (walk_takes means net i hops start explored v h.0 h.1),
   )
 
+  pub passages_take : PassagesTakeRoutes net i hops
+  passages_take start explored v c h u has = passage_along means net i hops start explored v c h u has
+
+module _ (facts : Facts) (means : Meanings) (net : Network) (i : Entry) (hops : ℕ) where
   pub records_tell : RecordsTellPackets net i hops
   records_tell start explored x h = (has_packet facts means net i hops start explored x h, not_taken facts means net i hops start explored x h)
 
@@ -338,7 +346,7 @@ module _ (facts : Facts) (means : Meanings) (net : Network) (i : Entry) (hops : 
       exact = h;
       walks = λ v w walk.
           shows facts means net i hops start explored v w rs walk h.good
-          (h.once v w.decisions (walk_follows means net i hops start explored v w walk).takes);
+          (h.once v w.decisions (walk_takes means net i hops start explored v w walk));
       packets = all_packets facts means net i hops start explored rs h.good;
       refuted = none_taken facts means net i hops start explored rs h.good;
     };
@@ -348,7 +356,7 @@ module _ (facts : Facts) (means : Meanings) (net : Network) (i : Entry) (hops : 
       exact = h;
       walks = λ v w walk within.
           shows facts means net i hops start explored v w (done ++ last ∷ []) walk h.good
-          (h.once v w.decisions (walk_follows means net i hops start explored v w walk).takes within);
+          (h.once v w.decisions (walk_takes means net i hops start explored v w walk) within);
       packets = all_packets facts means net i hops start explored (done ++ last ∷ []) h.good;
       refuted = none_taken facts means net i hops start explored (done ++ last ∷ []) h.good;
     };

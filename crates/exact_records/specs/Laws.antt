@@ -9,13 +9,16 @@ use Rattle.refutation_check.specs.declared.steps.Refute.{Refute}
 use Rattle.sefl_meaning.specs.declared.walk.Decision.{Decision}
 use Rattle.sefl_meaning.specs.declared.walk.End.{End}
 use Rattle.sefl_meaning.specs.Network.{Network, Entry}
+use Rattle.sefl_meaning.specs.Carried.{Carried}
+use Rattle.sefl_meaning.specs.Injected.{Starts, passages_from}
+use Rattle.sefl_meaning.specs.Walks.{Passage}
 use Rattle.sefl_meaning.specs.Courses.{Asking, Progress}
 use Rattle.sefl_meaning.specs.Trees.{over, tests, splits, Copies}
 use Rattle.sefl_meaning.specs.Fields.{fields_of}
-use Rattle.sefl_meaning.specs.Order.{Parts}
+use Rattle.sefl_meaning.specs.Order.{Has, Parts}
 use Rattle.exact_records.specs.Records.{HasMeaning, IsRefutedBy, IsVerdictOn, RecordTree, SymCondition, SymStart, SymTree, Takes, decisions_of, path, pruned, unexplored}
 use Rattle.exact_records.specs.Exact.{AreExact, AreExactSoFar, AreExactUpTo, IsTried, IsUnexplored}
-use Rattle.exact_records.specs.Packets.{AreExactFor, AreExactUpToFor, HasPacket, HasWalk, IsExplored, IsNotTaken}
+use Rattle.exact_records.specs.Packets.{AreExactFor, AreExactUpToFor, HasPacket, HasWalk, IsAlong, IsExplored, IsNotTaken}
 use Rattle.exact_records.specs.Spots.{Arrives, IsBefore, IsKnown, Known, Spot, Stands, Task, condition_at, copy_tasks, decided, filled_verdict, first_spot, side_tasks, to_decide}
 
 -- each step of an exploration keeps that the records and the tasks stand for the whole
@@ -74,6 +77,11 @@ module _ (net : Network) (i : Entry) (hops : ℕ) where
   abbrev pub PacketsTakeRoutes : Type 0
   PacketsTakeRoutes = (start : SymStart) → IsExplored net i hops start → (v : List ℕ) (ds : List Decision)
       → Takes start v ds ↔ HasWalk net i hops v ds
+
+  -- each passage of a packet is along the route of its decisions
+  abbrev pub PassagesTakeRoutes : Type 0
+  PassagesTakeRoutes = (start : SymStart) → IsExplored net i hops start → (v : List ℕ) (s : Carried ℕ) → Starts net i v s
+      → (u : Passage) → Has (passages_from net i v hops s) u → IsAlong start v u
 
   -- a path with values has a packet that takes it, and no packet takes a refuted side
   abbrev pub RecordsTellPackets : Type 0

@@ -12,9 +12,10 @@ use Rattle.sefl_meaning.specs.Fields.{Fields, fields_of}
 use Rattle.sefl_meaning.specs.Injected.{Starts, unknown_count, walks_from}
 use Rattle.sefl_meaning.specs.Order.{BeginsWith, Has}
 use Rattle.sefl_meaning.specs.Start.{start_of}
-use Rattle.sefl_meaning.specs.Walks.{Trail}
+use Rattle.sefl_meaning.specs.Valued.{progress_valued}
+use Rattle.sefl_meaning.specs.Walks.{Passage, Trail}
 use Rattle.term_values.specs.TermValues.{terms}
-use Rattle.exact_records.specs.Records.{RecordTree, SymStart, decisions_of, path, pruned, unexplored}
+use Rattle.exact_records.specs.Records.{RecordTree, SymStart, Takes, decisions_of, path, pruned, unexplored}
 use Rattle.exact_records.specs.Exact.{AreExact, AreExactUpTo, ExactlyOne, IsUpTo}
 
 -- a function of the values of all cells; what is unset stays so
@@ -40,6 +41,13 @@ Shows v w (unexplored ds) = Unit {0}
 pub record IsShown (v : List ℕ) (w : Trail) (rs : List RecordTree) : Type 0 where
   pub once : ExactlyOne (λ x. BeginsWith (decisions_of x) w.decisions) rs
   pub shown : AllByRecursion (λ x. BeginsWith (decisions_of x) w.decisions → Shows v w x) rs
+
+-- the passage of a packet is what the route of its decisions is at the packet: its arrivals, its end, and what is carried
+pub record IsAlong (start : SymStart) (v : List ℕ) (u : Passage) : Type 0 where
+  pub takes : Takes start v u.decisions
+  pub arrivals : map (λ a. (a.0, progress_valued (λ t. value_at t v) a.1)) takes.way.arrivals ≡ u.arrivals
+  pub ended : takes.end' ≡ u.end'
+  pub progress : progress_valued (λ t. value_at t v) takes.progress ≡ u.progress
 
 module _ (net : Network) (i : Entry) (hops : ℕ) where
   -- the walk is one of a packet that meets the injection

@@ -4,7 +4,7 @@ ghost use Rattle.std.specs.Prelude.{ℕ};
 ghost use Rattle.sefl_meaning.specs.Network.{Network, Entry};
 ghost use Rattle.sefl_meaning.specs.Routes.{Splits};
 ghost use Rattle.exact_records.specs.Records.{SymStart};
-ghost use Rattle.exact_records.specs.Laws.{ExactRecordsShowWalks, PacketsTakeRoutes, RecordsTellPackets, StandingIsExact, StepsStand, VerdictsStay};
+ghost use Rattle.exact_records.specs.Laws.{ExactRecordsShowWalks, PacketsTakeRoutes, PassagesTakeRoutes, RecordsTellPackets, StandingIsExact, StepsStand, VerdictsStay};
 
 use crate::below::{facts, meanings};
 
@@ -29,9 +29,11 @@ pub fn records_that_stand_are_exact()
     facts();
 }
 
-/// The decisions that values take are those of the walks of the packet with these values.
+/// The decisions that values take are those of the walks of the packet with these values, and each walk
+/// is what the route of its decisions is at the packet.
 pub fn packets_take_routes()
-    ensures { (net : Network) (i : Entry) (hops : ℕ) → PacketsTakeRoutes net i hops }
+    ensures decisions { (net : Network) (i : Entry) (hops : ℕ) → PacketsTakeRoutes net i hops }
+    ensures passages { (net : Network) (i : Entry) (hops : ℕ) → PassagesTakeRoutes net i hops }
 {
     meanings();
 }
