@@ -35,8 +35,8 @@ use Rattle.sefl_meaning.specs.Injected.{FitWidths, Starts, injected, passages_fr
 use Rattle.sefl_meaning.specs.Start.{Start, StartsAt, start_from, start_of, start_valued, tests_in, tree_from}
 use Rattle.exact_records.specs.Below.{Facts, Meanings, formula_at, term_at}
 use Rattle.exact_records.specs.Records.{HasMeaning, IsPath, Leads, RecordTree, SymRoute, SymStart, SymTree, Takes, decisions_of, injection_tests, path, pruned, unexplored}
-use Rattle.exact_records.specs.Exact.{AreExact, AreExactUpTo, IsGood, IsNoOtherPath, IsShownOnce}
-use Rattle.exact_records.specs.Packets.{AreExactFor, AreExactUpToFor, HasPacket, HasWalk, IsAlong, IsExplored, IsNotTaken, IsShown, IsWalkOf, Shows, fields_at, fields_valued}
+use Rattle.exact_records.specs.Exact.{AreExact, AreExactSoFar, AreExactUpTo, IsGood, IsNoOtherPath, IsShownOnce}
+use Rattle.exact_records.specs.Packets.{AreExactFor, AreExactSoFarFor, AreExactUpToFor, HasPacket, HasWalk, IsAlong, IsExplored, IsNotTaken, IsShown, IsWalkOf, Shows, fields_at, fields_valued}
 use Rattle.exact_records.specs.Laws.{ExactRecordsShowWalks, PacketsTakeRoutes, PassagesTakeRoutes, RecordsTellPackets}
 use Rattle.exact_records.proofs.Lists.{all_both, all_weaker, both, left_of, pass_append, pass_first, pass_later, right_of}
 use Rattle.exact_records.proofs.Ordered.{mapped_some}
@@ -338,26 +338,37 @@ module _ (facts : Facts) (means : Meanings) (net : Network) (i : Entry) (hops : 
   pub records_tell : RecordsTellPackets net i hops
   records_tell start explored x h = (has_packet facts means net i hops start explored x h, not_taken facts means net i hops start explored x h)
 
-  pub show_walks : ExactRecordsShowWalks net i hops
-  show_walks = record {
-    exact = λ start limit rs explored h. record {
-      start = start;
-      explored = explored;
-      exact = h;
-      walks = λ v w walk.
-          shows facts means net i hops start explored v w rs walk h.good
-          (h.once v w.decisions (walk_takes means net i hops start explored v w walk));
-      packets = all_packets facts means net i hops start explored rs h.good;
-      refuted = none_taken facts means net i hops start explored rs h.good;
-    };
-    up_to = λ start done last explored h. record {
-      start = start;
-      explored = explored;
-      exact = h;
-      walks = λ v w walk within.
-          shows facts means net i hops start explored v w (done ++ last ∷ []) walk h.good
-          (h.once v w.decisions (walk_takes means net i hops start explored v w walk) within);
-      packets = all_packets facts means net i hops start explored (done ++ last ∷ []) h.good;
-      refuted = none_taken facts means net i hops start explored (done ++ last ∷ []) h.good;
-    };
+  all_exact : (start : SymStart) (limit : ℕ) (rs : List RecordTree) → IsExplored net i hops start → AreExact start limit rs → AreExactFor net i hops limit rs
+  all_exact start limit rs explored h = record {
+    start = start;
+    explored = explored;
+    exact = h;
+    walks = λ v w walk.
+        shows facts means net i hops start explored v w rs walk h.good (h.once v w.decisions (walk_takes means net i hops start explored v w walk));
+    packets = all_packets facts means net i hops start explored rs h.good;
+    refuted = none_taken facts means net i hops start explored rs h.good;
   }
+
+  exact_up_to : (start : SymStart) (done : List RecordTree) (last : RecordTree) → IsExplored net i hops start → AreExactUpTo start done last
+      → AreExactUpToFor net i hops done last
+  exact_up_to start done last explored h = record {
+    start = start;
+    explored = explored;
+    exact = h;
+    walks = λ v w walk within.
+        shows facts means net i hops start explored v w (done ++ last ∷ []) walk h.good
+        (h.once v w.decisions (walk_takes means net i hops start explored v w walk) within);
+    packets = all_packets facts means net i hops start explored (done ++ last ∷ []) h.good;
+    refuted = none_taken facts means net i hops start explored (done ++ last ∷ []) h.good;
+  }
+
+  exact_so_far : (start : SymStart) (rs : List RecordTree) → IsExplored net i hops start → AreExactSoFar start rs → AreExactSoFarFor net i hops rs
+  exact_so_far start rs explored h = record {
+    is = elim h.is [
+      inl e ↦ inl e
+    | inr k ↦ inr (k.0, k.1, k.2, exact_up_to start k.0 k.1 explored k.3)
+    ];
+  }
+
+  pub show_walks : ExactRecordsShowWalks net i hops
+  show_walks = record { exact = all_exact; up_to = exact_up_to; so_far = exact_so_far }

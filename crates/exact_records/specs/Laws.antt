@@ -18,7 +18,7 @@ use Rattle.sefl_meaning.specs.Fields.{fields_of}
 use Rattle.sefl_meaning.specs.Order.{Has, Parts}
 use Rattle.exact_records.specs.Records.{HasMeaning, IsRefutedBy, IsVerdictOn, RecordTree, SymCondition, SymStart, SymTree, Takes, decisions_of, path, pruned, unexplored}
 use Rattle.exact_records.specs.Exact.{AreExact, AreExactSoFar, AreExactUpTo, IsTried, IsUnexplored}
-use Rattle.exact_records.specs.Packets.{AreExactFor, AreExactUpToFor, HasPacket, HasWalk, IsAlong, IsExplored, IsNotTaken}
+use Rattle.exact_records.specs.Packets.{AreExactFor, AreExactSoFarFor, AreExactUpToFor, HasPacket, HasWalk, IsAlong, IsExplored, IsNotTaken}
 use Rattle.exact_records.specs.Spots.{Arrives, IsBefore, IsKnown, Known, Spot, Stands, Task, condition_at, copy_tasks, decided, filled_verdict, first_spot, side_tasks, to_decide}
 
 -- each step of an exploration keeps that the records and the tasks stand for the whole
@@ -94,3 +94,4 @@ module _ (net : Network) (i : Entry) (hops : ℕ) where
         → AreExactFor net i hops limit rs
     pub up_to : (start : SymStart) (done : List RecordTree) (last : RecordTree) → IsExplored net i hops start → AreExactUpTo start done last
         → AreExactUpToFor net i hops done last
+    pub so_far : (start : SymStart) (rs : List RecordTree) → IsExplored net i hops start → AreExactSoFar start rs → AreExactSoFarFor net i hops rs
