@@ -1,5 +1,5 @@
 -- What an instruction does, before the frames that are left.
-use Rattle.std.specs.Prelude.{ℕ, Bool, true, false, List, Option, None, Some}
+use Rattle.std.specs.Prelude.{ℕ, true, false, List, Option, None, Some}
 use Rattle.sn_width.specs.declared.ids.NodeId.{NodeId}
 use Rattle.net_check.specs.Network.{Network}
 use Rattle.sefl_meaning.specs.Values.{Values}

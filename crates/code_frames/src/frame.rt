@@ -49,7 +49,9 @@ pub enum Question<'a> {
         other: &'a [Instr],
     },
     /// Nothing, or its failure.
-    Constrain { site: u32 },
+    Constrain {
+        site: u32,
+    },
 }
 
 /// What the run of code comes to: its end, or a test whose truth it waits for.

@@ -5,11 +5,10 @@ ghost use Rattle.sefl_syntax.specs.Trees.{branch, constrain, each};
 ghost use Rattle.sefl_syntax.specs.Views.{code_tree, cond_tree, instr_tree};
 ghost use Rattle.net_check.specs.Network.{Network, network};
 ghost use Rattle.sefl_meaning.specs.Courses.{course_in};
-ghost use Rattle.instr_steps.specs.Scenes.{scene_of};
 ghost use Rattle.sefl_meaning.specs.declared.walk.Failure.TheVariants.{Layout as LayoutFailure};
 ghost use Rattle.code_frames.specs.declared.instrs.Done.TheVariants.{Failed as FailedAt};
 ghost use Rattle.code_frames.specs.Doing.{course_of, done_weight};
-ghost use Rattle.code_frames.specs.Frames.{from, progress_at, scene_in};
+ghost use Rattle.code_frames.specs.Frames.{progress_at, scene_in};
 ghost use Rattle.code_frames.specs.Steps.{is_step};
 ghost use Rattle.code_frames.specs.Weights.{code_weight, instr_weight};
 
