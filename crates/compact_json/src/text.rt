@@ -85,11 +85,18 @@ impl JsonText {
         Ok(self.writer.u64(count)?)
     }
 
-    /// A whole number.
-    pub fn integer(&mut self, integer: i64) -> Result<(), NoMemory>
+    /// A number of 32 bits from 0 on.
+    pub fn id(&mut self, id: u32) -> Result<(), NoMemory>
+        ensures { Gains (number (unsigned id)) result self.old self.new }
+    {
+        Ok(self.writer.u64(u64::from(id))?)
+    }
+
+    /// A whole number of 32 bits.
+    pub fn integer(&mut self, integer: i32) -> Result<(), NoMemory>
         ensures { Gains (number (of_integer integer)) result self.old self.new }
     {
-        Ok(self.writer.i64(integer)?)
+        Ok(self.writer.i64(i64::from(integer))?)
     }
 
     pub fn null(&mut self) -> Result<(), NoMemory>
