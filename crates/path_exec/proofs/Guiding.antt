@@ -21,7 +21,7 @@ use Rattle.path_exec.specs.Here.{Here, behind_last, spot_at, waiting_at}
 use Rattle.path_exec.specs.Views.{Views}
 use Rattle.path_exec.specs.Offers.{IsNode, IsOver, copied_by, copy_count, is_offered, next_by, next_spot}
 use Rattle.path_exec.specs.Moves.{Advances, ComesTo}
-use Rattle.path_exec.specs.Following.{IsKind, IsLed, LeadsTo, Turns, here_of, spot_of}
+use Rattle.path_exec.specs.Following.{IsKind, IsLed, IsTurned, LeadsTo, StandsWith, Turns, here_of, spot_of}
 use Rattle.path_exec.proofs.Ways.{begun_next, first_placed, placed}
 
 false_true : (b : Bool) → b ≡ false → b ≡ true → ⊥
@@ -69,14 +69,14 @@ pub record IsBehind (s : SymStart) (b : Spot) (d : Decision) (t : SymTree) : Typ
   pub spot : Spot
   pub next : next_by t b d ≡ Some spot
   pub decisions : spot.decisions ≡ b.decisions ++ d ∷ []
-  pub at : IsAt s b → b.tree ≡ t → IsAt s spot
+  pub at : (h : IsAt s b) → b.tree ≡ t → StandsWith s h.arrivals spot
 
 module _ (s : SymStart) (b : Spot) where
   if_behind : (p : Progress LinearTerm) (test : FormulaTree) (held broken : SymTree) (d : Decision) → is_offered If d ≡ true → IsBehind s b d (tests at_if p test held broken)
   if_behind p test held broken Then h =
-      record { spot = sided b at_if test true held; next = refl; decisions = refl; at = λ at e. at_side s b at_if p test held broken true e at }
+      record { spot = sided b at_if test true held; next = refl; decisions = refl; at = λ at e. record { at = at_side s b at_if p test held broken true e at; same = refl } }
   if_behind p test held broken Else h =
-      record { spot = sided b at_if test false broken; next = refl; decisions = refl; at = λ at e. at_side s b at_if p test held broken false e at }
+      record { spot = sided b at_if test false broken; next = refl; decisions = refl; at = λ at e. record { at = at_side s b at_if p test held broken false e at; same = refl } }
   if_behind p test held broken Pass h = let bad : false ≡ true = h in cc
   if_behind p test held broken Broken h = let bad : false ≡ true = h in cc
   if_behind p test held broken (Copy n) h = let bad : false ≡ true = h in cc
@@ -84,9 +84,9 @@ module _ (s : SymStart) (b : Spot) where
   constrain_behind : (p : Progress LinearTerm) (test : FormulaTree) (held broken : SymTree) (d : Decision) → is_offered Constrain d ≡ true
       → IsBehind s b d (tests at_constrain p test held broken)
   constrain_behind p test held broken Pass h =
-      record { spot = sided b at_constrain test true held; next = refl; decisions = refl; at = λ at e. at_side s b at_constrain p test held broken true e at }
+      record { spot = sided b at_constrain test true held; next = refl; decisions = refl; at = λ at e. record { at = at_side s b at_constrain p test held broken true e at; same = refl } }
   constrain_behind p test held broken Broken h =
-      record { spot = sided b at_constrain test false broken; next = refl; decisions = refl; at = λ at e. at_side s b at_constrain p test held broken false e at }
+      record { spot = sided b at_constrain test false broken; next = refl; decisions = refl; at = λ at e. record { at = at_side s b at_constrain p test held broken false e at; same = refl } }
   constrain_behind p test held broken Then h = let bad : false ≡ true = h in cc
   constrain_behind p test held broken Else h = let bad : false ≡ true = h in cc
   constrain_behind p test held broken (Copy n) h = let bad : false ≡ true = h in cc
@@ -99,7 +99,7 @@ module _ (s : SymStart) (b : Spot) where
   number_behind : (p : Progress LinearTerm) (branches : Copies LinearTerm FormulaTree) (n : ℕ) → n < copy_count branches → IsBehind s b (Copy n) (splits p branches)
   number_behind p branches n h =
       let k = a_copy branches n h in
-      record { spot = copied b n k.0; next = ap (option_map (copied b n)) k.1; decisions = refl; at = λ at e. at_copy s b p branches n k.0 e k.1 at }
+      record { spot = copied b n k.0; next = ap (option_map (copied b n)) k.1; decisions = refl; at = λ at e. record { at = at_copy s b p branches n k.0 e k.1 at; same = refl } }
 
   copy_behind : (count : ℕ) (p : Progress LinearTerm) (branches : Copies LinearTerm FormulaTree) (d : Decision) → count ≡ copy_count branches → is_offered (Fork count) d ≡ true
       → IsBehind s b d (splits p branches)
@@ -132,10 +132,11 @@ module _ {P O N D T : Type 0} (x : Views P O N D T) where
       → spot_at (begun_at x.start.tree (x.node_at node).decisions) (x.place_at place) ≡ (offered_behind x.start (waiting_at x.start (x.node_at node)) offer d h e).spot
       → Turns x (AtNode node offer) d (Some place)
   turned node offer d place h e is =
-      let k = offered_behind x.start (waiting_at x.start (x.node_at node)) offer d h e in (
-        ap (λ (a : Spot). a.decisions) is ∙ k.decisions,
-        λ at. subst (IsAt x.start) (sym (placed x node d place k.spot is k.decisions)) (k.at at refl),
-      )
+      let k = offered_behind x.start (waiting_at x.start (x.node_at node)) offer d h e in
+      record {
+        decisions = ap (λ (a : Spot). a.decisions) is ∙ k.decisions;
+        stands = λ at. subst (StandsWith x.start at.arrivals) (sym (placed x node d place k.spot is k.decisions)) (k.at at refl);
+      }
 
   pub starts_at : (place : P) → spot_at 0 (x.place_at place) ≡ first_spot x.start → IsAt x.start (behind_last x.start (x.place_at place))
   starts_at place e = subst (IsAt x.start) (sym (first_placed x place e)) (at_start x.start)
@@ -149,6 +150,7 @@ module _ {P O N D T : Type 0} (x : Views P O N D T) where
         way = record { arrivals = w.at.arrivals; tests = b.tests; left = b.tree };
         leads = subst (λ (ds : List Decision). Leads x.start ds (record { arrivals = w.at.arrivals; tests = b.tests; left = b.tree })) n.arrives.decisions (led x.start b w);
         left = refl;
+        arrivals = refl;
         places = w.at.places;
         tests = refl;
         widths = w.widths;

@@ -3,6 +3,7 @@ use Rattle.std.proofs.Common.{◌≡◌, ℕ, suc, ◌+◌, ◌-◌, ◌<◌, Li
 use Rattle.lin_term.specs.Terms.{LinearTerm}
 use Rattle.sefl_meaning.specs.declared.walk.Decision.{Decision}
 use Rattle.sefl_meaning.specs.declared.walk.Place.{Place}
+use Rattle.sefl_meaning.specs.Carried.{Carried}
 use Rattle.sefl_meaning.specs.Courses.{Asking, at_if, at_constrain, Progress}
 use Rattle.sefl_meaning.specs.Trees.{Tree, over, arrives, tests, splits}
 use Rattle.sefl_meaning.specs.Routes.{Route, arriving, behind, route}
@@ -74,8 +75,8 @@ pub record IsOnWay (a c : Spot) : Type 0 where
 way_first : (a : Spot) → IsOnWay a a
 way_first a = record { decisions = refl; tests = refl; places = refl; node = refl; more = []; grown = sym (append_nil a.widths) }
 
-way_on : (a b c : Spot) → IsOnWay a b → Reaches b c → IsOnWay a c
-way_on a b c w h = record {
+way_on : (a b c : Spot) (carried : Carried LinearTerm) → IsOnWay a b → Reaches b c carried → IsOnWay a c
+way_on a b c carried w h = record {
   decisions = h.goes.decisions ∙ w.decisions;
   tests = h.goes.tests ∙ w.tests;
   places = ap (λ ps. ps ++ places_of c.tree) h.places
@@ -136,7 +137,7 @@ module _ {P O N D T : Type 0} (x : Views P O N D T) where
     way = λ begun.
         let same : (begun + w.raised) + h.raised ≡ begun + (w.raised + h.raised) = omega arith in
         subst (λ (m : ℕ). IsOnWay (spot_at begun first) (spot_at m (x.place_at place))) same
-        (way_on (spot_at begun first) (spot_at (begun + w.raised) now) (spot_at ((begun + w.raised) + h.raised) (x.place_at place)) (w.way begun)
+        (way_on (spot_at begun first) (spot_at (begun + w.raised) now) (spot_at ((begun + w.raised) + h.raised) (x.place_at place)) (x.carried_at place) (w.way begun)
         (subst (IsMove x (spot_at (begun + w.raised) now) ((begun + w.raised) + h.raised)) is (h.goes (begun + w.raised))));
   }
 

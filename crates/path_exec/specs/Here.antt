@@ -1,5 +1,5 @@
 -- Where a run stands, whatever number of instructions has begun.
-use Rattle.std.specs.Prelude.{ℕ, Bool, List}
+use Rattle.std.specs.Prelude.{ℕ, ◌≡◌, Bool, List, [], ◌∷◌, ◌++◌}
 use Rattle.path_formula.specs.Formulas.{FormulaTree}
 use Rattle.sefl_meaning.specs.declared.walk.Decision.{Decision}
 use Rattle.sefl_meaning.specs.declared.walk.Place.{Place}
@@ -24,6 +24,10 @@ spot_at begun h = record {
   widths = h.widths;
   tree = h.tree begun;
 }
+
+-- the last port is this one
+abbrev pub EndsWith : List Place → Place → Type 0
+EndsWith places port = (front : List Place) × (places ≡ front ++ port ∷ [])
 
 -- behind the last decision: none has begun since the instruction that took it
 abbrev pub behind_last : SymStart → Here → Spot

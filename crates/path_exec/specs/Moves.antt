@@ -2,6 +2,7 @@
 use Rattle.std.specs.Prelude.{ℕ, ◌≡◌, ◌+◌, List, [], ◌∷◌, ◌++◌}
 use Rattle.lin_term.specs.Terms.{LinearTerm}
 use Rattle.sefl_meaning.specs.declared.walk.Place.{Place}
+use Rattle.sefl_meaning.specs.Carried.{Carried}
 use Rattle.sefl_meaning.specs.Courses.{Progress}
 use Rattle.sefl_meaning.specs.Trees.{arrives}
 use Rattle.sefl_meaning.specs.Start.{progress_of}
@@ -22,12 +23,13 @@ pub record GoesOn (a c : Spot) : Type 0 where
   pub more : List ℕ
   pub grown : c.widths ≡ a.widths ++ more
 
--- the next port on the way was arrived at
-pub record Reaches (a c : Spot) : Type 0 where
+-- the next port on the way was arrived at, where this is carried
+pub record Reaches (a c : Spot) (carried : Carried LinearTerm) : Type 0 where
   pub goes : GoesOn a c
   pub port : Place
   pub progress : Progress LinearTerm
   pub is : a.tree ≡ arrives port progress c.tree
+  pub carries : progress.state ≡ carried
   pub places : c.places ≡ a.places ++ port ∷ []
 
 -- no port was arrived at, and then so many instructions have begun
@@ -52,7 +54,7 @@ module _ {P O N D T : Type 0} (x : Views P O N D T) where
 
   -- the run came so far, and then so many instructions have begun
   abbrev pub IsMove : Spot → ℕ → Moved P O N → Type 0
-  IsMove a count (Arrived place) = Reaches a (spot_at count (x.place_at place))
+  IsMove a count (Arrived place) = Reaches a (spot_at count (x.place_at place)) (x.carried_at place)
   IsMove a count (Stopped next) = IsStop a count next
 
   -- the counter rises by as many as begin, however many had begun before

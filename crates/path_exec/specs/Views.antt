@@ -1,14 +1,17 @@
 -- What the values of an exploration are seen as.
 use Rattle.std.specs.Prelude.{◌≡◌}
+use Rattle.lin_term.specs.Terms.{LinearTerm}
+use Rattle.sefl_meaning.specs.Carried.{Carried}
 use Rattle.refutation_check.specs.declared.outcome.Verdict.{Verdict}
 use Rattle.exact_records.specs.Records.{RecordTree, SymStart}
 use Rattle.path_exec.specs.Here.{Here}
 
--- what is explored; places, ends and nodes as where they stand; findings as verdicts; records as what they mean, and whether
--- their names are those of the net
+-- what is explored; places, ends and nodes as where they stand, and what is carried at a place; findings as verdicts; records as
+-- what they mean, and whether their names are those of the net
 pub record Views (P O N D T : Type 0) : Type 1 where
   pub start : SymStart
   pub place_at : P → Here
+  pub carried_at : P → Carried LinearTerm
   pub over_at : O → Here
   pub node_at : N → Here
   pub verdict_of : D → Verdict

@@ -1,16 +1,16 @@
 //! What an exploration stands on: places of a run, and the decision of their conditions.
 
-ghost use Rattle.std.specs.Prelude.{◌≡◌, ◌++◌, ◌∷◌, [], ℕ, Some, None, IfOk, length};
+ghost use Rattle.std.specs.Prelude.{◌≡◌, ◌↔◌, ◌++◌, ◌∷◌, [], ℕ, Some, None, IfOk, IsTrue, length};
 ghost use Rattle.exact_records.specs.Records.{pruned, unexplored};
 ghost use Rattle.exact_records.specs.Spots.{Spot, condition_at, filled_verdict, first_spot, IsKnown};
-ghost use Rattle.path_exec.specs.Here.{spot_at};
+ghost use Rattle.path_exec.specs.Here.{EndsWith, spot_at};
 ghost use Rattle.path_exec.specs.Views.{Views, IsMade};
 ghost use Rattle.path_exec.specs.Offers.{IsOffered, next_spot};
 ghost use Rattle.path_exec.specs.Moves.{Moves};
 ghost use Rattle.path_exec.specs.Trials.{IsPathOf, IsTrial};
 
 use refutation_check::Refutation;
-use sefl_meaning::Decision;
+use sefl_meaning::{Decision, Place};
 use sn_width::{NoMemory, Steps};
 use std::alloc::Global;
 use std::sync::ledger::Ledger;
@@ -76,6 +76,15 @@ pub trait Engine {
     /// The same, with the decision of the injection's condition.
     fn try_begin(&self, alloc: Global) -> Result<Tried<Self::Place, Self::Finding>, NoMemory>
         ensures { IfOk result (IsTrial (views self.now) 0 (first_spot (views self.now).start)) };
+
+    /// The same place.
+    fn fork(&self, place: &Self::Place) -> Result<Self::Place, NoMemory>
+        ensures stands { IfOk result (λ copy. (views self.now).place_at copy ≡ (views self.now).place_at place.now) }
+        ensures carries { IfOk result (λ copy. (views self.now).carried_at copy ≡ (views self.now).carried_at place.now) };
+
+    /// Whether the last port that it arrived at is this one.
+    fn stands_at(&self, place: &Self::Place, port: Place) -> bool
+        ensures { IsTrue result ↔ EndsWith ((views self.now).place_at place.now).places port };
 
     /// Runs on to the next port, the next decision or the end.
     fn onward<L: Ledger>(
