@@ -5,12 +5,13 @@ use Rattle.lin_term.specs.Terms.{LinearTerm}
 use Rattle.path_formula.specs.Formulas.{FormulaTree}
 use Rattle.sefl_meaning.specs.declared.walk.Decision.{Decision}
 use Rattle.sefl_meaning.specs.declared.walk.Decision.TheVariants.{Then, Else, Pass, Broken, Copy}
+use Rattle.sefl_meaning.specs.declared.walk.Place.{Place}
 use Rattle.sefl_meaning.specs.Courses.{Asking, at_if, at_constrain, Progress}
 use Rattle.sefl_meaning.specs.Trees.{Tree, over, arrives, tests, splits, Copies, no_copies, copy_and}
 use Rattle.sefl_meaning.specs.Taken.{decision_at}
 use Rattle.sefl_meaning.specs.Routes.{Has, IsFirstClosed, number_of, offered_copies, offers, truth_of}
 use Rattle.exact_records.specs.Records.{Leads, SymStart, SymTree}
-use Rattle.exact_records.specs.Spots.{IsAt, Spot, copied, copy_at, first_spot, sided}
+use Rattle.exact_records.specs.Spots.{IsAt, Spot, arrivals_of, copied, copy_at, first_spot, sided}
 use Rattle.exact_records.specs.Work.{at_last, begun_at}
 use Rattle.exact_records.proofs.Arriving.{at_copy, at_next, at_side, at_start, led, waits_next}
 use Rattle.path_exec.specs.declared.engine.Offer.{Offer}
@@ -141,10 +142,15 @@ module _ {P O N D T : Type 0} (x : Views P O N D T) where
   pub starts_at : (place : P) → spot_at 0 (x.place_at place) ≡ first_spot x.start → IsAt x.start (behind_last x.start (x.place_at place))
   starts_at place e = subst (IsAt x.start) (sym (first_placed x place e)) (at_start x.start)
 
-  led_to : (a b : Spot) (count : ℕ) → IsAt x.start a → ComesTo x.start count a b → IsLed x.start a.decisions b
+  -- with the arrivals on the way
+  pub record IsLedBy (arrivals : List (Place × Progress LinearTerm)) (ds : List Decision) (b : Spot) : Type 0 where
+    pub led : IsLed x.start ds b
+    pub arrivals_are : led.way.arrivals ≡ arrivals
+
+  led_to : (a b : Spot) (count : ℕ) (at : IsAt x.start a) → ComesTo x.start count a b → IsLedBy (at.arrivals ++ arrivals_of a.tree) a.decisions b
   led_to a b count at n =
       let w = waits_next x.start a b at n.arrives in
-      record {
+      record { arrivals_are = refl; led = record {
         at = w.at;
         decisions = n.arrives.decisions;
         way = record { arrivals = w.at.arrivals; tests = b.tests; left = b.tree };
@@ -154,32 +160,42 @@ module _ {P O N D T : Type 0} (x : Views P O N D T) where
         places = w.at.places;
         tests = refl;
         widths = w.widths;
-      }
+      }; }
 
   -- the same spot, by how many have begun there
   come_there : (h c : Here) (count raised : ℕ) → IsAt x.start (behind_last x.start h) → count ≡ at_last (begun_at x.start.tree) h.decisions + raised
       → ComesTo x.start count (behind_last x.start h) (spot_at count c) → count ≡ begun_at x.start.tree c.decisions
   come_there h c count raised at e n = sym (begun_next x.start (behind_last x.start h) (spot_at count c) count at n)
 
-  pub arrived : (h : Here) (before after : ℕ) (next : Next O N) → IsAt x.start (behind_last x.start h) → Advances x h before after next → LeadsTo x h.decisions next
-  arrived h before after (AtEnd o) at adv =
+  pub record ArrivesBy (arrivals : List (Place × Progress LinearTerm)) (ds : List Decision) (next : Next O N) : Type 0 where
+    pub leads : LeadsTo x ds next
+    pub arrivals_are : leads.led.way.arrivals ≡ arrivals
+
+  pub arrived_by : (h : Here) (before after : ℕ) (next : Next O N) (at : IsAt x.start (behind_last x.start h)) → Advances x h before after next
+      → ArrivesBy (at.arrivals ++ arrivals_of (behind_last x.start h).tree) h.decisions next
+  arrived_by h before after (AtEnd o) at adv =
       let b0 = at_last (begun_at x.start.tree) h.decisions in
       let n = adv.goes b0 in
       let same = come_there h (x.over_at o) (b0 + adv.raised) adv.raised at refl n.0 in
+      let l = led_to (behind_last x.start h) (waiting_at x.start (x.over_at o)) (b0 + adv.raised) at
+      (subst (λ (m : ℕ). ComesTo x.start (b0 + adv.raised) (behind_last x.start h) (spot_at m (x.over_at o))) same n.0) in
       record {
-        led = led_to (behind_last x.start h) (waiting_at x.start (x.over_at o)) (b0 + adv.raised) at
-            (subst (λ (m : ℕ). ComesTo x.start (b0 + adv.raised) (behind_last x.start h) (spot_at m (x.over_at o))) same n.0);
-        kind = subst (λ (m : ℕ). IsOver ((x.over_at o).tree m)) same n.1;
+        leads = record { led = l.led; kind = subst (λ (m : ℕ). IsOver ((x.over_at o).tree m)) same n.1 };
+        arrivals_are = l.arrivals_are;
       }
-  arrived h before after (AtNode node offer) at adv =
+  arrived_by h before after (AtNode node offer) at adv =
       let b0 = at_last (begun_at x.start.tree) h.decisions in
       let n = adv.goes b0 in
       let same = come_there h (x.node_at node) (b0 + adv.raised) adv.raised at refl n.0 in
+      let l = led_to (behind_last x.start h) (waiting_at x.start (x.node_at node)) (b0 + adv.raised) at
+      (subst (λ (m : ℕ). ComesTo x.start (b0 + adv.raised) (behind_last x.start h) (spot_at m (x.node_at node))) same n.0) in
       record {
-        led = led_to (behind_last x.start h) (waiting_at x.start (x.node_at node)) (b0 + adv.raised) at
-            (subst (λ (m : ℕ). ComesTo x.start (b0 + adv.raised) (behind_last x.start h) (spot_at m (x.node_at node))) same n.0);
-        kind = subst (λ (m : ℕ). IsNode offer ((x.node_at node).tree m)) same n.1;
+        leads = record { led = l.led; kind = subst (λ (m : ℕ). IsNode offer ((x.node_at node).tree m)) same n.1 };
+        arrivals_are = l.arrivals_are;
       }
+
+  pub arrived : (h : Here) (before after : ℕ) (next : Next O N) → IsAt x.start (behind_last x.start h) → Advances x h before after next → LeadsTo x h.decisions next
+  arrived h before after next at adv = (arrived_by h before after next at adv).leads
 
   -- a decision that is not offered is the first one
   pub impossible_at : (ds first rest : List Decision) (d : Decision) (index : ℕ) (next : Next O N) → ds ≡ first ++ d ∷ rest → length first ≡ index → LeadsTo x first next

@@ -7,3 +7,4 @@ pub mod Steps
 pub mod Endings
 pub mod Leaving
 pub mod Guiding
+pub mod Gathering

@@ -43,7 +43,7 @@ module _ {A : Type 0} where
   not_snoc [] a q = cc
   not_snoc (w ∷ zs) a q = let bad : w ∷ (zs ++ a ∷ []) ≡ [] = q in cc
 
-  last_same : (xs ys : List A) (x y : A) → xs ++ x ∷ [] ≡ ys ++ y ∷ [] → x ≡ y
+  pub last_same : (xs ys : List A) (x y : A) → xs ++ x ∷ [] ≡ ys ++ y ∷ [] → x ≡ y
   last_same [] [] x y e = same_first e
   last_same [] (z ∷ ys) x y e = absurd (not_snoc ys y (sym (same_rest e)))
   last_same (z ∷ xs) [] x y e = absurd (not_snoc xs x (same_rest e))

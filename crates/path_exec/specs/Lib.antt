@@ -9,3 +9,4 @@ pub mod Keeping
 pub mod Receiving
 pub mod Ending
 pub mod Following
+pub mod Visiting

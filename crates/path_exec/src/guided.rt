@@ -48,7 +48,7 @@ fn is_offered(offer: Offer, decision: Decision) -> bool
 }
 
 /// The place behind a decision; None where it is not offered.
-fn turn<E: Engine>(
+pub(crate) fn turn<E: Engine>(
     alloc: Global,
     engine: &E,
     next: Next<E::Over, E::Node>,

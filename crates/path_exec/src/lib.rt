@@ -8,8 +8,10 @@ mod kept;
 mod opening;
 mod receiver;
 mod running;
+mod visits;
 
 pub use exploration::{Ended, explore_into};
 pub use guided::{FollowFault, follow};
 pub use kept::{Kept, explore};
 pub use receiver::{Receiver, Took};
+pub use visits::arrivals;
