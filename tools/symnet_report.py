@@ -1,0 +1,188 @@
+#!/usr/bin/env python3
+"""Reads what symnet writes into plain objects, and prints a table of its paths.
+
+    tools/symnet_report.py REPORT.json [--pruned]
+
+REPORT.json is a report of `symnet explore` or the walks of `symnet walk`. Only the standard library is used. Whole numbers
+keep all their digits; a value above 2^64 - 1, which is written as a text of digits, becomes a number too.
+"""
+
+import json
+import sys
+from dataclasses import dataclass, field
+from typing import List, Optional, Tuple, Union
+
+FAULTS = {
+    1: "no such tag", 2: "address out of range", 3: "no field at the address", 4: "field of another width",
+    5: "fields that overlap", 6: "field that is not set", 7: "no such metadata", 8: "constraint not met", 9: "fail",
+}
+
+
+class NotReport(Exception):
+    """The text is no report and no list of walks; the message says where."""
+
+
+@dataclass(frozen=True)
+class Cell:
+    """A cell of `width` bits: unset where `constant` is None, else constant + sum of coefficient * symbol, modulo 2^width."""
+
+    width: int
+    constant: Optional[int]
+    parts: Tuple[Tuple[int, int], ...] = ()
+
+    def value(self, values: List[int]) -> Optional[int]:
+        """The number that it holds for the packet with these numbers, one for each symbol."""
+        if self.constant is None:
+            return None
+        total = self.constant + sum(coefficient * values[symbol] for symbol, coefficient in self.parts)
+        return total % (1 << self.width)
+
+
+@dataclass(frozen=True)
+class Fields:
+    """What is carried at the end: tags with bit addresses, header cells by address, metadata by owner (None: global) and name."""
+
+    tags: Tuple[Tuple[str, int], ...]
+    heads: Tuple[Tuple[int, Tuple[Cell, ...]], ...]
+    metas: Tuple[Tuple[Optional[str], str, Tuple[Cell, ...]], ...]
+
+
+@dataclass(frozen=True)
+class Path:
+    """A path, or a walk of one packet; `values` are those of its least packet, None where it is undecided or a walk."""
+
+    decisions: Tuple[Union[str, int], ...]
+    places: Tuple[str, ...]
+    end: str
+    fields: Fields
+    values: Optional[Tuple[int, ...]] = None
+    undecided: Optional[str] = None
+
+
+@dataclass(frozen=True)
+class Pruned:
+    """A side that no packet takes, with the refutation's steps as they are written."""
+
+    decisions: Tuple[Union[str, int], ...]
+    refutation: Tuple[list, ...]
+
+
+@dataclass(frozen=True)
+class Unexplored:
+    """A decision that was open when the limit was reached."""
+
+    decisions: Tuple[Union[str, int], ...]
+
+
+@dataclass
+class Report:
+    """All records in order; `complete` where nothing was left unexplored. Walks have neither hops nor a limit."""
+
+    records: List[Union[Path, Pruned, Unexplored]] = field(default_factory=list)
+    hops: Optional[int] = None
+    limit: Optional[int] = None
+    complete: bool = True
+
+    @property
+    def paths(self) -> List[Path]:
+        return [record for record in self.records if isinstance(record, Path)]
+
+
+def _cell(parts: list) -> Cell:
+    width = int(parts[0])
+    if len(parts) == 1:
+        return Cell(width, None)
+    members = tuple((int(symbol), int(coefficient)) for symbol, coefficient in (parts[2] if len(parts) == 3 else []))
+    return Cell(width, int(parts[1]), members)
+
+
+def _fields(whole: dict) -> Fields:
+    return Fields(
+        tags=tuple((name, int(address)) for name, address in whole["tags"]),
+        heads=tuple((int(address), tuple(_cell(cell) for cell in cells)) for address, cells in whole["heads"]),
+        metas=tuple((owner, name, tuple(_cell(cell) for cell in cells)) for owner, name, cells in whole["metas"]),
+    )
+
+
+def _end(end: Union[str, dict]) -> str:
+    if isinstance(end, str):
+        return end
+    if end["fault"] == 9:
+        return f'failed at {end["site"]}: {end["text"]}'
+    return f'failed at {end["site"]}: {FAULTS.get(end["fault"], "unknown fault")}'
+
+
+def _path(record: dict) -> Path:
+    verdict = record.get("verdict") or {}
+    values = tuple(int(value) for value in verdict["sat"]) if "sat" in verdict else None
+    undecided = verdict["undecided"]["cause"] if "undecided" in verdict else None
+    return Path(tuple(record["decisions"]), tuple(record["places"]), _end(record["end"]), _fields(record["fields"]), values, undecided)
+
+
+def _record(record: dict) -> Union[Path, Pruned, Unexplored]:
+    kind = record.get("kind", "path")
+    if kind == "path":
+        return _path(record)
+    if kind == "pruned":
+        return Pruned(tuple(record["decisions"]), tuple(record["refutation"]))
+    if kind == "unexplored":
+        return Unexplored(tuple(record["decisions"]))
+    raise NotReport(f"a record of the unknown kind {kind!r}")
+
+
+def read_report(text: Union[str, bytes]) -> Report:
+    """The report, or the walks, of this text; NotReport where it is neither."""
+    try:
+        whole = json.loads(text)
+    except (ValueError, RecursionError) as error:
+        raise NotReport(f"no JSON: {error}") from None
+    if not isinstance(whole, dict) or whole.get("symnet") != 1:
+        raise NotReport("no report: it is no object with the key symnet 1")
+    listed = whole.get("records", whole.get("walks"))
+    if not isinstance(listed, list):
+        raise NotReport("no report: it has neither records nor walks")
+    report = Report(hops=whole.get("hops"), limit=whole.get("limit"), complete=whole.get("state", "done") == "done")
+    for number, record in enumerate(listed):
+        try:
+            report.records.append(_record(record))
+        except (KeyError, IndexError, TypeError, ValueError, AttributeError) as error:
+            raise NotReport(f"record {number} has not the form of one: {error!r}") from None
+    return report
+
+
+def table(report: Report, with_pruned: bool = False) -> str:
+    """A line for each path: its number, its end, the ports, the least packet; with the pruned sides where they are asked for."""
+    lines = []
+    for number, record in enumerate(report.records):
+        if isinstance(record, Path):
+            packet = " ".join(map(str, record.values)) if record.values is not None else record.undecided or "-"
+            lines.append((str(number), record.end, " ".join(map(str, record.decisions)), " > ".join(record.places), packet))
+        elif isinstance(record, Unexplored):
+            lines.append((str(number), "unexplored", " ".join(map(str, record.decisions)), "", ""))
+        elif with_pruned:
+            lines.append((str(number), "pruned", " ".join(map(str, record.decisions)), "", ""))
+    rows = [("record", "end", "decisions", "places", "packet"), *lines]
+    widths = [max(len(row[column]) for row in rows) for column in range(5)]
+    return "\n".join("  ".join(part.ljust(width) for part, width in zip(row, widths)).rstrip() for row in rows)
+
+
+def main(words: List[str]) -> int:
+    names = [word for word in words if not word.startswith("-")]
+    if len(names) != 1 or any(word not in ("--pruned",) for word in words if word.startswith("-")):
+        print("usage: symnet_report.py REPORT.json [--pruned]", file=sys.stderr)
+        return 2
+    try:
+        with open(names[0], "rb") as file:
+            report = read_report(file.read())
+    except OSError as error:
+        print(f"symnet_report: {error}", file=sys.stderr)
+        return 3
+    except NotReport as error:
+        print(f"symnet_report: {names[0]}: {error}", file=sys.stderr)
+        return 14
+    print(table(report, "--pruned" in words))
+    return 0
+
+
+if __name__ == "__main__":
+    sys.exit(main(sys.argv[1:]))
