@@ -1,4 +1,3 @@
 pub mod Around
 pub mod Ascending
-pub mod Owned
 pub mod Rotations
