@@ -60,8 +60,8 @@ module _ (s : SymStart) (exact : StandingIsExact s) where
   grown_behind task ds d begun is e below p c rest k =
       let same : begun_before s task ≡ begun = ap (at_last (begun_at s.tree)) is ∙ (last_at (begun_at s.tree) ds d ∙ e) in
       elim (split_last ds d c p rest (sym is ∙ k)) [
-        inl h ↦ let q : begun_at s.tree p ≡ begun = ap (begun_at s.tree) h.0 ∙ e in omega (arith, same, q)
-      | inr h ↦ let q = below p c h.0 h.1 in omega (arith, same, q)
+        | inl h ↦ let q : begun_at s.tree p ≡ begun = ap (begun_at s.tree) h.0 ∙ e in omega (arith, same, q)
+        | inr h ↦ let q = below p c h.0 h.1 in omega (arith, same, q)
       ]
 
   each_grown : (ds : List Decision) (begun : ℕ) → begun_at s.tree ds ≡ begun

@@ -25,17 +25,17 @@ use Rattle.path_exec.proofs.Spending.{last_same}
 use Rattle.path_exec.proofs.Guiding.{arrived_by}
 
 module _ {P : Type 0} (carried : P → Carried LinearTerm) (port : Place) where
-  visits_append : (as bs : List (Place × Progress LinearTerm)) (ps qs : List P) → AreVisits carried port as ps → AreVisits carried port bs qs → AreVisits carried port (as ++ bs) (ps ++ qs)
-  visits_append [] bs ps qs h k = subst (λ (zs : List P). AreVisits carried port bs (zs ++ qs)) (sym h) k
-  visits_append (a ∷ as) bs ps qs (inl h) k = inl (record {
+  visits_append : (us vs : List (Place × Progress LinearTerm)) (ps qs : List P) → AreVisits carried port us ps → AreVisits carried port vs qs → AreVisits carried port (us ++ vs) (ps ++ qs)
+  visits_append [] vs ps qs h k = subst (λ (zs : List P). AreVisits carried port vs (zs ++ qs)) (sym h) k
+  visits_append (a ∷ us) vs ps qs (inl h) k = inl (record {
     first = h.first;
     rest = h.rest ++ qs;
     is = ap (λ (zs : List P). zs ++ qs) h.is;
     at = h.at;
     carries = h.carries;
-    others = visits_append as bs h.rest qs h.others k;
+    others = visits_append us vs h.rest qs h.others k;
   })
-  visits_append (a ∷ as) bs ps qs (inr h) k = inr (h.0, visits_append as bs ps qs h.1 k)
+  visits_append (a ∷ us) vs ps qs (inr h) k = inr (h.0, visits_append us vs ps qs h.1 k)
 
   one_visit : (a : Place × Progress LinearTerm) (p : P) → a.0 ≡ port → carried p ≡ a.1.state → AreVisits carried port (a ∷ []) (p ∷ [])
   one_visit a p at e = inl (record { first = p; rest = []; is = refl; at = at; carries = e; others = refl })
@@ -126,8 +126,8 @@ module _ {P O N D T : Type 0} (x : Views P O N D T) (port : Place) where
         let p = w.passed begun in
         let none = stop_passes (spot_at (begun + w.way.raised) now) ((begun + w.way.raised) + h.raised) next
         (subst (IsMove x (spot_at (begun + w.way.raised) now) ((begun + w.way.raised) + h.raised)) is (h.goes (begun + w.way.raised))) in
-        let all : p.passed ≡ arrivals_of (first.tree begun) = sym (p.is ∙ (ap (λ (as : List (Place × Progress LinearTerm)). p.passed ++ as) none ∙ append_nil p.passed)) in
-        subst (λ (as : List (Place × Progress LinearTerm)). AreVisits x.carried_at port as w.more) all p.visits;
+        let all : p.passed ≡ arrivals_of (first.tree begun) = sym (p.is ∙ (ap (λ (us : List (Place × Progress LinearTerm)). p.passed ++ us) none ∙ append_nil p.passed)) in
+        subst (λ (us : List (Place × Progress LinearTerm)). AreVisits x.carried_at port us w.more) all p.visits;
   }
 
   -- ---- along all decisions
@@ -137,10 +137,10 @@ module _ {P O N D T : Type 0} (x : Views P O N D T) (port : Place) where
   leads_by h before after old new next arrivals stands v k =
       let there = arrived_by x h before after next stands.at k.advances in
       let tree = (behind_last x.start h).tree in
-      let all : there.leads.led.way.arrivals ≡ arrivals ++ arrivals_of tree = there.arrivals_are ∙ ap (λ (as : List (Place × Progress LinearTerm)). as ++ arrivals_of tree) stands.same in
+      let all : there.leads.led.way.arrivals ≡ arrivals ++ arrivals_of tree = there.arrivals_are ∙ ap (λ (us : List (Place × Progress LinearTerm)). us ++ arrivals_of tree) stands.same in
       record {
         there = there.leads;
-        visits = subst (λ (as : List (Place × Progress LinearTerm)). AreVisits x.carried_at port as new) (sym all)
+        visits = subst (λ (us : List (Place × Progress LinearTerm)). AreVisits x.carried_at port us new) (sym all)
             (subst (AreVisits x.carried_at port (arrivals ++ arrivals_of tree)) (sym k.is)
             (visits_append x.carried_at port arrivals (arrivals_of tree) old k.more v (k.visits (at_last (begun_at x.start.tree) h.decisions))));
       }

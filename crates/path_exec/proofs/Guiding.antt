@@ -150,17 +150,20 @@ module _ {P O N D T : Type 0} (x : Views P O N D T) where
   led_to : (a b : Spot) (count : ℕ) (at : IsAt x.start a) → ComesTo x.start count a b → IsLedBy (at.arrivals ++ arrivals_of a.tree) a.decisions b
   led_to a b count at n =
       let w = waits_next x.start a b at n.arrives in
-      record { arrivals_are = refl; led = record {
-        at = w.at;
-        decisions = n.arrives.decisions;
-        way = record { arrivals = w.at.arrivals; tests = b.tests; left = b.tree };
-        leads = subst (λ (ds : List Decision). Leads x.start ds (record { arrivals = w.at.arrivals; tests = b.tests; left = b.tree })) n.arrives.decisions (led x.start b w);
-        left = refl;
-        arrivals = refl;
-        places = w.at.places;
-        tests = refl;
-        widths = w.widths;
-      }; }
+      record {
+        arrivals_are = refl;
+        led = record {
+          at = w.at;
+          decisions = n.arrives.decisions;
+          way = record { arrivals = w.at.arrivals; tests = b.tests; left = b.tree };
+          leads = subst (λ (ds : List Decision). Leads x.start ds (record { arrivals = w.at.arrivals; tests = b.tests; left = b.tree })) n.arrives.decisions (led x.start b w);
+          left = refl;
+          arrivals = refl;
+          places = w.at.places;
+          tests = refl;
+          widths = w.widths;
+        };
+      }
 
   -- the same spot, by how many have begun there
   come_there : (h c : Here) (count raised : ℕ) → IsAt x.start (behind_last x.start h) → count ≡ at_last (begun_at x.start.tree) h.decisions + raised

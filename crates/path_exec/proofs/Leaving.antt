@@ -37,8 +37,8 @@ module _ {P O N D T : Type 0} (x : Views P O N D T) (below : StepsStand x.start)
       → Leaves x limit m left before after
   leaves_first limit m left before after positive some h =
       elim (last_of (Records h.items)) [
-        inl e ↦ absurd (let z : 0 ≡ limit = ap length (sym e) ∙ (length_mapped x.record_of h.items ∙ sym h.counted) in omega (arith, z, positive))
-      | inr k ↦ record {
+        | inl e ↦ absurd (let z : 0 ≡ limit = ap length (sym e) ∙ (length_mapped x.record_of h.items ∙ sym h.counted) in omega (arith, z, positive))
+        | inr k ↦ record {
           items = h.items;
           stands = h.stands;
           done = k.0;

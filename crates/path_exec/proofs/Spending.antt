@@ -64,14 +64,14 @@ module _ (at : List Decision → ℕ) where
   pub more_work : (done : List RecordTree) (x : RecordTree) → work_by at done ≤ work_by at (done ++ x ∷ [])
   more_work done x =
       elim (last_of done) [
-        inl q ↦ 
-          let none : work_by at done ≡ 0 = ap (work_by at) q in
-          omega (arith, none)
-      | inr q ↦
-          let w = work_snoc q.0 q.1 x in
-          let d : work_by at (done ++ x ∷ []) ≡ work_by at ((q.0 ++ q.1 ∷ []) ++ x ∷ []) = ap (λ xs. work_by at (xs ++ x ∷ [])) q.2 in
-          let f : work_by at done ≡ work_by at (q.0 ++ q.1 ∷ []) = ap (work_by at) q.2 in
-          omega (arith, w, d, f)
+        | inl q ↦
+            let none : work_by at done ≡ 0 = ap (work_by at) q in
+            omega (arith, none)
+        | inr q ↦
+            let w = work_snoc q.0 q.1 x in
+            let d : work_by at (done ++ x ∷ []) ≡ work_by at ((q.0 ++ q.1 ∷ []) ++ x ∷ []) = ap (λ xs. work_by at (xs ++ x ∷ [])) q.2 in
+            let f : work_by at done ≡ work_by at (q.0 ++ q.1 ∷ []) = ap (work_by at) q.2 in
+            omega (arith, w, d, f)
       ]
 
   pub paid_first : Paid at [] [] 0 0
@@ -95,17 +95,17 @@ module _ (at : List Decision → ℕ) where
       → decisions_of x ≡ next → steps + before ≡ count_of at x → Paid at done next before raised → raised + steps ≤ work_by at (done ++ x ∷ [])
   paid_made done next before steps raised x apart same e h =
       elim (last_of done) [
-        inl q ↦ 
-          let k = h.none_done q in
-          let w : work_by at (done ++ x ∷ []) ≡ work_by at (x ∷ []) = ap (λ xs. work_by at (xs ++ x ∷ [])) q in
-          omega (arith, e, k, w)
-      | inr q ↦
-          let k = h.some_done q.0 q.1 q.2 in
-          let c : at (common (decisions_of q.1) (decisions_of x)) ≡ at (common (decisions_of q.1) next) = ap (λ zs. at (common (decisions_of q.1) zs)) same in
-          let w = work_snoc q.0 q.1 x in
-          let d : work_by at (done ++ x ∷ []) ≡ work_by at ((q.0 ++ q.1 ∷ []) ++ x ∷ []) = ap (λ xs. work_by at (xs ++ x ∷ [])) q.2 in
-          let f : work_by at done ≡ work_by at (q.0 ++ q.1 ∷ []) = ap (work_by at) q.2 in
-          omega (arith, e, k, c, w, d, f)
+        | inl q ↦
+            let k = h.none_done q in
+            let w : work_by at (done ++ x ∷ []) ≡ work_by at (x ∷ []) = ap (λ xs. work_by at (xs ++ x ∷ [])) q in
+            omega (arith, e, k, w)
+        | inr q ↦
+            let k = h.some_done q.0 q.1 q.2 in
+            let c : at (common (decisions_of q.1) (decisions_of x)) ≡ at (common (decisions_of q.1) next) = ap (λ zs. at (common (decisions_of q.1) zs)) same in
+            let w = work_snoc q.0 q.1 x in
+            let d : work_by at (done ++ x ∷ []) ≡ work_by at ((q.0 ++ q.1 ∷ []) ++ x ∷ []) = ap (λ xs. work_by at (xs ++ x ∷ [])) q.2 in
+            let f : work_by at done ≡ work_by at (q.0 ++ q.1 ∷ []) = ap (work_by at) q.2 in
+            omega (arith, e, k, c, w, d, f)
       ]
 
   -- so it is before the next task, where no more had begun anywhere on the way to it than before it

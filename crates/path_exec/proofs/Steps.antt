@@ -118,11 +118,11 @@ module _ {P O N D T : Type 0} (x : Views P O N D T) (below : StepsStand x.start)
       → Keeps x now works new (Some made) before after
   keeps_made task works new made y before after raised counted is tried same e step now tasks kept =
       let paid : (limit : ℕ) (done : List RecordTree) (count : ℕ) → Holds x.start limit done (now ++ all_tasks x works) count
-          → IsPaidFor x.start exact limit done (x.record_of made) (all_tasks x new) (count + raised) =
+      → IsPaidFor x.start exact limit done (x.record_of made) (all_tasks x new) (count + raised) =
       λ limit done count h.
-          let k = subst (λ ts. Holds x.start limit done ts count) tasks h in
-          subst (λ (z : RecordTree). IsPaidFor x.start exact limit done z (all_tasks x new) (count + raised)) (sym is.is)
-          (holds_made x.start exact limit done task (all_tasks x new) y count raised k (step limit done k.stands) same e) in
+      let k = subst (λ ts. Holds x.start limit done ts count) tasks h in
+      subst (λ (z : RecordTree). IsPaidFor x.start exact limit done z (all_tasks x new) (count + raised)) (sym is.is)
+      (holds_made x.start exact limit done task (all_tasks x new) y count raised k (step limit done k.stands) same e) in
       record {
         raised = raised;
         counted = counted;
@@ -289,11 +289,11 @@ module _ {P O N D T : Type 0} (x : Views P O N D T) (below : StepsStand x.start)
       let first = ((next_of x w h).spot, known_behind w.offer (x.verdict_of w.finding.value)) in
       let tasks = split_tasks x w old mid h put in
       let moved : (limit : ℕ) (done : List RecordTree) (count : ℕ) → Holds x.start limit done (tasks_of x w ++ all_tasks x old) count
-          → Holds x.start limit done ((behind_last x.start (x.place_at place), decided verdict) ∷ all_tasks x mid) count =
+      → Holds x.start limit done ((behind_last x.start (x.place_at place), decided verdict) ∷ all_tasks x mid) count =
       λ limit done count st.
-          let there = subst (λ (ts : List Task). Holds x.start limit done ts count) tasks st in
-          subst (λ (a : Spot). Holds x.start limit done ((a, decided verdict) ∷ all_tasks x mid) count) (sym e)
-          (holds_decided x.start exact limit done first ((next_of x w h).spot, decided verdict) (all_tasks x mid) count refl there (decide limit done (all_tasks x mid) there.stands)) in
+      let there = subst (λ (ts : List Task). Holds x.start limit done ts count) tasks st in
+      subst (λ (a : Spot). Holds x.start limit done ((a, decided verdict) ∷ all_tasks x mid) count) (sym e)
+      (holds_decided x.start exact limit done first ((next_of x w h).spot, decided verdict) (all_tasks x mid) count refl there (decide limit done (all_tasks x mid) there.stands)) in
       record {
         raised = k.raised;
         counted = k.counted;
@@ -356,11 +356,11 @@ module _ {P O N D T : Type 0} (x : Views P O N D T) (below : StepsStand x.start)
       → Keeps x ((behind_last x.start (x.place_at place), decided verdict) ∷ []) old new made before after → Keeps x ((first_spot x.start, to_decide None) ∷ []) old new made before after
   keeps_begun place verdict old new made before after e typed is k =
       let moved : (limit : ℕ) (done : List RecordTree) (count : ℕ) → Holds x.start limit done ((first_spot x.start, to_decide None) ∷ all_tasks x old) count
-          → Holds x.start limit done ((behind_last x.start (x.place_at place), decided verdict) ∷ all_tasks x old) count =
+      → Holds x.start limit done ((behind_last x.start (x.place_at place), decided verdict) ∷ all_tasks x old) count =
       λ limit done count st.
-          subst (λ (a : Spot). Holds x.start limit done ((a, decided verdict) ∷ all_tasks x old) count) (sym e)
-          (holds_decided x.start exact limit done (first_spot x.start, to_decide None) (first_spot x.start, decided verdict) (all_tasks x old) count refl st
-          (below.decides limit done (first_spot x.start) None verdict (all_tasks x old) typed is st.stands)) in
+      subst (λ (a : Spot). Holds x.start limit done ((a, decided verdict) ∷ all_tasks x old) count) (sym e)
+      (holds_decided x.start exact limit done (first_spot x.start, to_decide None) (first_spot x.start, decided verdict) (all_tasks x old) count refl st
+      (below.decides limit done (first_spot x.start) None verdict (all_tasks x old) typed is st.stands)) in
       record {
         raised = k.raised;
         counted = k.counted;

@@ -151,9 +151,11 @@ module _ {P O N D T : Type 0} (x : Views P O N D T) where
 
   -- the next decision is offered
   pub offered_next : (w : Work N D) → IsWork x w → (d : Decision) → d ≡ offer_at w.offer w.taken → IsOffered (x.node_at w.node) d
-  offered_next w h d e =
-      (begun_at x.start.tree (x.node_at w.node).decisions, (next_of w h).spot,
-      subst (λ (c : Decision). next_spot (waiting_at x.start (x.node_at w.node)) c ≡ Some (next_of w h).spot) (sym e) (next_of w h).next)
+  offered_next w h d e = (
+    begun_at x.start.tree (x.node_at w.node).decisions,
+    (next_of w h).spot,
+    subst (λ (c : Decision). next_spot (waiting_at x.start (x.node_at w.node)) c ≡ Some (next_of w h).spot) (sym e) (next_of w h).next,
+  )
 
   -- what holds wherever the decision leads
   pub there_next : (w : Work N D) (h : IsWork x w) (d : Decision) (Holds : ℕ → Spot → Type 0) → d ≡ offer_at w.offer w.taken

@@ -11,9 +11,7 @@ ghost use Rattle.path_exec.specs.Ending.{BegunAs, Explored, LeftAs, RanAs};
 use crate::engine::{Engine, Tried};
 use crate::opening::{Work, go_on, offer_at, put_back, take_next};
 use crate::receiver::{Receiver, Took};
-use exact_records::laws::{
-    records_that_stand_are_exact, steps_keep_what_stands, verdicts_stay,
-};
+use exact_records::laws::{records_that_stand_are_exact, steps_keep_what_stands, verdicts_stay};
 use sn_width::{NoMemory, Steps};
 use std::alloc::Global;
 use std::rc::Rc;

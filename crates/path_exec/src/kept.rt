@@ -24,11 +24,11 @@ impl<T: Drop> Receiver for Kept<T> {
     ghost use Rattle.std.specs.Prelude.{◌≡◌};
 
     ghost seen = { λ kept. record {
-        StandsFor = λ items. kept.items.items ≡ items;
-        StoppedIn = λ items. kept.items.items ≡ items;
-        stops = 0;
-        target = 0;
-        Takes = λ item. Unit {0};
+      StandsFor = λ items. kept.items.items ≡ items;
+      StoppedIn = λ items. kept.items.items ≡ items;
+      stops = 0;
+      target = 0;
+      Takes = λ item. Unit {0};
     } };
 
     fn take(&mut self, item: T) -> Took {

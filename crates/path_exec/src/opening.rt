@@ -11,9 +11,7 @@ ghost use Rattle.path_exec.specs.Keeping.{Keeps};
 
 use crate::engine::{Engine, Next, Offer, Tried};
 use crate::running::advance;
-use exact_records::laws::{
-    records_that_stand_are_exact, steps_keep_what_stands, verdicts_stay,
-};
+use exact_records::laws::{records_that_stand_are_exact, steps_keep_what_stands, verdicts_stay};
 use sefl_meaning::Decision;
 use sn_width::{NoMemory, Steps};
 use std::alloc::Global;

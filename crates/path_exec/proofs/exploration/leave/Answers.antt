@@ -35,7 +35,7 @@ loop-next-preserved g c =
       takes = takes_still x m n c.in-More.ensures.same c.loop-next.invariant.takes;
       same = same_then (seen c.args.out.now) m n c.loop-next.invariant.same c.in-More.ensures.same;
       leaves = λ before after h. leaves_next x below exact c.args.limit m n c.loop-next.works.items c.pop.new.self.items c.put_back.new.works.items c.in-Some.next popped works.0 c.in_ok-put_back.ensures
-        before after c.in_ok-record.record c.in_ok-record.ensures c.in-More.ensures.took (c.loop-next.invariant.leaves before after h);
+          before after c.in_ok-record.record c.in_ok-record.ensures c.in-More.ensures.took (c.loop-next.invariant.leaves before after h);
     }
 
 pub loop-next-smaller : goal.loop-next-smaller

@@ -53,8 +53,8 @@ loop-count-preserved-in_default-2 g c =
       takes = c.loop-count.invariant.takes;
       same = c.loop-count.invariant.same;
       runs = λ before h. runs_on x exact c.args.limit c.loop-count.count m (tasks_of x c.in-Some.next) c.pop.new.self.items c.take_next-record.new.works.items _ before c.loop-count.steps
-        c.take_next-record.new.steps c.in_default-2.is c.loop-count-test.true
-        (runs_popped x c.args.limit c.loop-count.count m c.loop-count.works.items c.pop.new.self.items c.in-Some.next before c.loop-count.steps popped (c.loop-count.invariant.runs before h)) keeps;
+          c.take_next-record.new.steps c.in_default-2.is c.loop-count-test.true
+          (runs_popped x c.args.limit c.loop-count.count m c.loop-count.works.items c.pop.new.self.items c.in-Some.next before c.loop-count.steps popped (c.loop-count.invariant.runs before h)) keeps;
     }
 
 pub loop-count-preserved-in-More : goal.loop-count-preserved-in-More
@@ -73,9 +73,9 @@ loop-count-preserved-in-More g c =
       takes = takes_still x m n c.in-More.ensures.same c.loop-count.invariant.takes;
       same = same_then (seen c.args.out.now) m n c.loop-count.invariant.same c.in-More.ensures.same;
       runs = λ before h. runs_made x exact c.args.limit c.loop-count.count _ m n (tasks_of x c.in-Some.next) c.pop.new.self.items c.take_next-record.new.works.items _ c.in-Some-2.record before
-        c.loop-count.steps c.take_next-record.new.steps c.in-Some-2.is c.loop-count-test.true
-        (runs_popped x c.args.limit c.loop-count.count m c.loop-count.works.items c.pop.new.self.items c.in-Some.next before c.loop-count.steps popped (c.loop-count.invariant.runs before h)) keeps
-        c.in-More.ensures.took refl;
+          c.loop-count.steps c.take_next-record.new.steps c.in-Some-2.is c.loop-count-test.true
+          (runs_popped x c.args.limit c.loop-count.count m c.loop-count.works.items c.pop.new.self.items c.in-Some.next before c.loop-count.steps popped (c.loop-count.invariant.runs before h)) keeps
+          c.in-More.ensures.took refl;
     }
 
 pub returns-in-Stop-clause-ran : goal.returns-in-Stop-clause-ran

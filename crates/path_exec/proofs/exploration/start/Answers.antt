@@ -27,7 +27,7 @@ returns-in_default-clause-begun g c =
     let h = begun_runs x below c.args.limit m c.args.works.now.items c.args.steps.now c.requires.some c.requires.empty c.requires.stands in (
       omega arith,
       runs_on x exact c.args.limit 0 m ((first_spot x.start, to_decide None) ∷ []) c.args.works.now.items c.begin-record.new.works.items _ c.args.steps.now c.args.steps.now c.begin-record.new.steps
-        c.in_default.is c.requires.some h c.in_ok-record.ensures,
+          c.in_default.is c.requires.some h c.in_ok-record.ensures,
       c.in_ok-record.ensures.works (begun_works x c.args.works.now.items c.requires.empty),
     )
 
@@ -41,7 +41,7 @@ returns-in-More-clause-begun g c =
     let h = begun_runs x below c.args.limit m c.args.works.now.items c.args.steps.now c.requires.some c.requires.empty c.requires.stands in (
       let s = c.requires.some in omega (arith, s),
       runs_made x exact c.args.limit 0 1 m n ((first_spot x.start, to_decide None) ∷ []) c.args.works.now.items c.begin-record.new.works.items _ c.in-Some.record c.args.steps.now c.args.steps.now
-        c.begin-record.new.steps c.in-Some.is c.requires.some h c.in_ok-record.ensures c.in-More.ensures.took refl,
+          c.begin-record.new.steps c.in-Some.is c.requires.some h c.in_ok-record.ensures c.in-More.ensures.took refl,
       c.in_ok-record.ensures.works (begun_works x c.args.works.now.items c.requires.empty),
     )
 
