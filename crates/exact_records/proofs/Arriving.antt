@@ -1,5 +1,5 @@
 -- Where an exploration stands: routes behind it, and where it waits.
-use Rattle.std.proofs.Common.{◌≡◌, ℕ, zero, suc, Bool, true, false, List, [], ◌∷◌, ◌++◌, map, refl, sym, ap, subst, ◌∙◌, append_assoc, Option, Some, None, option_map, if◌then◌else◌}
+use Rattle.std.proofs.Common.{◌≡◌, ℕ, zero, suc, Bool, true, false, List, [], ◌∷◌, ◌++◌, refl, sym, ap, subst, ◌∙◌, append_assoc, Option, Some, None, option_map, if◌then◌else◌}
 use Rattle.lin_term.specs.Terms.{LinearTerm}
 use Rattle.path_formula.specs.Formulas.{FormulaTree}
 use Rattle.sefl_meaning.specs.declared.walk.Decision.{Decision}

@@ -1,7 +1,6 @@
 -- The order of decisions, and lists of them that begin with others.
-use Rattle.std.proofs.Common.{◌≡◌, ℕ, suc, ◌<◌, ◌≤◌, ◌⊎◌, inl, inr, true, false, List, [], ◌∷◌, ◌++◌, refl, sym, ap, subst, ◌∙◌, append_assoc, arith}
+use Rattle.std.proofs.Common.{◌≡◌, ◌<◌, inl, inr, true, false, List, [], ◌∷◌, ◌++◌, refl, sym, ap, subst, ◌∙◌, append_assoc, arith}
 use Rattle.sefl_meaning.specs.declared.walk.Decision.{Decision}
-use Rattle.sefl_meaning.specs.declared.walk.Decision.TheVariants.{Then, Else, Pass, Broken, Copy}
 use Rattle.sefl_meaning.specs.Courses.{Asking, at_if, at_constrain}
 use Rattle.sefl_meaning.specs.Taken.{decision_at}
 use Rattle.sefl_meaning.specs.Order.{BeginsWith, Parts, rank}

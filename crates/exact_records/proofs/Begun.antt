@@ -1,18 +1,17 @@
 -- Each decision that is offered along a record begins one.
-use Rattle.std.proofs.Common.{◌≡◌, ℕ, zero, suc, ◌+◌, ◌<◌, ◌≤◌, ◌⊎◌, inl, inr, Bool, true, false, List, [], ◌∷◌, ◌++◌, refl, sym, ap, subst, ◌∙◌, append_assoc, arith, Option, Some, None}
+use Rattle.std.proofs.Common.{◌≡◌, ℕ, zero, suc, ◌+◌, ◌≤◌, inl, inr, true, false, List, [], ◌∷◌, ◌++◌, sym, ap, subst, ◌∙◌, append_assoc, arith, Some, None}
 use Rattle.std.specs.List.{AllByRecursion}
 use Rattle.sefl_meaning.specs.declared.walk.Decision.{Decision}
 use Rattle.sefl_meaning.specs.declared.walk.Decision.TheVariants.{Copy}
-use Rattle.sefl_meaning.specs.Courses.{Asking, Progress}
 use Rattle.sefl_meaning.specs.Trees.{Tree, over, arrives, tests, splits, Copies, no_copies, copy_and}
 use Rattle.sefl_meaning.specs.Taken.{decision_at}
 use Rattle.sefl_meaning.specs.Routes.{EachSplits, HasCopy, Route, Splits, arriving, copy_route, route}
 use Rattle.exact_records.specs.Records.{RecordTree, decisions_of}
 use Rattle.exact_records.specs.Exact.{SomeOne}
 use Rattle.exact_records.specs.Shapes.{IsPathAt, IsNotRun, One, Side, Covers, CoverCopies, SideOf}
-use Rattle.exact_records.proofs.Lists.{some_first, some_later, some_either, some_weaker, some_with, some_not, cancel, same_first, same_rest, nothing_after, all_weaker}
+use Rattle.exact_records.proofs.Lists.{some_first, some_later, some_either, some_weaker, some_not, cancel, same_first, nothing_after}
 use Rattle.exact_records.proofs.Begins.{behind_one, begins_part, less_asked, less_not_same}
-use Rattle.exact_records.proofs.Ordered.{Behind, at_path, at_side, begins_same, side_of_behind, copies_behind, mapped_some, GoesTo, side_taken, copy_taken, number_apart}
+use Rattle.exact_records.proofs.Ordered.{Behind, at_path, at_side, begins_same, side_of_behind, copies_behind, mapped_some, side_taken, copy_taken, number_apart}
 
 -- the record has these decisions
 abbrev pub Is : List Decision → RecordTree → Type 0
@@ -54,8 +53,8 @@ not_longer : (P : RecordTree → Type 0) (ds q : List Decision) (c : Decision) (
     → ((x : RecordTree) → P x → decisions_of x ≡ ds) → One P rs → SomeOne (Is (ds ++ (q ++ c ∷ rest))) rs → ⊥
 not_longer P ds q c rest rs f h k =
     longer q (elim (subst (SomeOne (Is (ds ++ (q ++ c ∷ rest)))) h.is k) [
-      inl e ↦ nothing_after ds (q ++ c ∷ rest) (sym (f h.it h.has) ∙ e)
-    | inr bad ↦ absurd bad
+      | inl e ↦ nothing_after ds (q ++ c ∷ rest) (sym (f h.it h.has) ∙ e)
+      | inr bad ↦ absurd bad
     ])
   where
     longer : (xs : List Decision) → xs ++ c ∷ rest ≡ [] → ⊥
@@ -79,16 +78,16 @@ in_first : (ds : List Decision) (b c : Decision) (q : List Decision) (rs xs ys :
     → AllByRecursion (Behind (ds ++ c ∷ [])) ys → SomeOne (Is (ds ++ b ∷ q)) rs → SomeOne (Is (ds ++ b ∷ q)) xs
 in_first ds b c q rs xs ys is other h k =
     elim (some_either _ xs ys (subst (SomeOne (Is (ds ++ b ∷ q))) is k)) [
-      inl l ↦ l
-    | inr r ↦ absurd (some_not _ _ ys (λ x. not_other ds b c q x other) r h)
+      | inl l ↦ l
+      | inr r ↦ absurd (some_not _ _ ys (λ x. not_other ds b c q x other) r h)
     ]
 
 in_later : (ds : List Decision) (b c : Decision) (q : List Decision) (rs xs ys : List RecordTree) → rs ≡ xs ++ ys → (c ≡ b → ⊥)
     → AllByRecursion (Behind (ds ++ c ∷ [])) xs → SomeOne (Is (ds ++ b ∷ q)) rs → SomeOne (Is (ds ++ b ∷ q)) ys
 in_later ds b c q rs xs ys is other h k =
     elim (some_either _ xs ys (subst (SomeOne (Is (ds ++ b ∷ q))) is k)) [
-      inl l ↦ absurd (some_not _ _ xs (λ x. not_other ds b c q x other) l h)
-    | inr r ↦ r
+      | inl l ↦ absurd (some_not _ _ xs (λ x. not_other ds b c q x other) l h)
+      | inr r ↦ r
     ]
 
 module _ {V F : Type 0} where
@@ -104,27 +103,27 @@ module _ {V F : Type 0} where
         let c0 = decision_at asking true in
         let c1 = decision_at asking false in
         elim (side_taken asking p test held broken d [] r e) [
-          inl g ↦ subst (SomeOne (Behind (ds ++ d ∷ []))) (sym h.is) (some_first _ h.first h.later
-            (subst (λ z. SomeOne (Behind (ds ++ z ∷ [])) h.first) (sym g.taken) (side_of_some held (ds ++ c0 ∷ []) h.first s.0 h.firsts)))
-        | inr g ↦ subst (SomeOne (Behind (ds ++ d ∷ []))) (sym h.is) (some_later _ h.first h.later
-            (subst (λ z. SomeOne (Behind (ds ++ z ∷ [])) h.later) (sym g.taken) (side_of_some broken (ds ++ c1 ∷ []) h.later s.1 h.laters)))
+          | inl g ↦ subst (SomeOne (Behind (ds ++ d ∷ []))) (sym h.is) (some_first _ h.first h.later
+              (subst (λ z. SomeOne (Behind (ds ++ z ∷ [])) h.first) (sym g.taken) (side_of_some held (ds ++ c0 ∷ []) h.first s.0 h.firsts)))
+          | inr g ↦ subst (SomeOne (Behind (ds ++ d ∷ []))) (sym h.is) (some_later _ h.first h.later
+              (subst (λ z. SomeOne (Behind (ds ++ z ∷ [])) h.later) (sym g.taken) (side_of_some broken (ds ++ c1 ∷ []) h.later s.1 h.laters)))
         ]
     covers_begun (tests asking p test held broken) ds rs s h (b ∷ q) c d rest k r e =
         let c0 = decision_at asking true in
         let c1 = decision_at asking false in
         elim (side_taken asking p test held broken b (q ++ d ∷ []) r e) [
-          inl g ↦ 
-            let l = in_first ds b c1 (q ++ c ∷ rest) rs h.first h.later h.is (λ z. less_not_same c0 c1 (less_asked asking) (sym (z ∙ g.taken))) (side_of_behind broken (ds ++ c1 ∷ []) h.later h.laters) k in
-            subst (SomeOne (Behind (ds ++ (b ∷ q ++ d ∷ [])))) (sym h.is) (some_first _ h.first h.later
-            (subst (λ z. SomeOne (Behind z) h.first) (regroup ds b c0 (q ++ d ∷ []) g.taken)
-            (side_begun (ds ++ c0 ∷ []) q c d rest h.first _ (λ m a. covers_begun held (ds ++ c0 ∷ []) h.first s.0 m q c d rest a g.way g.found) h.firsts
-            (subst (λ z. SomeOne (Is z) h.first) (sym (regroup ds b c0 (q ++ c ∷ rest) g.taken)) l))))
-        | inr g ↦
-            let l = in_later ds b c0 (q ++ c ∷ rest) rs h.first h.later h.is (λ z. less_not_same c0 c1 (less_asked asking) (z ∙ g.taken)) (side_of_behind held (ds ++ c0 ∷ []) h.first h.firsts) k in
-            subst (SomeOne (Behind (ds ++ (b ∷ q ++ d ∷ [])))) (sym h.is) (some_later _ h.first h.later
-            (subst (λ z. SomeOne (Behind z) h.later) (regroup ds b c1 (q ++ d ∷ []) g.taken)
-            (side_begun (ds ++ c1 ∷ []) q c d rest h.later _ (λ m a. covers_begun broken (ds ++ c1 ∷ []) h.later s.1 m q c d rest a g.way g.found) h.laters
-            (subst (λ z. SomeOne (Is z) h.later) (sym (regroup ds b c1 (q ++ c ∷ rest) g.taken)) l))))
+          | inl g ↦
+              let l = in_first ds b c1 (q ++ c ∷ rest) rs h.first h.later h.is (λ z. less_not_same c0 c1 (less_asked asking) (sym (z ∙ g.taken))) (side_of_behind broken (ds ++ c1 ∷ []) h.later h.laters) k in
+              subst (SomeOne (Behind (ds ++ (b ∷ q ++ d ∷ [])))) (sym h.is) (some_first _ h.first h.later
+              (subst (λ z. SomeOne (Behind z) h.first) (regroup ds b c0 (q ++ d ∷ []) g.taken)
+              (side_begun (ds ++ c0 ∷ []) q c d rest h.first _ (λ m a. covers_begun held (ds ++ c0 ∷ []) h.first s.0 m q c d rest a g.way g.found) h.firsts
+              (subst (λ z. SomeOne (Is z) h.first) (sym (regroup ds b c0 (q ++ c ∷ rest) g.taken)) l))))
+          | inr g ↦
+              let l = in_later ds b c0 (q ++ c ∷ rest) rs h.first h.later h.is (λ z. less_not_same c0 c1 (less_asked asking) (z ∙ g.taken)) (side_of_behind held (ds ++ c0 ∷ []) h.first h.firsts) k in
+              subst (SomeOne (Behind (ds ++ (b ∷ q ++ d ∷ [])))) (sym h.is) (some_later _ h.first h.later
+              (subst (λ z. SomeOne (Behind z) h.later) (regroup ds b c1 (q ++ d ∷ []) g.taken)
+              (side_begun (ds ++ c1 ∷ []) q c d rest h.later _ (λ m a. covers_begun broken (ds ++ c1 ∷ []) h.later s.1 m q c d rest a g.way g.found) h.laters
+              (subst (λ z. SomeOne (Is z) h.later) (sym (regroup ds b c1 (q ++ c ∷ rest) g.taken)) l))))
         ]
     covers_begun (splits p branches) ds rs s h [] c d rest k r e =
         let g = copy_taken p branches d [] r e in
@@ -155,8 +154,8 @@ module _ {V F : Type 0} where
         let same : m ≡ first = omega (arith, is) in
         let taken : Copy m ≡ Copy first = ap (λ (z : ℕ). Copy z) same in
         let l : SomeOne (Is (ds ++ (Copy m ∷ q ++ c ∷ rest))) h.first = elim (some_either _ h.first h.later (subst (SomeOne (Is (ds ++ (Copy m ∷ q ++ c ∷ rest)))) h.is k)) [
-          inl a ↦ a
-        | inr a ↦ absurd (some_not _ _ h.later (λ x o (b : (i : ℕ) × (suc first ≤ i) × Behind (ds ++ Copy i ∷ []) x). not_other ds (Copy m) (Copy b.0) (q ++ c ∷ rest) x (λ z. number_apart b.0 m z (omega (arith, b.1, same))) o b.2) a (copies_behind branches (suc first) ds h.later h.laters))
+          | inl a ↦ a
+          | inr a ↦ absurd (some_not _ _ h.later (λ x o (b : (i : ℕ) × (suc first ≤ i) × Behind (ds ++ Copy i ∷ []) x). not_other ds (Copy m) (Copy b.0) (q ++ c ∷ rest) x (λ z. number_apart b.0 m z (omega (arith, b.1, same))) o b.2) a (copies_behind branches (suc first) ds h.later h.laters))
         ] in
         subst (SomeOne (Behind (ds ++ (Copy m ∷ q ++ d ∷ [])))) (sym h.is) (some_first _ h.first h.later
         (subst (λ z. SomeOne (Behind z) h.first) (regroup ds (Copy m) c0 (q ++ d ∷ []) taken)

@@ -1,5 +1,5 @@
 -- Records that are done, and work that is left.
-use Rattle.std.proofs.Common.{◌≡◌, ℕ, zero, suc, ◌+◌, ◌<◌, ◌≤◌, ◌⊎◌, inl, inr, Bool, true, false, List, [], ◌∷◌, ◌++◌, length, map, refl, sym, ap, subst, ◌∙◌, append_assoc, length-append, arith, Option, Some, None, option_map}
+use Rattle.std.proofs.Common.{◌≡◌, ℕ, suc, ◌<◌, ◌≤◌, ◌⊎◌, inl, inr, true, false, List, [], ◌∷◌, ◌++◌, length, map, refl, sym, ap, subst, ◌∙◌, append_assoc, None}
 use Rattle.std.specs.List.{AllByRecursion}
 use Rattle.lin_term.specs.Terms.{LinearTerm}
 use Rattle.path_formula.specs.Formulas.{FormulaTree}
@@ -15,10 +15,10 @@ use Rattle.exact_records.specs.Records.{RecordTree, SymStart, Takes, decisions_o
 use Rattle.exact_records.specs.Exact.{AreExact, AreExactUpTo, ExactlyOne, IsCutOff, IsGood, IsTried, IsUpTo, IsWhole, RecordsAscend, SomeOne}
 use Rattle.exact_records.specs.Shapes.{BeginsTried, Continues, CoverAll, CoverCopies, Covers, Joined, Piece, SideOf}
 use Rattle.exact_records.specs.Spots.{node_of}
-use Rattle.exact_records.proofs.Lists.{append_nil, all_first, all_later, all_weaker, one_of_first, some_first, some_later, some_either, some_weaker, same_first, same_rest, cancel, joined_empty}
+use Rattle.exact_records.proofs.Lists.{append_nil, all_first, all_weaker, one_of_first, some_first, some_later, some_either}
 use Rattle.exact_records.proofs.Begins.{parts_apart, parts_apart_back, parts_asym, parts_longer}
-use Rattle.exact_records.proofs.Ordered.{Behind, covers_ascend, side_of_ascends, side_of_behind, covers_once, side_once}
-use Rattle.exact_records.proofs.Begun.{Is, side_of_some, side_of_begun}
+use Rattle.exact_records.proofs.Ordered.{Behind, side_of_ascends, covers_once, side_once}
+use Rattle.exact_records.proofs.Begun.{side_of_some, side_of_begun}
 use Rattle.exact_records.proofs.Shown.{shown_once}
 
 first_tried : (xs ys : List RecordTree) → BeginsTried (xs ++ ys) → BeginsTried xs
@@ -182,8 +182,8 @@ module _ (facts : Facts) (s : SymStart) where
             (side_shown ((done ++ last ∷ []) ++ rest) h v ds t));
         begun = λ p c d more some opens within.
             elim (some_either _ (done ++ last ∷ []) rest (side_of_begun s.tree ((done ++ last ∷ []) ++ rest) spl h p c d more (some_first _ (done ++ last ∷ []) rest some) opens.0 opens.1)) [
-              inl k ↦ k
-            | inr k ↦ some_later _ done (last ∷ []) (inl (among last rest (p ++ d ∷ []) within k after))
+              | inl k ↦ k
+              | inr k ↦ some_later _ done (last ∷ []) (inl (among last rest (p ++ d ∷ []) within k after))
             ];
       }
 

@@ -13,9 +13,9 @@ use Rattle.exact_records.specs.Below.{Facts}
 use Rattle.exact_records.specs.Records.{RecordTree, SymStart, decisions_of}
 use Rattle.exact_records.specs.Exact.{AreExact, IsGood, IsTried, IsUnexplored, SomeOne}
 use Rattle.exact_records.specs.Shapes.{IsPathAt, IsNotRun, One, Side, Covers, CoverCopies, SideOf}
-use Rattle.exact_records.proofs.Lists.{append_nil, all_first, all_later, all_weaker, some_first, some_later, some_either, some_weaker, same_first, same_rest, cancel, nothing_after}
+use Rattle.exact_records.proofs.Lists.{append_nil, all_first, all_later, some_first, some_later, some_either, same_first, same_rest, cancel, nothing_after}
 use Rattle.exact_records.proofs.Begins.{behind_one, less_asked}
-use Rattle.exact_records.proofs.Ordered.{Behind, at_path, at_side, side_of_behind, copies_behind, mapped_some, GoesTo, side_taken, copy_taken, number_apart}
+use Rattle.exact_records.proofs.Ordered.{Behind, at_path, at_side, side_of_behind, copies_behind, mapped_some, side_taken, copy_taken, number_apart}
 use Rattle.exact_records.proofs.Begun.{Is, side_of_some}
 use Rattle.exact_records.proofs.Arriving.{IsSomeWay, always_way}
 use Rattle.exact_records.proofs.Continuing.{exact_by}
@@ -28,8 +28,8 @@ module _ {A : Type 0} where
   split_member (x ∷ xs) ys [] a left e = inr (xs, ap (λ z. z ∷ xs) (same_first e), sym (same_rest e))
   split_member (x ∷ xs) ys (p ∷ pre) a left e =
       elim (split_member xs ys pre a left (same_rest e)) [
-        inl h ↦ inl h
-      | inr h ↦ inr (h.0, (λ i. same_first e i ∷ h.1 i), h.2)
+        | inl h ↦ inl h
+        | inr h ↦ inr (h.0, (λ i. same_first e i ∷ h.1 i), h.2)
       ]
 
   all_at : (P : A → Type 0) (xs : List A) (a : A) (ys : List A) → AllByRecursion P (xs ++ a ∷ ys) → P a
@@ -135,19 +135,19 @@ cut_above : (O P : List Decision → Type 0) (ds : List Decision) (c : Decision)
 cut_above O P ds c rel left m later is f g behind cut after = record {
   only = λ x h.
       elim (some_either _ m later (subst (SomeOne (Is (ds ++ x))) is h)) [
-        inl k ↦
-          let z = some_both _ _ m k behind in
-          let q = behind_this ds c x z.0 z.1 z.2 in
-          let e : ds ++ x ≡ (ds ++ c ∷ []) ++ q.0 = ap (λ zs. ds ++ zs) q.1 ∙ sym (append_assoc ds (c ∷ []) q.0) in
-          subst (LeftBy O (c ∷ rel)) (sym q.1) (left_deeper O P c rel q.0 g (cut.only q.0 (subst (λ zs. SomeOne (Is zs) m) e k)))
-      | inr k ↦ left_here O c rel x (after.only x k)
+        | inl k ↦
+            let z = some_both _ _ m k behind in
+            let q = behind_this ds c x z.0 z.1 z.2 in
+            let e : ds ++ x ≡ (ds ++ c ∷ []) ++ q.0 = ap (λ zs. ds ++ zs) q.1 ∙ sym (append_assoc ds (c ∷ []) q.0) in
+            subst (LeftBy O (c ∷ rel)) (sym q.1) (left_deeper O P c rel q.0 g (cut.only q.0 (subst (λ zs. SomeOne (Is zs) m) e k)))
+        | inr k ↦ left_here O c rel x (after.only x k)
       ];
   all = λ x h.
       elim (left_next O P c rel x f h) [
-        inl k ↦
-          let e : (ds ++ c ∷ []) ++ k.0 ≡ ds ++ x = append_assoc ds (c ∷ []) k.0 ∙ ap (λ zs. ds ++ zs) (sym k.1) in
-          subst (SomeOne (Is (ds ++ x))) (sym is) (some_first _ m later (subst (λ zs. SomeOne (Is zs) m) e (cut.all k.0 k.2)))
-      | inr k ↦ subst (SomeOne (Is (ds ++ x))) (sym is) (some_later _ m later (after.all x k))
+        | inl k ↦
+            let e : (ds ++ c ∷ []) ++ k.0 ≡ ds ++ x = append_assoc ds (c ∷ []) k.0 ∙ ap (λ zs. ds ++ zs) (sym k.1) in
+            subst (SomeOne (Is (ds ++ x))) (sym is) (some_first _ m later (subst (λ zs. SomeOne (Is zs) m) e (cut.all k.0 k.2)))
+        | inr k ↦ subst (SomeOne (Is (ds ++ x))) (sym is) (some_later _ m later (after.all x k))
       ];
 }
 
@@ -163,8 +163,8 @@ untried_side ds (x ∷ rs) K some h (inr k) = absurd (k.0 h.0)
 one_is : (ds : List Decision) (rs : List RecordTree) → One (IsNotRun ds) rs → (x : List Decision) → SomeOne (Is x) rs → x ≡ ds
 one_is ds rs h x k =
     elim (subst (SomeOne (Is x)) h.is k) [
-      inl e ↦ sym e ∙ at_side ds h.it h.has
-    | inr bad ↦ absurd bad
+      | inl e ↦ sym e ∙ at_side ds h.it h.has
+      | inr bad ↦ absurd bad
     ]
 
 one_has : (ds : List Decision) (rs : List RecordTree) → One (IsNotRun ds) rs → SomeOne (Is ds) rs
@@ -188,8 +188,16 @@ cut_same : (O P : List Decision → Type 0) (ds rel : List Decision) (left : Lis
     → ((es : List Decision) → P es → O es) → CutBy P ds rel left → CutBy O ds rel left
 cut_same O P ds rel left f g cut = record {
   only = λ x h. let l = cut.only x h in record { parent = l.parent; taken = l.taken; rest = l.rest; other = l.other; along = l.along; is = l.is; offered = g x l.offered; later = l.later };
-  all = λ x h. cut.all x (record { parent = h.parent; taken = h.taken; rest = h.rest; other = h.other; along = h.along; is = h.is; later = h.later;
-    offered = subst P (sym h.is) (f h.parent h.other (subst O h.is h.offered)) });
+  all = λ x h. cut.all x (record {
+    parent = h.parent;
+    taken = h.taken;
+    rest = h.rest;
+    other = h.other;
+    along = h.along;
+    is = h.is;
+    later = h.later;
+    offered = subst P (sym h.is) (f h.parent h.other (subst O h.is h.offered));
+  });
 }
 
 module _ {V F : Type 0} where
@@ -220,16 +228,16 @@ module _ {V F : Type 0} where
       → IsOpen (tests asking p test held broken) (d ∷ []) → (truth ≡ true) × (d ≡ decision_at asking false)
   later_test asking p test held broken true d less h =
       elim (side_taken asking p test held broken d [] h.0 h.1) [
-        inl g ↦ absurd (same_not_less d (decision_at asking true) g.taken less)
-      | inr g ↦ (refl, g.taken)
+        | inl g ↦ absurd (same_not_less d (decision_at asking true) g.taken less)
+        | inr g ↦ (refl, g.taken)
       ]
     where
       same_not_less : (c b : Decision) → c ≡ b → rank b < rank c → ⊥
       same_not_less c b e l = let same : rank c ≡ rank b = ap rank e in omega (arith, same, l)
   later_test asking p test held broken false d less h =
       elim (side_taken asking p test held broken d [] h.0 h.1) [
-        inl g ↦ let same : rank d ≡ rank (decision_at asking true) = ap rank g.taken in absurd (omega (arith, same, less, less_asked asking))
-      | inr g ↦ let same : rank d ≡ rank (decision_at asking false) = ap rank g.taken in absurd (omega (arith, same, less))
+        | inl g ↦ let same : rank d ≡ rank (decision_at asking true) = ap rank g.taken in absurd (omega (arith, same, less, less_asked asking))
+        | inr g ↦ let same : rank d ≡ rank (decision_at asking false) = ap rank g.taken in absurd (omega (arith, same, less))
       ]
 
   -- those of copies, numbered from a number on
@@ -292,8 +300,16 @@ module _ {V F : Type 0} where
   later_left : (t : Tree V F) (branches : Copies V F) (first m : ℕ) (rel x : List Decision) → suc first ≤ m → LeftBy (OpensFrom (copy_and t branches) first) (Copy m ∷ rel) x
       → LeftBy (OpensFrom branches (suc first)) (Copy m ∷ rel) x
   later_left t branches first m rel x less h =
-      record { parent = h.parent; taken = h.taken; rest = h.rest; other = h.other; along = h.along; is = h.is; later = h.later;
-        offered = opens_later t branches first x h.offered (above h.parent h.taken h.rest h.other h.along (sym h.is ∙ h.offered.is) h.later) }
+      record {
+        parent = h.parent;
+        taken = h.taken;
+        rest = h.rest;
+        other = h.other;
+        along = h.along;
+        is = h.is;
+        later = h.later;
+        offered = opens_later t branches first x h.offered (above h.parent h.taken h.rest h.other h.along (sym h.is ∙ h.offered.is) h.later);
+      }
     where
       above : (zs : List Decision) (c : Decision) (cs : List Decision) (d : Decision) → Copy m ∷ rel ≡ zs ++ c ∷ cs → zs ++ d ∷ [] ≡ Copy h.offered.number ∷ h.offered.rest → rank c < rank d
           → first < h.offered.number
@@ -346,12 +362,12 @@ module _ {V F : Type 0} where
       let both = subst (AllByRecursion IsUnexplored) h.is un in
       let one = untried_side (ds ++ Copy first ∷ []) h.first _ (side_of_some t (ds ++ Copy first ∷ []) h.first s.0 h.firsts) (all_first _ h.first h.later both) h.firsts in
       elim (some_either _ h.first h.later (subst (SomeOne (Is (ds ++ x))) h.is k)) [
-        inl a ↦
-          let e : x ≡ Copy first ∷ [] = cancel ds x (Copy first ∷ []) (one_is (ds ++ Copy first ∷ []) h.first one (ds ++ x) a) in
-          (first, e, omega arith, subst (OpensFrom (copy_and t branches) first) (sym e) (first_opens t branches first [] (always_opens t)))
-      | inr a ↦
-          let q = copies_untried branches (suc first) ds h.later s.1 h.laters (all_later _ h.first h.later both) x a in
-          (q.0, q.1, omega (arith, q.2), later_opens t branches first x q.3)
+        | inl a ↦
+            let e : x ≡ Copy first ∷ [] = cancel ds x (Copy first ∷ []) (one_is (ds ++ Copy first ∷ []) h.first one (ds ++ x) a) in
+            (first, e, omega arith, subst (OpensFrom (copy_and t branches) first) (sym e) (first_opens t branches first [] (always_opens t)))
+        | inr a ↦
+            let q = copies_untried branches (suc first) ds h.later s.1 h.laters (all_later _ h.first h.later both) x a in
+            (q.0, q.1, omega (arith, q.2), later_opens t branches first x q.3)
       ]
 
   untried_copies : (branches : Copies V F) (first : ℕ) (ds : List Decision) (rs : List RecordTree) → EachSplits branches → CoverCopies branches first ds rs → AllByRecursion IsUnexplored rs
@@ -402,22 +418,22 @@ module _ {V F : Type 0} where
         let all0 = side_of_behind held (ds ++ c0 ∷ []) h.first h.firsts in
         let all1 = side_of_behind broken (ds ++ c1 ∷ []) h.later h.laters in
         elim (split_member h.first h.later pre last left (sym h.is ∙ is)) [
-          inl k ↦
-            let b = rest_behind ds c1 rel last e (all_at _ k.0 last left (subst (AllByRecursion (Behind (ds ++ c1 ∷ []))) k.1 all1)) in
-            let cut = side_cut (IsOpen broken) (ds ++ c1 ∷ []) h.later _ k.0 last left b.0 k.1 b.2
-            (λ m. covers_cut broken (ds ++ c1 ∷ []) h.later s.1 m k.0 last left b.0 k.1 b.2 un) h.laters in
-            subst (λ r. CutBy (IsOpen (tests asking p test held broken)) ds r left) (sym b.1)
-            (cut_above _ (IsOpen broken) ds c1 b.0 left left [] (sym (append_nil left)) (opens_broken asking p test held broken) (broken_opens asking p test held broken)
-            (after_last (Behind (ds ++ c1 ∷ [])) k.0 last left (subst (AllByRecursion (Behind (ds ++ c1 ∷ []))) k.1 all1)) cut (no_later_side asking p test held broken ds))
-        | inr k ↦
-            let b = rest_behind ds c0 rel last e (all_at _ pre last k.0 (subst (AllByRecursion (Behind (ds ++ c0 ∷ []))) k.1 all0)) in
-            let both = subst (AllByRecursion IsUnexplored) k.2 un in
-            let cut = side_cut (IsOpen held) (ds ++ c0 ∷ []) h.first _ pre last k.0 b.0 k.1 b.2
-            (λ m. covers_cut held (ds ++ c0 ∷ []) h.first s.0 m pre last k.0 b.0 k.1 b.2 (all_first _ k.0 h.later both)) h.firsts in
-            let one = untried_side (ds ++ c1 ∷ []) h.later _ (side_of_some broken (ds ++ c1 ∷ []) h.later s.1 h.laters) (all_later _ k.0 h.later both) h.laters in
-            subst (λ r. CutBy (IsOpen (tests asking p test held broken)) ds r left) (sym b.1)
-            (cut_above _ (IsOpen held) ds c0 b.0 left k.0 h.later k.2 (opens_held asking p test held broken) (held_opens asking p test held broken)
-            (after_last (Behind (ds ++ c0 ∷ [])) pre last k.0 (subst (AllByRecursion (Behind (ds ++ c0 ∷ []))) k.1 all0)) cut (later_side asking p test held broken ds h.later one))
+          | inl k ↦
+              let b = rest_behind ds c1 rel last e (all_at _ k.0 last left (subst (AllByRecursion (Behind (ds ++ c1 ∷ []))) k.1 all1)) in
+              let cut = side_cut (IsOpen broken) (ds ++ c1 ∷ []) h.later _ k.0 last left b.0 k.1 b.2
+              (λ m. covers_cut broken (ds ++ c1 ∷ []) h.later s.1 m k.0 last left b.0 k.1 b.2 un) h.laters in
+              subst (λ r. CutBy (IsOpen (tests asking p test held broken)) ds r left) (sym b.1)
+              (cut_above _ (IsOpen broken) ds c1 b.0 left left [] (sym (append_nil left)) (opens_broken asking p test held broken) (broken_opens asking p test held broken)
+              (after_last (Behind (ds ++ c1 ∷ [])) k.0 last left (subst (AllByRecursion (Behind (ds ++ c1 ∷ []))) k.1 all1)) cut (no_later_side asking p test held broken ds))
+          | inr k ↦
+              let b = rest_behind ds c0 rel last e (all_at _ pre last k.0 (subst (AllByRecursion (Behind (ds ++ c0 ∷ []))) k.1 all0)) in
+              let both = subst (AllByRecursion IsUnexplored) k.2 un in
+              let cut = side_cut (IsOpen held) (ds ++ c0 ∷ []) h.first _ pre last k.0 b.0 k.1 b.2
+              (λ m. covers_cut held (ds ++ c0 ∷ []) h.first s.0 m pre last k.0 b.0 k.1 b.2 (all_first _ k.0 h.later both)) h.firsts in
+              let one = untried_side (ds ++ c1 ∷ []) h.later _ (side_of_some broken (ds ++ c1 ∷ []) h.later s.1 h.laters) (all_later _ k.0 h.later both) h.laters in
+              subst (λ r. CutBy (IsOpen (tests asking p test held broken)) ds r left) (sym b.1)
+              (cut_above _ (IsOpen held) ds c0 b.0 left k.0 h.later k.2 (opens_held asking p test held broken) (held_opens asking p test held broken)
+              (after_last (Behind (ds ++ c0 ∷ [])) pre last k.0 (subst (AllByRecursion (Behind (ds ++ c0 ∷ []))) k.1 all0)) cut (later_side asking p test held broken ds h.later one))
         ]
     covers_cut (splits p branches) ds rs s h pre last left rel is e un =
         cut_same (IsOpen (splits p branches)) (OpensFrom branches 0) ds rel left (splits_offer p branches) (open_splits p branches) (copies_cut branches 0 ds rs s.1 h pre last left rel is e un)
@@ -431,21 +447,21 @@ module _ {V F : Type 0} where
         let all0 = side_of_behind t (ds ++ c0 ∷ []) h.first h.firsts in
         let all1 = copies_behind branches (suc first) ds h.later h.laters in
         elim (split_member h.first h.later pre last left (sym h.is ∙ is)) [
-          inl k ↦
-            let m : (m : ℕ) × (suc first ≤ m) × Behind (ds ++ Copy m ∷ []) last = all_at _ k.0 last left (subst (AllByRecursion (λ x. (m : ℕ) × (suc first ≤ m) × Behind (ds ++ Copy m ∷ []) x)) k.1 all1) in
-            let b = rest_behind ds (Copy m.0) rel last e m.2 in
-            let cut = copies_cut branches (suc first) ds h.later s.1 h.laters k.0 last left rel k.1 e un in
-            subst (λ r. CutBy (OpensFrom (copy_and t branches) first) ds r left) (sym b.1)
-            (cut_later t branches first m.0 ds b.0 left m.1 (subst (λ r. CutBy (OpensFrom branches (suc first)) ds r left) b.1 cut))
-        | inr k ↦
-            let b = rest_behind ds c0 rel last e (all_at _ pre last k.0 (subst (AllByRecursion (Behind (ds ++ c0 ∷ []))) k.1 all0)) in
-            let both = subst (AllByRecursion IsUnexplored) k.2 un in
-            let cut = side_cut (IsOpen t) (ds ++ c0 ∷ []) h.first _ pre last k.0 b.0 k.1 b.2
-            (λ m. covers_cut t (ds ++ c0 ∷ []) h.first s.0 m pre last k.0 b.0 k.1 b.2 (all_first _ k.0 h.later both)) h.firsts in
-            subst (λ r. CutBy (OpensFrom (copy_and t branches) first) ds r left) (sym b.1)
-            (cut_above _ (IsOpen t) ds c0 b.0 left k.0 h.later k.2 (opens_first t branches first) (first_opens t branches first)
-            (after_last (Behind (ds ++ c0 ∷ [])) pre last k.0 (subst (AllByRecursion (Behind (ds ++ c0 ∷ []))) k.1 all0)) cut
-            (later_copies t branches first ds h.later s.1 h.laters (all_later _ k.0 h.later both)))
+          | inl k ↦
+              let m : (m : ℕ) × (suc first ≤ m) × Behind (ds ++ Copy m ∷ []) last = all_at _ k.0 last left (subst (AllByRecursion (λ x. (m : ℕ) × (suc first ≤ m) × Behind (ds ++ Copy m ∷ []) x)) k.1 all1) in
+              let b = rest_behind ds (Copy m.0) rel last e m.2 in
+              let cut = copies_cut branches (suc first) ds h.later s.1 h.laters k.0 last left rel k.1 e un in
+              subst (λ r. CutBy (OpensFrom (copy_and t branches) first) ds r left) (sym b.1)
+              (cut_later t branches first m.0 ds b.0 left m.1 (subst (λ r. CutBy (OpensFrom branches (suc first)) ds r left) b.1 cut))
+          | inr k ↦
+              let b = rest_behind ds c0 rel last e (all_at _ pre last k.0 (subst (AllByRecursion (Behind (ds ++ c0 ∷ []))) k.1 all0)) in
+              let both = subst (AllByRecursion IsUnexplored) k.2 un in
+              let cut = side_cut (IsOpen t) (ds ++ c0 ∷ []) h.first _ pre last k.0 b.0 k.1 b.2
+              (λ m. covers_cut t (ds ++ c0 ∷ []) h.first s.0 m pre last k.0 b.0 k.1 b.2 (all_first _ k.0 h.later both)) h.firsts in
+              subst (λ r. CutBy (OpensFrom (copy_and t branches) first) ds r left) (sym b.1)
+              (cut_above _ (IsOpen t) ds c0 b.0 left k.0 h.later k.2 (opens_first t branches first) (first_opens t branches first)
+              (after_last (Behind (ds ++ c0 ∷ [])) pre last k.0 (subst (AllByRecursion (Behind (ds ++ c0 ∷ []))) k.1 all0)) cut
+              (later_copies t branches first ds h.later s.1 h.laters (all_later _ k.0 h.later both)))
         ]
 
 module _ (facts : Facts) (s : SymStart) where

@@ -1,5 +1,5 @@
 -- Records that stand are exact so far, and exact where nothing is left.
-use Rattle.std.proofs.Common.{◌≡◌, ℕ, ◌≤◌, ◌⊎◌, inl, inr, List, [], ◌∷◌, ◌++◌, length, refl, sym, subst}
+use Rattle.std.proofs.Common.{◌≡◌, ℕ, ◌≤◌, inl, inr, List, [], ◌∷◌, ◌++◌, length, refl, subst}
 use Rattle.std.specs.List.{AllByRecursion}
 use Rattle.sefl_meaning.specs.Order.{Parts}
 use Rattle.sefl_meaning.specs.Routes.{Splits}
@@ -20,8 +20,8 @@ module _ (facts : Facts) (s : SymStart) (copies : Splits s.tree) where
   so_far : (limit : ℕ) (done : List RecordTree) (tasks : List Task) → Stands s limit done tasks → AreExactSoFar s done
   so_far limit done tasks h = record {
     is = elim (last_of done) [
-      inl e ↦ inl e
-    | inr k ↦ inr (k.0, k.1, k.2, up_to limit k.0 k.1 tasks (subst (λ rs. Stands s limit rs tasks) k.2 h))
+      | inl e ↦ inl e
+      | inr k ↦ inr (k.0, k.1, k.2, up_to limit k.0 k.1 tasks (subst (λ rs. Stands s limit rs tasks) k.2 h))
     ];
   }
 

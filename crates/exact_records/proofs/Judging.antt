@@ -1,9 +1,9 @@
 -- Verdicts on conditions: what they say, and that they stay where symbols come that no formula has.
-use Rattle.std.proofs.Common.{◌≡◌, ℕ, zero, suc, ◌+◌, ◌-◌, Bool, true, false, List, [], ◌∷◌, ◌++◌, length, map, refl, sym, ap, subst, ◌∙◌, append_assoc, length-append, arith, Option, Some, None}
+use Rattle.std.proofs.Common.{◌≡◌, ℕ, suc, ◌-◌, List, [], ◌∷◌, ◌++◌, length, refl, sym, ap, subst, ◌∙◌, append_assoc, length-append, arith, Some}
 use Rattle.std.specs.Prelude.{replicate}
 use Rattle.path_formula.specs.Typed.{AreValues}
 use Rattle.path_cond.specs.Seen.{AllTyped, itself}
-use Rattle.refutation_check.specs.Longer.{condition_of, with_widths, with_zeros, zeros}
+use Rattle.refutation_check.specs.Longer.{condition_of, with_widths, zeros}
 use Rattle.refutation_check.specs.Seen.{IsMetBy, IsRefuted, IsUndecidedBy}
 use Rattle.refutation_check.specs.declared.outcome.Cause.{Cause}
 use Rattle.refutation_check.specs.declared.outcome.Cause.TheVariants.{Outside, Cases, Coupled}
@@ -12,7 +12,7 @@ use Rattle.refutation_check.specs.declared.outcome.Verdict.TheVariants.{Sat, Und
 use Rattle.sefl_meaning.specs.Injected.{FitWidths}
 use Rattle.exact_records.specs.Below.{Facts}
 use Rattle.exact_records.specs.Records.{IsVerdictOn, MayPrecede, Satisfy, SymCondition, SymStart, injection_tests}
-use Rattle.exact_records.specs.Spots.{Arrives, IsBefore, IsBehindTest, IsKnown, Spot, condition_at, filled, filled_cause, filled_verdict}
+use Rattle.exact_records.specs.Spots.{Arrives, IsBefore, IsKnown, Spot, condition_at, filled, filled_cause, filled_verdict}
 use Rattle.exact_records.proofs.Lists.{append_nil}
 
 -- values that fit the front of the widths

@@ -1,5 +1,5 @@
 -- Lists: all members, exactly one, some.
-use Rattle.std.proofs.Common.{◌≡◌, ◌⊎◌, inl, inr, Bool, true, false, ◌&&◌, List, [], ◌∷◌, ◌++◌, map, refl, sym, ap, subst, ◌∙◌}
+use Rattle.std.proofs.Common.{◌≡◌, ◌⊎◌, inl, inr, Bool, true, false, ◌&&◌, List, [], ◌∷◌, ◌++◌, map, refl, sym, ap}
 use Rattle.std.specs.List.{AllByRecursion, list_all}
 use Rattle.exact_records.specs.Exact.{ExactlyOne, SomeOne}
 
@@ -102,8 +102,8 @@ module _ {A : Type 0} where
   last_of [] = inl refl
   last_of (x ∷ xs) =
       elim (last_of xs) [
-        inl e ↦ inr ([], x, ap (λ zs. x ∷ zs) e)
-      | inr h ↦ inr (x ∷ h.0, h.1, ap (λ zs. x ∷ zs) h.2)
+        | inl e ↦ inr ([], x, ap (λ zs. x ∷ zs) e)
+        | inr h ↦ inr (x ∷ h.0, h.1, ap (λ zs. x ∷ zs) h.2)
       ]
 
   not_empty : (xs : List A) (x : A) → xs ++ x ∷ [] ≡ [] → ⊥
@@ -128,8 +128,8 @@ module _ {A : Type 0} where
   split_last (b ∷ ds) c d [] rest e = inr (ds, ap (λ z. z ∷ ds) (same_first e))
   split_last (b ∷ ds) c d (x ∷ p) rest e =
       elim (split_last ds c d p rest (same_rest e)) [
-        inl h ↦ inl ((λ i. same_first (sym e) i ∷ h.0 i), h.1, h.2)
-      | inr h ↦ inr (h.0, (λ i. same_first e i ∷ h.1 i))
+        | inl h ↦ inl ((λ i. same_first (sym e) i ∷ h.0 i), h.1, h.2)
+        | inr h ↦ inr (h.0, (λ i. same_first e i ∷ h.1 i))
       ]
 
 -- ---- tests that all members pass

@@ -12,8 +12,8 @@ use Rattle.sefl_meaning.specs.Order.{BeginsWith, Parts, rank}
 use Rattle.exact_records.specs.Records.{RecordTree, path, pruned, unexplored, decisions_of}
 use Rattle.exact_records.specs.Exact.{ExactlyOne, RecordsAscend}
 use Rattle.exact_records.specs.Shapes.{IsPathAt, IsNotRun, One, Joined, Side, Covers, CoverCopies, SideOf}
-use Rattle.exact_records.proofs.Lists.{append_nil, all_append, all_weaker, one_before, one_after, some_first, some_later, some_either, some_weaker, some_with, cancel, same_first, same_rest, nothing_after}
-use Rattle.exact_records.proofs.Begins.{behind_one, begins_part, parts_of, same_decision, less_asked, less_not_same}
+use Rattle.exact_records.proofs.Lists.{append_nil, all_append, all_weaker, one_before, one_after}
+use Rattle.exact_records.proofs.Begins.{begins_part, parts_of, same_decision, less_asked, less_not_same}
 
 -- the record's decisions begin with these
 abbrev pub Behind : List Decision → RecordTree → Type 0
@@ -243,12 +243,12 @@ module _ {V F : Type 0} where
         let c0 = decision_at asking true in
         let c1 = decision_at asking false in
         elim (side_taken asking p test held broken d es r e) [
-          inl g ↦ once_first ds c0 d es rs h.first h.later h.is g.taken
-            (side_once (ds ++ c0 ∷ []) es h.first _ (λ m. covers_once held (ds ++ c0 ∷ []) h.first m es g.way q end' g.found (ap (λ (x : Route V F). x.left) (sym g.is) ∙ k)) h.firsts)
-            (none_begins ds c1 d es h.later (λ s. less_not_same c0 c1 (less_asked asking) (sym (s ∙ g.taken))) (side_of_behind broken (ds ++ c1 ∷ []) h.later h.laters))
-        | inr g ↦ once_later ds c1 d es rs h.first h.later h.is g.taken
-            (none_begins ds c0 d es h.first (λ s. less_not_same c0 c1 (less_asked asking) (s ∙ g.taken)) (side_of_behind held (ds ++ c0 ∷ []) h.first h.firsts))
-            (side_once (ds ++ c1 ∷ []) es h.later _ (λ m. covers_once broken (ds ++ c1 ∷ []) h.later m es g.way q end' g.found (ap (λ (x : Route V F). x.left) (sym g.is) ∙ k)) h.laters)
+          | inl g ↦ once_first ds c0 d es rs h.first h.later h.is g.taken
+              (side_once (ds ++ c0 ∷ []) es h.first _ (λ m. covers_once held (ds ++ c0 ∷ []) h.first m es g.way q end' g.found (ap (λ (x : Route V F). x.left) (sym g.is) ∙ k)) h.firsts)
+              (none_begins ds c1 d es h.later (λ s. less_not_same c0 c1 (less_asked asking) (sym (s ∙ g.taken))) (side_of_behind broken (ds ++ c1 ∷ []) h.later h.laters))
+          | inr g ↦ once_later ds c1 d es rs h.first h.later h.is g.taken
+              (none_begins ds c0 d es h.first (λ s. less_not_same c0 c1 (less_asked asking) (s ∙ g.taken)) (side_of_behind held (ds ++ c0 ∷ []) h.first h.firsts))
+              (side_once (ds ++ c1 ∷ []) es h.later _ (λ m. covers_once broken (ds ++ c1 ∷ []) h.later m es g.way q end' g.found (ap (λ (x : Route V F). x.left) (sym g.is) ∙ k)) h.laters)
         ]
     covers_once (splits p branches) ds rs h [] r q end' e k = absurd (splits_not_over p q branches end' r e k)
     covers_once (splits p branches) ds rs h (d ∷ es) r q end' e k =
@@ -265,8 +265,8 @@ module _ {V F : Type 0} where
         once_first ds c (Copy m) es rs h.first h.later h.is (ap (λ (i : ℕ). Copy i) same)
         (side_once (ds ++ c ∷ []) es h.first _ (λ b. covers_once t (ds ++ c ∷ []) h.first b es r q end' e k) h.firsts)
         (all_weaker _ _ h.later
-          (λ x (b : (i : ℕ) × (suc first ≤ i) × Behind (ds ++ Copy i ∷ []) x) o. number_apart b.0 m (same_decision ds (Copy b.0) (Copy m) es (decisions_of x) b.2 o) (omega (arith, b.1, same)))
-          (copies_behind branches (suc first) ds h.later h.laters))
+        (λ x (b : (i : ℕ) × (suc first ≤ i) × Behind (ds ++ Copy i ∷ []) x) o. number_apart b.0 m (same_decision ds (Copy b.0) (Copy m) es (decisions_of x) b.2 o) (omega (arith, b.1, same)))
+        (copies_behind branches (suc first) ds h.later h.laters))
     copies_once (copy_and t branches) first ds rs h (suc n) m is es r q end' e k =
         let c = Copy first in
         subst (ExactlyOne (Begins (ds ++ Copy m ∷ es))) (sym h.is) (one_after _ h.first h.later

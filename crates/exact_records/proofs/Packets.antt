@@ -1,6 +1,5 @@
 -- Packets take the routes of what is explored, and records show their walks.
-use Rattle.std.proofs.Common.{◌≡◌, ℕ, ◌⊎◌, inl, inr, Bool, true, false, not, ◌&&◌, List, [], ◌∷◌, ◌++◌, map, reverse, refl, sym, ap, subst, ◌∙◌, Option, Some, None, option_map, Result, Ok, Err}
-use Rattle.std.specs.Prelude.{◌↔◌}
+use Rattle.std.proofs.Common.{◌≡◌, ℕ, inl, inr, Bool, true, false, not, List, [], ◌∷◌, ◌++◌, map, reverse, refl, sym, ap, subst, ◌∙◌, Option, option_map, Result, Ok, Err}
 use Rattle.std.specs.List.{AllByRecursion, list_all}
 use Rattle.std.proofs.lemmas.List.{map-append, reverse-append}
 use Rattle.sn_width.specs.declared.ids.NameId.{NameId}
@@ -24,17 +23,17 @@ use Rattle.sefl_meaning.specs.Values.{numbers}
 use Rattle.sefl_meaning.specs.Network.{Network, Entry}
 use Rattle.sefl_meaning.specs.Carried.{Carried, carried_valued, scene_at}
 use Rattle.sefl_meaning.specs.Courses.{Progress}
-use Rattle.sefl_meaning.specs.Trees.{Tree, Copies, over, arrives, tests, splits}
+use Rattle.sefl_meaning.specs.Trees.{Tree, over, arrives, tests, splits}
 use Rattle.sefl_meaning.specs.Walks.{Passage, Trail, shown}
 use Rattle.sefl_meaning.specs.Taken.{walks_of}
 use Rattle.sefl_meaning.specs.Valued.{copies_valued, progress_valued, tree_valued}
 use Rattle.sefl_meaning.specs.Fields.{Fields, fields_of}
 use Rattle.sefl_meaning.specs.Order.{BeginsWith, Has}
 use Rattle.sefl_meaning.specs.Routes.{IsWay, Route, places_on, route, route_valued}
-use Rattle.sefl_meaning.specs.Injected.{FitWidths, Starts, injected, passages_from, unknown_count, unknown_widths, walks_from}
-use Rattle.sefl_meaning.specs.Start.{Start, StartsAt, start_from, start_of, start_valued, tests_in, tree_from}
+use Rattle.sefl_meaning.specs.Injected.{FitWidths, Starts, injected, passages_from, unknown_count, unknown_widths}
+use Rattle.sefl_meaning.specs.Start.{Start, StartsAt, start_from, start_valued, tests_in, tree_from}
 use Rattle.exact_records.specs.Below.{Facts, Meanings, formula_at, term_at}
-use Rattle.exact_records.specs.Records.{HasMeaning, IsPath, Leads, RecordTree, SymRoute, SymStart, SymTree, Takes, decisions_of, injection_tests, path, pruned, unexplored}
+use Rattle.exact_records.specs.Records.{HasMeaning, IsPath, Leads, RecordTree, SymRoute, SymStart, Takes, decisions_of, injection_tests, path, pruned, unexplored}
 use Rattle.exact_records.specs.Exact.{AreExact, AreExactSoFar, AreExactUpTo, IsGood, IsNoOtherPath, IsShownOnce}
 use Rattle.exact_records.specs.Packets.{AreExactFor, AreExactSoFarFor, AreExactUpToFor, HasPacket, HasWalk, IsAlong, IsExplored, IsNotTaken, IsShown, IsWalkOf, Shows, fields_at, fields_valued}
 use Rattle.exact_records.specs.Laws.{ExactRecordsShowWalks, PacketsTakeRoutes, PassagesTakeRoutes, RecordsTellPackets}
@@ -287,7 +286,7 @@ module _ (facts : Facts) (means : Meanings) (net : Network) (i : Entry) (hops : 
         sym h.places_are ∙ (ap places_on ways ∙ (places_valued (term_at v) a.takes.way.arrivals ∙ ap (map (λ (at : Place × Progress ℕ). at.0)) a.arrivals)),
         ends.1 ∙ a.ended,
         ap (fields_at v) (sym h.fields_are) ∙ (fields_commute (term_at v) h.progress.state
-        ∙ (ap (λ (p : Progress LinearTerm). fields_of (carried_valued (term_at v) p.state)) ends.0 ∙ ap (λ (p : Progress ℕ). fields_of p.state) a.progress)),
+            ∙ (ap (λ (p : Progress LinearTerm). fields_of (carried_valued (term_at v) p.state)) ends.0 ∙ ap (λ (p : Progress ℕ). fields_of p.state) a.progress)),
       )
   path_shows v u a (pruned es before refutation) h same = absurd same
   path_shows v u a (unexplored es) h same = tt
@@ -365,8 +364,8 @@ module _ (facts : Facts) (means : Meanings) (net : Network) (i : Entry) (hops : 
   exact_so_far : (start : SymStart) (rs : List RecordTree) → IsExplored net i hops start → AreExactSoFar start rs → AreExactSoFarFor net i hops rs
   exact_so_far start rs explored h = record {
     is = elim h.is [
-      inl e ↦ inl e
-    | inr k ↦ inr (k.0, k.1, k.2, exact_up_to start k.0 k.1 explored k.3)
+      | inl e ↦ inl e
+      | inr k ↦ inr (k.0, k.1, k.2, exact_up_to start k.0 k.1 explored k.3)
     ];
   }
 

@@ -1,5 +1,5 @@
 -- What a packet takes is shown by one record, and no refuted one.
-use Rattle.std.proofs.Common.{◌≡◌, ℕ, ◌⊎◌, inl, inr, Bool, true, false, List, [], ◌∷◌, ◌++◌, refl, sym, ap, subst, ◌∙◌, append_assoc, Option, Some, None, option_map}
+use Rattle.std.proofs.Common.{◌≡◌, ℕ, Bool, true, false, List, [], ◌∷◌, ◌++◌, refl, sym, ap, subst, ◌∙◌, append_assoc, Option, Some, None, option_map}
 use Rattle.std.specs.List.{AllByRecursion, list_all}
 use Rattle.lin_term.specs.Terms.{LinearTerm}
 use Rattle.path_formula.specs.Formulas.{FormulaTree}
@@ -11,7 +11,7 @@ use Rattle.sefl_meaning.specs.declared.walk.Place.{Place}
 use Rattle.sefl_meaning.specs.declared.walk.End.{End}
 use Rattle.sefl_meaning.specs.Courses.{Progress}
 use Rattle.sefl_meaning.specs.Trees.{over}
-use Rattle.sefl_meaning.specs.Routes.{Route, behind, by_truth, route, taking, truth_of}
+use Rattle.sefl_meaning.specs.Routes.{behind, by_truth, route, taking, truth_of}
 use Rattle.sefl_meaning.specs.Order.{BeginsWith}
 use Rattle.exact_records.specs.Below.{Facts}
 use Rattle.exact_records.specs.Records.{HasMeaning, IsPrunedSide, IsRefutedBy, RecordTree, Satisfy, SymCondition, SymRoute, SymStart, SymTree, Takes, decisions_of, injection_tests, path, pruned, unexplored}

@@ -1,5 +1,5 @@
 -- Each step keeps that the records and the tasks stand for the whole.
-use Rattle.std.proofs.Common.{◌≡◌, ℕ, zero, suc, ◌+◌, ◌<◌, ◌≤◌, ◌⊎◌, inl, inr, true, false, List, [], ◌∷◌, ◌++◌, length, map, refl, sym, ap, subst, ◌∙◌, arith, Option, Some, None}
+use Rattle.std.proofs.Common.{◌≡◌, ℕ, suc, ◌+◌, ◌<◌, ◌≤◌, inl, inr, true, false, List, [], ◌∷◌, ◌++◌, length, refl, sym, ap, subst, ◌∙◌, arith, Option, Some, None}
 use Rattle.std.specs.List.{AllByRecursion}
 use Rattle.lin_term.specs.Terms.{LinearTerm}
 use Rattle.path_formula.specs.Formulas.{FormulaTree}
@@ -16,7 +16,7 @@ use Rattle.exact_records.specs.Below.{Facts}
 use Rattle.exact_records.specs.Records.{IsRefutedBy, IsVerdictOn, RecordTree, SymStart, SymTree, path, pruned, unexplored}
 use Rattle.exact_records.specs.Exact.{IsGood, IsTried, IsUnrefuted}
 use Rattle.exact_records.specs.Shapes.{Continues, Covers, IsPathAt, SideOf}
-use Rattle.exact_records.specs.Spots.{Arrives, IsBefore, IsKnown, IsPending, Known, Spot, Stands, Task, condition_at, copied, copy_at, copy_tasks, decided, first_spot, node_of, piece_of, pieces_of, side_tasks, to_decide}
+use Rattle.exact_records.specs.Spots.{Arrives, IsBefore, IsKnown, IsPending, Known, Spot, Stands, Task, condition_at, copy_at, copy_tasks, decided, first_spot, node_of, piece_of, pieces_of, side_tasks, to_decide}
 use Rattle.exact_records.specs.Laws.{StepsStand}
 use Rattle.exact_records.proofs.Lists.{all_append}
 use Rattle.exact_records.proofs.Arriving.{IsWaiting, waits_next}
@@ -81,8 +81,8 @@ module _ (facts : Facts) (s : SymStart) where
       let known = known_next s a b verdict n h.pending.0.found in
       record {
         continues = continue_opened s.tree limit done (piece_of a) (both_sides b.decisions asking held broken) (pieces_of rest)
-          (λ rs c. covers_node a.tree a.decisions rs (subst (λ z. Covers z a.decisions rs) (sym e ∙ n.tree) (subst (λ ds. Covers (tests asking p test held broken) ds rs) n.decisions (sides_cover b.decisions asking p test held broken rs c))))
-          below h.continues;
+            (λ rs c. covers_node a.tree a.decisions rs (subst (λ z. Covers z a.decisions rs) (sym e ∙ n.tree) (subst (λ ds. Covers (tests asking p test held broken) ds rs) n.decisions (sides_cover b.decisions asking p test held broken rs c))))
+            below h.continues;
         good = h.good;
         pending = (side_pends facts s b verdict asking p test held broken true w e un known, (side_pends facts s b verdict asking p test held broken false w e un known, h.pending.1));
       }
@@ -110,9 +110,9 @@ module _ (facts : Facts) (s : SymStart) where
       let known = known_next s a b verdict n h.pending.0.found in
       record {
         continues = subst (Continues s.tree limit done) (sym (copy_pieces b verdict 0 branches rest))
-          (continue_opened s.tree limit done (piece_of a) (all_copies b.decisions 0 branches) (pieces_of rest)
-          (λ rs c. covers_node a.tree a.decisions rs (subst (λ z. Covers z a.decisions rs) (sym e ∙ n.tree) (subst (λ ds. Covers (splits p branches) ds rs) n.decisions (copies_cover branches b.decisions 0 rs c))))
-          below h.continues);
+            (continue_opened s.tree limit done (piece_of a) (all_copies b.decisions 0 branches) (pieces_of rest)
+            (λ rs c. covers_node a.tree a.decisions rs (subst (λ z. Covers z a.decisions rs) (sym e ∙ n.tree) (subst (λ ds. Covers (splits p branches) ds rs) n.decisions (copies_cover branches b.decisions 0 rs c))))
+            below h.continues);
         good = h.good;
         pending = all_append Pending (copy_tasks b verdict 0 branches) rest (copies_pend b verdict p branches 0 branches (λ m t k. subst (λ (i : ℕ). copy_at branches i ≡ Some t) (omega arith) k) w e un known) h.pending.1;
       }

@@ -1,9 +1,9 @@
 -- What an exploration writes is good, and what it leaves can be gone on with.
-use Rattle.std.proofs.Common.{◌≡◌, ℕ, ◌⊎◌, inl, inr, Bool, true, false, List, [], ◌∷◌, ◌++◌, refl, sym, ap, subst, ◌∙◌, append_assoc, Option, Some, None, option_map, if◌then◌else◌}
+use Rattle.std.proofs.Common.{◌≡◌, ℕ, inl, inr, Bool, true, false, List, [], ◌∷◌, ◌++◌, refl, sym, ap, subst, ◌∙◌, append_assoc, Option, Some, None, option_map, if◌then◌else◌}
 use Rattle.lin_term.specs.Terms.{LinearTerm}
 use Rattle.path_formula.specs.Formulas.{FormulaTree}
 use Rattle.path_cond.specs.Seen.{itself}
-use Rattle.refutation_check.specs.Seen.{IsLicensed, IsRefuted, IsUndecidedBy}
+use Rattle.refutation_check.specs.Seen.{IsRefuted, IsUndecidedBy}
 use Rattle.refutation_check.specs.declared.outcome.Verdict.{Verdict}
 use Rattle.refutation_check.specs.declared.outcome.Verdict.TheVariants.{Sat, Undecided}
 use Rattle.refutation_check.specs.declared.steps.Refute.{Refute}
@@ -13,11 +13,11 @@ use Rattle.sefl_meaning.specs.declared.walk.End.{End}
 use Rattle.sefl_meaning.specs.Courses.{Asking, at_if, at_constrain, Progress}
 use Rattle.sefl_meaning.specs.Trees.{over, tests, splits, Copies}
 use Rattle.sefl_meaning.specs.Taken.{decision_at}
-use Rattle.sefl_meaning.specs.Routes.{IsOpen, Route, behind, route, truth_of}
+use Rattle.sefl_meaning.specs.Routes.{IsOpen, behind, route, truth_of}
 use Rattle.sefl_meaning.specs.Start.{progress_of}
 use Rattle.sefl_meaning.specs.Fields.{fields_of}
 use Rattle.exact_records.specs.Below.{Facts}
-use Rattle.exact_records.specs.Records.{EndsAtTest, IsRefutedBy, IsVerdictOn, Leads, MayBe, MayPrecede, SymCondition, SymRoute, SymStart, SymTree, condition_on, injection_tests, path, pruned, unexplored, with_test}
+use Rattle.exact_records.specs.Records.{EndsAtTest, IsRefutedBy, IsVerdictOn, Leads, MayBe, MayPrecede, SymRoute, SymStart, SymTree, condition_on, injection_tests, path, pruned, unexplored, with_test}
 use Rattle.exact_records.specs.Exact.{IsGood, IsUnrefuted}
 use Rattle.exact_records.specs.Spots.{IsAt, IsBefore, IsBehindTest, IsFirst, IsKnown, IsPending, Spot, condition_at, copied, copy_at, decided, first_spot, sided, to_decide}
 use Rattle.exact_records.proofs.Lists.{append_nil, snoc_same, split_last}
@@ -29,10 +29,10 @@ module _ (facts : Facts) (s : SymStart) where
   unrefuted_more : (b : Spot) (d : Decision) → IsWaiting s b → (IsRefuted itself (condition_at s b) → ⊥) → IsUnrefuted s b.decisions → IsUnrefuted s (b.decisions ++ d ∷ [])
   unrefuted_more b d w open_here h p e rest joined way leads refuted =
       elim (split_last b.decisions d e p rest joined) [
-        inl k ↦ 
-          let same : way ≡ way_at s b w = only_way s b.decisions way (way_at s b w) (subst (λ q. Leads s q way) k.0 leads) (led s b w) in
-          open_here (subst (IsRefuted itself) (ap (condition_on s) same ∙ condition_there s b w) refuted)
-      | inr k ↦ h p e k.0 k.1 way leads refuted
+        | inl k ↦
+            let same : way ≡ way_at s b w = only_way s b.decisions way (way_at s b w) (subst (λ q. Leads s q way) k.0 leads) (led s b w) in
+            open_here (subst (IsRefuted itself) (ap (condition_on s) same ∙ condition_there s b w) refuted)
+        | inr k ↦ h p e k.0 k.1 way leads refuted
       ]
 
   -- ---- records

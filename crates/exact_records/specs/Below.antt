@@ -1,5 +1,5 @@
 -- What the laws of the crates below say, of terms and formulas.
-use Rattle.std.specs.Prelude.{◌≡◌, ◌↔◌, ℕ, Bool, List, ◌++◌, map, Option, Some, option_map}
+use Rattle.std.specs.Prelude.{◌≡◌, ◌↔◌, ℕ, Bool, List, ◌++◌, map, Some, option_map}
 use Rattle.std.specs.List.{AllByRecursion}
 use Rattle.lin_term.specs.Terms.{LinearTerm, value_at}
 use Rattle.path_formula.specs.Formulas.{FormulaTree, truth_at}
@@ -14,14 +14,14 @@ use Rattle.sefl_meaning.specs.Network.{Network, Entry}
 use Rattle.sefl_meaning.specs.Carried.{Carried}
 use Rattle.sefl_meaning.specs.Injected.{Starts, passages_from, unknown_count}
 use Rattle.sefl_meaning.specs.Order.{Has}
-use Rattle.sefl_meaning.specs.Routes.{IsWay, Route, behind, route, route_valued}
+use Rattle.sefl_meaning.specs.Routes.{IsWay, behind, route, route_valued}
 use Rattle.sefl_meaning.specs.Start.{StartsAt, start_of, start_valued, tree_from}
 use Rattle.sefl_meaning.specs.Taken.{walks_of}
 use Rattle.sefl_meaning.specs.Trees.{Tree}
 use Rattle.sefl_meaning.specs.Valued.{tree_valued}
 use Rattle.sefl_meaning.specs.Walks.{Passage, Trail, shown}
 use Rattle.term_values.specs.TermValues.{terms}
-use Rattle.exact_records.specs.Records.{SymRoute, SymStart, SymTree}
+use Rattle.exact_records.specs.Records.{SymRoute, SymTree}
 
 -- of verdicts on conditions, and of routes
 pub record Facts : Type 0 where

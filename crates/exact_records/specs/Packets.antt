@@ -1,8 +1,7 @@
 -- What records say of the walks of packets.
-use Rattle.std.specs.Prelude.{ℕ, ◌≡◌, ◌⊎◌, List, [], ◌∷◌, ◌++◌, map, Option, None, Some, Ok}
+use Rattle.std.specs.Prelude.{ℕ, ◌≡◌, ◌⊎◌, List, [], ◌∷◌, ◌++◌, map, Ok}
 use Rattle.std.specs.List.{AllByRecursion}
 use Rattle.lin_term.specs.Terms.{LinearTerm, value_at}
-use Rattle.refutation_check.specs.declared.outcome.Verdict.{Verdict}
 use Rattle.refutation_check.specs.declared.outcome.Verdict.TheVariants.{Sat, Undecided}
 use Rattle.cell_stacks.specs.Valued.{cell_valued}
 use Rattle.sefl_meaning.specs.declared.walk.Decision.{Decision}
