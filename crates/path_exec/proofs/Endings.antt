@@ -1,5 +1,5 @@
 -- Records that a receiver was handed, and how an exploration ends.
-use Rattle.std.proofs.Common.{◌≡◌, ℕ, zero, suc, ◌+◌, ◌<◌, ◌≤◌, inl, inr, List, [], ◌∷◌, ◌++◌, length, map, refl, sym, ap, subst, ◌∙◌, append_assoc, length-append, arith, Option, Some, None}
+use Rattle.std.proofs.Common.{◌≡◌, ℕ, zero, suc, ◌+◌, ◌<◌, ◌≤◌, inl, inr, List, [], ◌∷◌, ◌++◌, length, map, refl, sym, ap, subst, ◌∙◌, append_assoc, length-append, arith, Option, Some, None, Result, Ok, Err}
 use Rattle.std.specs.List.{AllByRecursion}
 use Rattle.exact_records.specs.Records.{RecordTree}
 use Rattle.exact_records.specs.Exact.{AreExact, IsTried}
@@ -13,7 +13,9 @@ use Rattle.path_exec.specs.Works.{AreWorks, all_tasks, tasks_of}
 use Rattle.path_exec.specs.Paying.{Holds}
 use Rattle.path_exec.specs.Receiving.{IsSame, Receiving, TakesOwn}
 use Rattle.path_exec.specs.Keeping.{IsOwnOrNone, Keeps, Runs, made_of, weights}
-use Rattle.path_exec.specs.Ending.{EndsEarly, EndsStopped, EndsWhole}
+use Rattle.path_exec.specs.declared.exploration.Ended.{Ended}
+use Rattle.path_exec.specs.declared.exploration.Ended.TheVariants.{Whole, Partial, Stopped}
+use Rattle.path_exec.specs.Ending.{EndsEarly, EndsStopped, EndsWhole, Explored, LeftAs}
 use Rattle.path_exec.proofs.Taking.{popped_tasks}
 use Rattle.path_exec.proofs.Counting.{holds_first}
 
@@ -179,3 +181,21 @@ module _ {P O N D T : Type 0} (x : Views P O N D T) where
 
   pub begun_works : (works : List (Work N D)) → works ≡ [] → AreWorks x works
   begun_works works none = subst (AreWorks x) (sym none) tt
+
+  -- as often as it had stopped before an earlier call
+  pub stopped_since : (first stops : ℕ) (m : Receiving T) (before after : ℕ) → first ≤ stops → EndsStopped x stops m before after → EndsStopped x first m before after
+  stopped_since first stops m before after less h = record {
+    items = h.items;
+    last = h.last;
+    stopped = h.stopped;
+    exact = h.exact;
+    cause = let k = h.cause in omega (arith, less, k);
+    spent = h.spent;
+  }
+
+  pub left_explored : {E : Type 0} (limit first stops : ℕ) (m : Receiving T) (before after : ℕ) (result : Result Ended E) → first ≤ stops → LeftAs x limit stops m before after result
+      → Explored x limit first m before after result
+  left_explored limit first stops m before after (Ok Whole) less h = absurd h
+  left_explored limit first stops m before after (Ok Partial) less h = h
+  left_explored limit first stops m before after (Ok Stopped) less h = stopped_since first stops m before after less h
+  left_explored limit first stops m before after (Err e) less h = h

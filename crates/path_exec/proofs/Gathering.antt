@@ -10,7 +10,6 @@ use Rattle.exact_records.specs.Records.{SymTree}
 use Rattle.exact_records.specs.Spots.{IsAt, Spot, arrivals_of, first_spot}
 use Rattle.exact_records.specs.Work.{at_last, begun_at}
 use Rattle.exact_records.proofs.Lists.{append_nil}
-use Rattle.exact_records.proofs.Arriving.{at_start}
 use Rattle.path_exec.specs.declared.engine.Moved.{Moved}
 use Rattle.path_exec.specs.declared.engine.Moved.TheVariants.{Arrived, Stopped}
 use Rattle.path_exec.specs.declared.engine.Next.{Next}
@@ -22,7 +21,7 @@ use Rattle.path_exec.specs.Following.{LeadsTo, StandsWith}
 use Rattle.path_exec.specs.Visiting.{AreVisits, ArrivesSo, IsNoted, IsVisit, LeadsBy, Visits}
 use Rattle.path_exec.proofs.Ways.{IsUnderWay, ends_way, first_placed, goes_way, node_still, over_still, starts_way}
 use Rattle.path_exec.proofs.Spending.{last_same}
-use Rattle.path_exec.proofs.Guiding.{arrived_by}
+use Rattle.path_exec.proofs.Guiding.{arrived_by, start_stands}
 
 module _ {P : Type 0} (carried : P → Carried LinearTerm) (port : Place) where
   visits_append : (us vs : List (Place × Progress LinearTerm)) (ps qs : List P) → AreVisits carried port us ps → AreVisits carried port vs qs → AreVisits carried port (us ++ vs) (ps ++ qs)
@@ -62,6 +61,7 @@ module _ {P O N D T : Type 0} (x : Views P O N D T) (port : Place) where
     pub passed : (begun : ℕ) → HasPassed (first.tree begun) (now.tree (begun + way.raised)) more
 
   pub gathers_first : (first : Here) (before : ℕ) (old : List P) → IsGathering first first before before old old
+  unfolding starts_way
   gathers_first first before old = record {
     way = starts_way x first before;
     more = [];
@@ -84,6 +84,7 @@ module _ {P O N D T : Type 0} (x : Views P O N D T) (port : Place) where
   -- a port was arrived at, and noted
   pub gathers_on : (first now : Here) (before mid after : ℕ) (moved : Moved P O N) (place : P) (old found new : List P) → IsGathering first now before mid old found → Moves x now mid after moved
       → moved ≡ Arrived place → IsNoted x port place found new → IsGathering first (x.place_at place) before after old new
+  unfolding goes_way
   gathers_on first now before mid after moved place old found new w h is (inl n) = record {
     way = goes_way x first now before mid after moved place w.way h is;
     more = w.more ++ n.1.0 ∷ [];
@@ -146,7 +147,7 @@ module _ {P O N D T : Type 0} (x : Views P O N D T) (port : Place) where
       }
 
   pub starts_with : (place : P) → spot_at 0 (x.place_at place) ≡ first_spot x.start → StandsWith x.start [] (behind_last x.start (x.place_at place))
-  starts_with place e = subst (StandsWith x.start []) (sym (first_placed x place e)) (record { at = at_start x.start; same = refl })
+  starts_with place e = subst (StandsWith x.start []) (sym (first_placed x place e)) (start_stands x.start)
 
   pub arrives_so : (ds es : List Decision) (next : Next O N) (places : List P) → ds ≡ es → LeadsBy x port ds next places → ArrivesSo x port es places
   arrives_so ds es next places e h = subst (λ (zs : List Decision). ArrivesSo x port zs places) e (record { way = h.there.led.way; leads = h.there.led.leads; visits = h.visits })

@@ -3,7 +3,7 @@ use Rattle.std.proofs.Common.{◌≡◌, ℕ, zero, suc, ◌+◌, ◌<◌, ◌�
 use Rattle.std.specs.List.{AllByRecursion}
 use Rattle.sefl_meaning.specs.declared.walk.Decision.{Decision}
 use Rattle.exact_records.specs.Records.{RecordTree, unexplored}
-use Rattle.exact_records.specs.Exact.{AreExact, IsUnexplored, SomeOne}
+use Rattle.exact_records.specs.Exact.{AreExact, IsTried, IsUnexplored, SomeOne}
 use Rattle.exact_records.specs.Spots.{Stands, Task}
 use Rattle.exact_records.specs.Work.{begun_at, work_of}
 use Rattle.exact_records.specs.Laws.{StandingIsExact, StepsStand}
@@ -11,11 +11,11 @@ use Rattle.exact_records.proofs.Lists.{all_append, append_nil, last_of, some_lat
 use Rattle.path_exec.specs.declared.opening.Work.{Work}
 use Rattle.path_exec.specs.Views.{IsMade, Views}
 use Rattle.path_exec.specs.Offers.{known_behind, offer_at}
-use Rattle.path_exec.specs.Works.{IsPut, IsWork, all_tasks}
+use Rattle.path_exec.specs.Works.{AreWorks, IsPut, IsWork, all_tasks}
 use Rattle.path_exec.specs.Receiving.{Receiving}
 use Rattle.path_exec.specs.Keeping.{Leaves, Runs}
 use Rattle.path_exec.specs.Ending.{EndsEarly, EndsPartial, EndsStopped}
-use Rattle.path_exec.proofs.Taking.{next_of, popped_tasks, split_tasks}
+use Rattle.path_exec.proofs.Taking.{next_of, popped_tasks, popped_works, split_tasks}
 use Rattle.path_exec.proofs.Spending.{more_work, not_snoc}
 use Rattle.path_exec.proofs.Endings.{length_mapped, map_snoc}
 
@@ -46,7 +46,7 @@ module _ {P O N D T : Type 0} (x : Views P O N D T) (below : StepsStand x.start)
           named = [];
           joined = k.2 ∙ sym (append_nil (k.0 ++ k.1 ∷ []));
           state = h.holds.stands;
-          tried = subst (λ (rs : List RecordTree). AllByRecursion _ rs) k.2 h.tried;
+          tried = subst (λ (rs : List RecordTree). AllByRecursion IsTried rs) k.2 h.tried;
           counted = ap length (sym k.2) ∙ (length_mapped x.record_of h.items ∙ sym h.counted);
           untried = tt;
           some = λ e n. some n;
@@ -145,3 +145,15 @@ module _ {P O N D T : Type 0} (x : Views P O N D T) where
     leaves_next limit m n old rest mid w e h put before after item is took l =
         leaves_on x below exact limit m n ((next_of x w h).spot, known_behind w.offer (x.verdict_of w.finding.value)) (all_tasks x mid) before after item
         (left_made w h item is) took (leaves_popped limit m old rest mid w e h put before after l)
+
+  -- a node on the stack has a decision left
+  pub some_tasks : (works : List (Work N D)) → AreWorks x works → (works ≡ [] → ⊥) → all_tasks x works ≡ [] → ⊥
+  some_tasks works all some none =
+      elim (last_of works) [
+        | inl e ↦ some e
+        | inr k ↦
+            let h = (popped_works x works k.0 k.1 k.2 all).0 in
+            let first = (next_of x k.1 h).tasks in
+            let both = sym (popped_tasks x works k.0 k.1 k.2 ∙ ap (λ (ts : List Task). ts ++ all_tasks x k.0) first) ∙ none in
+            cc
+      ]

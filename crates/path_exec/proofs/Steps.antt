@@ -286,7 +286,7 @@ module _ {P O N D T : Type 0} (x : Views P O N D T) (below : StepsStand x.start)
       → IsPut (record w { taken = suc w.taken }) old mid → Keeps x ((behind_last x.start (x.place_at place), decided verdict) ∷ []) mid new made before after
       → Keeps x (tasks_of x w) old new made before after
   keeps_open w place verdict old mid new made before after h e decide put k =
-      let first = ((next_of x w h).spot, known_behind w.offer (x.verdict_of w.finding.value)) in
+      let first : Task = ((next_of x w h).spot, known_behind w.offer (x.verdict_of w.finding.value)) in
       let tasks = split_tasks x w old mid h put in
       let moved : (limit : ℕ) (done : List RecordTree) (count : ℕ) → Holds x.start limit done (tasks_of x w ++ all_tasks x old) count
       → Holds x.start limit done ((behind_last x.start (x.place_at place), decided verdict) ∷ all_tasks x mid) count =

@@ -144,10 +144,10 @@ module _ {P O N D T : Type 0} (x : Views P O N D T) where
   split_tasks w old mid h put =
       ap (λ (ts : List Task). ts ++ all_tasks x old) (next_of w h).tasks
       ∙ ap (λ (ts : List Task). ((next_of w h).spot, known_behind w.offer (x.verdict_of w.finding.value)) ∷ ts)
-      (sym (put_tasks x (record w { taken = suc w.taken }) old mid (record { node = h.found.node; known = h.found.known }) put))
+      (sym (put_tasks (record w { taken = suc w.taken }) old mid (record { node = h.found.node; known = h.found.known }) put))
 
   pub put_back_works : (w : Work N D) (old mid : List (Work N D)) → IsWork x w → IsPut (record w { taken = suc w.taken }) old mid → AreWorks x old → AreWorks x mid
-  put_back_works w old mid h put = put_works x (record w { taken = suc w.taken }) old mid (record { node = h.found.node; known = h.found.known }) put
+  put_back_works w old mid h put = put_works (record w { taken = suc w.taken }) old mid (record { node = h.found.node; known = h.found.known }) put
 
   -- the next decision is offered
   pub offered_next : (w : Work N D) → IsWork x w → (d : Decision) → d ≡ offer_at w.offer w.taken → IsOffered (x.node_at w.node) d

@@ -1,5 +1,5 @@
 -- On the way to the next node.
-use Rattle.std.proofs.Common.{◌≡◌, ℕ, suc, ◌+◌, ◌-◌, ◌<◌, List, [], ◌∷◌, ◌++◌, refl, sym, ap, subst, ◌∙◌, append_assoc, arith, Option, Some, None, option_map}
+use Rattle.std.proofs.Common.{◌≡◌, ℕ, suc, ◌+◌, ◌-◌, ◌<◌, Bool, List, [], ◌∷◌, ◌++◌, refl, sym, ap, subst, ◌∙◌, append_assoc, arith, Option, Some, None, option_map}
 use Rattle.lin_term.specs.Terms.{LinearTerm}
 use Rattle.sefl_meaning.specs.declared.walk.Decision.{Decision}
 use Rattle.sefl_meaning.specs.declared.walk.Place.{Place}
@@ -72,10 +72,10 @@ pub record IsOnWay (a c : Spot) : Type 0 where
   pub more : List ℕ
   pub grown : c.widths ≡ a.widths ++ more
 
-way_first : (a : Spot) → IsOnWay a a
+pub way_first : (a : Spot) → IsOnWay a a
 way_first a = record { decisions = refl; tests = refl; places = refl; node = refl; more = []; grown = sym (append_nil a.widths) }
 
-way_on : (a b c : Spot) (carried : Carried LinearTerm) → IsOnWay a b → Reaches b c carried → IsOnWay a c
+pub way_on : (a b c : Spot) (carried : Carried LinearTerm) → IsOnWay a b → Reaches b c carried → IsOnWay a c
 way_on a b c carried w h = record {
   decisions = h.goes.decisions ∙ w.decisions;
   tests = h.goes.tests ∙ w.tests;
@@ -122,14 +122,14 @@ module _ {P O N D T : Type 0} (x : Views P O N D T) where
     pub counted : after ≡ before + raised
     pub way : (begun : ℕ) → IsOnWay (spot_at begun first) (spot_at (begun + raised) now)
 
-  pub starts_way : (first : Here) (before : ℕ) → IsUnderWay first first before before
+  unfoldable pub starts_way : (first : Here) (before : ℕ) → IsUnderWay first first before before
   starts_way first before = record {
     raised = 0;
     counted = omega arith;
     way = λ begun. let same : begun ≡ begun + 0 = omega arith in subst (λ (m : ℕ). IsOnWay (spot_at begun first) (spot_at m first)) same (way_first (spot_at begun first));
   }
 
-  pub goes_way : (first now : Here) (before mid after : ℕ) (moved : Moved P O N) (place : P) → IsUnderWay first now before mid → Moves x now mid after moved
+  unfoldable pub goes_way : (first now : Here) (before mid after : ℕ) (moved : Moved P O N) (place : P) → IsUnderWay first now before mid → Moves x now mid after moved
       → moved ≡ Arrived place → IsUnderWay first (x.place_at place) before after
   goes_way first now before mid after moved place w h is = record {
     raised = w.raised + h.raised;

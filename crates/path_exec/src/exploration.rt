@@ -179,6 +179,8 @@ pub fn explore_into<E: Engine, K: Receiver<Item = E::Record>, L: Ledger>(
     ensures same { IsSame (K.seen out.old) (K.seen out.new) }
     ensures explored { Explored (E.views engine.now) limit (K.seen out.old).stops (K.seen out.new) steps.old steps.new result }
 {
+    steps_keep_what_stands();
+    records_that_stand_are_exact();
     let mut works = Vec::new(alloc);
     let Some(count) = start(alloc, engine, limit, &mut works, out, steps)? else {
         return Ok(Ended::Stopped);

@@ -5,14 +5,14 @@ use Rattle.path_exec.proofs.Taking.{popped_works}
 use Rattle.path_exec.proofs.Endings.{made_own, runs_early, runs_made, runs_on, runs_pend, runs_popped, runs_stopped, runs_whole, same_then, step_falls, takes_still}
 use Rattle.path_exec.proofs.exploration.run.Goals as goal
 
-pub take_next-record-requires-clause-work : goal.take_next-record-requires-clause-work
-take_next-record-requires-clause-work g c =
+pub take_next-requires-clause-work : goal.take_next-requires-clause-work
+take_next-requires-clause-work g c =
     let x = g.E.Engine.views c.args.engine.now in
     let popped : c.loop-count.works.items ≡ c.pop.new.self.items ++ c.in-Some.next ∷ [] = search rules in
     (popped_works x c.loop-count.works.items c.pop.new.self.items c.in-Some.next popped c.loop-count.invariant.works).0
 
-pub take_next-record-requires-clause-pending : goal.take_next-record-requires-clause-pending
-take_next-record-requires-clause-pending g c =
+pub take_next-requires-clause-pending : goal.take_next-requires-clause-pending
+take_next-requires-clause-pending g c =
     let x = g.E.Engine.views c.args.engine.now in
     let m = g.K.Receiver.seen c.loop-count.out in
     let popped : c.loop-count.works.items ≡ c.pop.new.self.items ++ c.in-Some.next ∷ [] = search rules in
@@ -37,7 +37,9 @@ returns-in_err-record-clause-ran g c =
     let x = g.E.Engine.views c.args.engine.now in
     let exact = c.records_that_stand_are_exact.ensures x.start c.requires.splits in
     let m = g.K.Receiver.seen c.loop-count.out in
-    λ before h. runs_early x exact c.args.limit c.loop-count.count m m _ before c.loop-count.steps (c.loop-count.invariant.runs before h) (λ items k. k)
+    λ before h.
+    let k = runs_early x exact c.args.limit c.loop-count.count m m _ before c.loop-count.steps (c.loop-count.invariant.runs before h) (λ items q. q) in
+    search rules
 
 pub loop-count-preserved-in_default-2 : goal.loop-count-preserved-in_default-2
 loop-count-preserved-in_default-2 g c =
@@ -52,13 +54,13 @@ loop-count-preserved-in_default-2 g c =
       works = keeps.works works.1;
       takes = c.loop-count.invariant.takes;
       same = c.loop-count.invariant.same;
-      runs = λ before h. runs_on x exact c.args.limit c.loop-count.count m (tasks_of x c.in-Some.next) c.pop.new.self.items c.take_next-record.new.works.items _ before c.loop-count.steps
-          c.take_next-record.new.steps c.in_default-2.is c.loop-count-test.true
+      runs = λ before h. runs_on x exact c.args.limit c.loop-count.count m (tasks_of x c.in-Some.next) c.pop.new.self.items c.take_next.new.works.items _ before c.loop-count.steps
+          c.take_next.new.steps c.in_default-2.is c.loop-count-test.true
           (runs_popped x c.args.limit c.loop-count.count m c.loop-count.works.items c.pop.new.self.items c.in-Some.next before c.loop-count.steps popped (c.loop-count.invariant.runs before h)) keeps;
     }
 
-pub loop-count-preserved-in-More : goal.loop-count-preserved-in-More
-loop-count-preserved-in-More g c =
+pub loop-count-preserved : goal.loop-count-preserved
+loop-count-preserved g c =
     let x = g.E.Engine.views c.args.engine.now in
     let exact = c.records_that_stand_are_exact.ensures x.start c.requires.splits in
     let seen = g.K.Receiver.seen in
@@ -72,8 +74,8 @@ loop-count-preserved-in-More g c =
       works = keeps.works works.1;
       takes = takes_still x m n c.in-More.ensures.same c.loop-count.invariant.takes;
       same = same_then (seen c.args.out.now) m n c.loop-count.invariant.same c.in-More.ensures.same;
-      runs = λ before h. runs_made x exact c.args.limit c.loop-count.count _ m n (tasks_of x c.in-Some.next) c.pop.new.self.items c.take_next-record.new.works.items _ c.in-Some-2.record before
-          c.loop-count.steps c.take_next-record.new.steps c.in-Some-2.is c.loop-count-test.true
+      runs = λ before h. runs_made x exact c.args.limit c.loop-count.count _ m n (tasks_of x c.in-Some.next) c.pop.new.self.items c.take_next.new.works.items _ c.in-Some-2.record before
+          c.loop-count.steps c.take_next.new.steps c.in-Some-2.is c.loop-count-test.true
           (runs_popped x c.args.limit c.loop-count.count m c.loop-count.works.items c.pop.new.self.items c.in-Some.next before c.loop-count.steps popped (c.loop-count.invariant.runs before h)) keeps
           c.in-More.ensures.took refl;
     }
@@ -87,8 +89,8 @@ returns-in-Stop-clause-ran g c =
     let n = seen c.take.new.self in
     let popped : c.loop-count.works.items ≡ c.pop.new.self.items ++ c.in-Some.next ∷ [] = search rules in
     let took = c.in-Stop.ensures.took in
-    λ before h. runs_stopped x exact c.args.limit c.loop-count.count (seen c.args.out.now).stops m n (tasks_of x c.in-Some.next) c.pop.new.self.items c.take_next-record.new.works.items _ c.in-Some-2.record
-    before c.loop-count.steps c.take_next-record.new.steps c.in-Some-2.is c.loop-count-test.true
+    λ before h. runs_stopped x exact c.args.limit c.loop-count.count (seen c.args.out.now).stops m n (tasks_of x c.in-Some.next) c.pop.new.self.items c.take_next.new.works.items _ c.in-Some-2.record
+    before c.loop-count.steps c.take_next.new.steps c.in-Some-2.is c.loop-count-test.true
     (runs_popped x c.args.limit c.loop-count.count m c.loop-count.works.items c.pop.new.self.items c.in-Some.next before c.loop-count.steps popped (c.loop-count.invariant.runs before h))
     c.in_ok-record.ensures took.1 (let s = c.loop-count.invariant.same.stops in let t = took.0 in omega (arith, s, t))
 

@@ -5,8 +5,8 @@ use Rattle.path_exec.specs.Following.{Turns}
 use Rattle.path_exec.proofs.Guiding.{impossible_at, starts_at}
 use Rattle.path_exec.proofs.guided.follow.Goals as goal
 
-pub arrived-next-requires : goal.arrived-next-requires
-arrived-next-requires g c = starts_at (g.E.Engine.views c.args.engine.now) c.in_ok-place.place c.in_ok-place.ensures
+pub arrived-requires : goal.arrived-requires
+arrived-requires g c = starts_at (g.E.Engine.views c.args.engine.now) c.in_ok-place.place c.in_ok-place.ensures
 
 pub returns-in_default : goal.returns-in_default
 returns-in_default g c =

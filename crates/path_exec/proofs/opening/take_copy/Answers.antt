@@ -1,4 +1,4 @@
-use Rattle.std.proofs.Common.{ap, refl, subst, sym, ◌∙◌, ◌≡◌}
+use Rattle.std.proofs.Common.{rules, ap, refl, subst, sym, ◌∙◌, ◌≡◌}
 use Rattle.std.proofs.lemmas.Result.{IfOk-weaker}
 use Rattle.exact_records.specs.Spots.{IsKnown, condition_at, decided}
 use Rattle.path_exec.specs.Here.{behind_last, spot_at}
@@ -7,8 +7,8 @@ use Rattle.path_exec.proofs.Taking.{next_of, offered_next, placed_next, there_ne
 use Rattle.path_exec.proofs.Steps.{copy_opened, copy_stays, keeps_open}
 use Rattle.path_exec.proofs.opening.take_copy.Goals as goal
 
-pub take-place-requires : goal.take-place-requires
-take-place-requires g c = offered_next (g.E.Engine.views c.args.engine.now) c.args.work c.requires.work c.offer_at-decision.result c.offer_at-decision.ensures
+pub take-requires : goal.take-requires
+take-requires g c = offered_next (g.E.Engine.views c.args.engine.now) c.args.work c.requires.work c.offer_at-decision.result c.offer_at-decision.ensures
 
 pub put_back-requires : goal.put_back-requires
 put_back-requires g c = c.requires.work.left
