@@ -134,3 +134,11 @@ returns-clause-same g c =
     let seen = g.K.Receiver.seen in
     same_then (seen c.args.out.now) (seen c.run.new.out) (seen c.leave.new.out)
     (same_then (seen c.args.out.now) (seen c.start.new.out) (seen c.run.new.out) c.in_ok-count.ensures.same c.in_ok-ran.ensures.same) c.leave.ensures.same
+
+pub returns-in_err-ran-clause-explored : goal.returns-in_err-ran-clause-explored
+returns-in_err-ran-clause-explored g c =
+    let x = g.E.Engine.views c.args.engine.now in
+    let seen = g.K.Receiver.seen in
+    let begun = subst (λ o. BegunAs x {E = NoMemory} c.args.limit (seen c.args.out.now).stops (seen c.start.new.out) c.start.new.works.items c.args.steps.now c.start.new.steps (Ok o)) c.in-Some.is c.in_ok-count.ensures.begun in
+    let k = c.in_err-ran.ensures.ran c.args.steps.now begun.1 in
+    search rules
