@@ -6,3 +6,4 @@ pub mod Shapes
 pub mod Spots
 pub mod Laws
 pub mod Below
+pub mod Whole
