@@ -7,3 +7,4 @@ pub mod Spots
 pub mod Laws
 pub mod Below
 pub mod Whole
+pub mod View
