@@ -11,3 +11,4 @@ pub mod Cutting
 pub mod Standing
 pub mod Ending
 pub mod Packets
+pub mod Whole

@@ -6,3 +6,5 @@ pub mod Shapes
 pub mod Spots
 pub mod Laws
 pub mod Below
+pub mod Whole
+pub mod View

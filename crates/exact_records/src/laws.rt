@@ -4,6 +4,7 @@ ghost use Rattle.std.specs.Prelude.{ℕ};
 ghost use Rattle.sefl_meaning.specs.Network.{Network, Entry};
 ghost use Rattle.sefl_meaning.specs.Routes.{Splits};
 ghost use Rattle.exact_records.specs.Records.{SymStart};
+ghost use Rattle.exact_records.specs.Whole.{WalksHaveOnePath};
 ghost use Rattle.exact_records.specs.Laws.{ExactRecordsShowWalks, PacketsTakeRoutes, PassagesTakeRoutes, RecordsTellPackets, StandingIsExact, StepsStand, VerdictsStay};
 
 use crate::below::{facts, meanings};
@@ -54,3 +55,9 @@ pub fn exact_records_show_each_walk()
     facts();
     meanings();
 }
+
+/// Where nothing was left out, each walk of each packet that meets the injection has exactly one path,
+/// with its decisions, places, end and fields.
+pub fn whole_records_have_one_path_a_walk()
+    ensures { (net : Network) (i : Entry) (hops : ℕ) → WalksHaveOnePath net i hops }
+{}

@@ -72,7 +72,11 @@ const UNEXPLORED: &[Field] = &[("decisions", Part::Decisions), ("kind", Part::Wo
 
 const FAULT: &[Field] = &[("fault", Part::Count), ("site", Part::Id)];
 
-const MESSAGE: &[Field] = &[("fault", Part::Count), ("site", Part::Id), ("text", Part::Text)];
+const MESSAGE: &[Field] = &[
+    ("fault", Part::Count),
+    ("site", Part::Id),
+    ("text", Part::Text),
+];
 
 const CARRIED: &[Field] = &[
     ("heads", Part::Heads),
@@ -82,7 +86,11 @@ const CARRIED: &[Field] = &[
 
 const COUNTED: &[Field] = &[("cause", Part::Word), ("count", Part::Count)];
 
-const OUTSIDE: &[Field] = &[("cause", Part::Word), ("pick", Part::Id), ("values", Part::Values)];
+const OUTSIDE: &[Field] = &[
+    ("cause", Part::Word),
+    ("pick", Part::Id),
+    ("values", Part::Values),
+];
 
 const WHOLE: Objects = Objects::Of(&[REPORT]);
 
@@ -90,17 +98,24 @@ const FIELDS: Objects = Objects::Of(&[CARRIED]);
 
 const RECORD: Objects = Objects::ByWord(
     "kind",
-    &[("path", PATH), ("pruned", PRUNED), ("unexplored", UNEXPLORED)],
+    &[
+        ("path", PATH),
+        ("pruned", PRUNED),
+        ("unexplored", UNEXPLORED),
+    ],
 );
 
 const END: Objects = Objects::ByNumber("fault", &[(1, 8, FAULT), (9, 9, MESSAGE)]);
 
-const VERDICT: Objects =
-    Objects::Of(&[&[("sat", Part::Values)], &[("undecided", Part::Cause)]]);
+const VERDICT: Objects = Objects::Of(&[&[("sat", Part::Values)], &[("undecided", Part::Cause)]]);
 
 const CAUSE: Objects = Objects::ByWord(
     "cause",
-    &[("cases", COUNTED), ("coupled", COUNTED), ("outside", OUTSIDE)],
+    &[
+        ("cases", COUNTED),
+        ("coupled", COUNTED),
+        ("outside", OUTSIDE),
+    ],
 );
 
 const STEP: Lists = Lists::Headed(&[
@@ -110,10 +125,7 @@ const STEP: Lists = Lists::Headed(&[
     ("cycle", &[Part::Word, Part::Ids]),
 ]);
 
-const CELL: Lists = Lists::Rows(&[
-    &[Part::Width],
-    &[Part::Width, Part::Value, Part::Terms],
-]);
+const CELL: Lists = Lists::Rows(&[&[Part::Width], &[Part::Width, Part::Value, Part::Terms]]);
 
 /// The form of the part.
 pub fn form_for(part: Part) -> Form

@@ -110,12 +110,7 @@ fn write_metas<V: CellValue>(
     Ok(())
 }
 
-fn write_tag(
-    out: &mut JsonText,
-    net: &Net,
-    tag: TagId,
-    address: i32,
-) -> Result<(), NoMemory>
+fn write_tag(out: &mut JsonText, net: &Net, tag: TagId, address: i32) -> Result<(), NoMemory>
     ensures { Gains (tag_data (network net.now) (tag, address)) result out.old out.new }
 {
     lists_are_written();

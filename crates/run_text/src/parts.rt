@@ -75,17 +75,14 @@ fn place_text(
     Ok(format!(in alloc; "{side}{name}.{port}")?)
 }
 
-fn write_place(
-    alloc: Global,
-    out: &mut JsonText,
-    net: &Net,
-    place: Place,
-) -> Result<(), NoMemory>
+fn write_place(alloc: Global, out: &mut JsonText, net: &Net, place: Place) -> Result<(), NoMemory>
     ensures { Gains (place_data (network net.now) place) result out.old out.new }
 {
     match place.side {
         Side::Inward => out.string(place_text(alloc, net, "in ", place.node, place.port)?.as_str()),
-        Side::Outward => out.string(place_text(alloc, net, "out ", place.node, place.port)?.as_str()),
+        Side::Outward => out.string(place_text(
+            alloc, net, "out ", place.node, place.port,
+        )?.as_str()),
     }
 }
 

@@ -19,12 +19,7 @@ use std::alloc::Global;
 const ROOM: usize = 1024;
 
 #[tactic(auto, unfolding(crate::specs::Walks::walk_data))]
-fn write_walk(
-    alloc: Global,
-    out: &mut JsonText,
-    net: &Net,
-    walk: &Walk,
-) -> Result<(), NoMemory>
+fn write_walk(alloc: Global, out: &mut JsonText, net: &Net, walk: &Walk) -> Result<(), NoMemory>
     ensures { Gains (walk_data (network net.now) (trail_of walk.now)) result out.old out.new }
 {
     objects_are_written();
@@ -59,12 +54,7 @@ fn write_walk_list(
 }
 
 #[tactic(auto, unfolding(crate::specs::Walks::walks_data))]
-fn write_walks(
-    alloc: Global,
-    out: &mut JsonText,
-    net: &Net,
-    walks: &[Walk],
-) -> Result<(), NoMemory>
+fn write_walks(alloc: Global, out: &mut JsonText, net: &Net, walks: &[Walk]) -> Result<(), NoMemory>
     ensures { Gains (walks_data (network net.now) (map trail_of walks.now)) result out.old out.new }
 {
     objects_are_written();

@@ -8,7 +8,7 @@ use Rattle.report_shape.proofs.fault.+fault.Given as goal
 abbrev pub invariant-items_fault-loop-item : goal.invariant-items_fault-loop-item
 invariant-items_fault-loop-item g l = record {
   counted : l.number ≡ l.item-index;
-  rest : items_fault (g.N.Names.knows l.names) (parts_of l.parts) 0 (items_view l.item-items) ≡ items_fault (g.N.Names.knows l.names) (parts_of l.parts) l.number (items_view (drop l.item-index l.item-items))
+  rest : items_fault (g.N.Names.knows l.names) (parts_of l.parts) 0 (items_view l.item-items) ≡ items_fault (g.N.Names.knows l.names) (parts_of l.parts) l.number (items_view (drop l.item-index l.item-items));
 }
 
 abbrev pub invariant-members_fault-loop-key : goal.invariant-members_fault-loop-key
