@@ -1,5 +1,5 @@
 -- What is carried and the choices, as a machine holds them.
-use Rattle.std.proofs.Common.{◌≡◌, ℕ, ◌+◌, ◌≤◌, List, [], ◌∷◌, ◌++◌, drop, length, Result, refl, sym, ap, ◌∙◌}
+use Rattle.std.proofs.Common.{◌≡◌, ◌≤◌, length, Result, sym, ◌∙◌}
 use Rattle.sn_width.specs.declared.faults.LayoutFault.{LayoutFault}
 use Rattle.sn_width.specs.declared.faults.StepFault.{StepFault}
 use Rattle.cell_stacks.specs.Outcome.{on_ok, Meets}
@@ -11,7 +11,7 @@ use Rattle.lin_term.specs.Terms.{LinearTerm}
 use Rattle.sefl_meaning.specs.Carried.{Carried, Scene}
 use Rattle.sefl_meaning.specs.Steps.{assigned}
 use Rattle.term_values.specs.TermValues.{symbol_term, terms}
-use Rattle.sym_state.specs.Symbolic.{Symbolic, choices_of, held_of, with_symbol}
+use Rattle.sym_state.specs.Symbolic.{Symbolic, held_of, with_symbol}
 use Rattle.sym_state.proofs.Keeping.{meets_valued, on_ok_on_ok}
 use Rattle.sym_state.proofs.Changing.{behind, next_choice}
 
