@@ -3,3 +3,4 @@ pub mod Typing
 pub mod Changing
 pub mod Starting
 pub mod Begins
+pub mod Holding

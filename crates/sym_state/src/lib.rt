@@ -7,6 +7,7 @@ mod changes;
 mod evaluation;
 mod fields;
 mod instructions;
+mod machine;
 mod state;
 
 pub use state::SymState;
