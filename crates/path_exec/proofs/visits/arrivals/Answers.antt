@@ -1,4 +1,4 @@
-use Rattle.std.proofs.Common.{rules, arith, refl, sym, ap, subst, ◌∙◌, ◌≡◌, ◌++◌, ◌∷◌, take, drop, get_or, suc, drop-cons, None, Some, []}
+use Rattle.std.proofs.Common.{◌+◌, arith, refl, sym, ap, subst, ◌∙◌, ◌≡◌, ◌++◌, ◌∷◌, take, drop, get_or, suc, drop-cons, None, Some, []}
 use Rattle.std.proofs.Math.Seq.{take-suc}
 use Rattle.std.proofs.lemmas.List.{take-append-drop, length-take-le}
 use Rattle.sefl_meaning.specs.declared.walk.Decision.TheVariants.{Then}
@@ -41,7 +41,9 @@ loop-decision-preserved g c =
     let inv = c.loop-decision.invariant.led in
     let led = inv.there.led in
     let t = subst (Turns x c.loop-decision.next d) c.in-Some.is c.in_ok-place-2.ensures in
-    let e : (x.place_at c.in-Some.place).decisions ≡ take (suc k) ds = t.decisions ∙ (ap (λ zs. zs ++ d ∷ []) led.decisions ∙ sym (take-suc ds k Then c.loop-decision-test.true)) in
+    let one : suc k ≡ k + 1 = omega arith in
+    let e : (x.place_at c.in-Some.place).decisions ≡ take (k + 1) ds =
+    t.decisions ∙ (ap (λ zs. zs ++ d ∷ []) led.decisions ∙ (sym (take-suc ds k Then c.loop-decision-test.true) ∙ ap (λ n. take n ds) one)) in
     record {
       led = subst (λ es. LeadsBy x c.args.port es c.in_ok-next-2.next c.visit-in-loop-decision.new.found.items) e
           (leads_by x c.args.port (x.place_at c.in-Some.place) c.loop-decision.steps c.visit-in-loop-decision.new.steps c.loop-decision.found.items c.visit-in-loop-decision.new.found.items c.in_ok-next-2.next

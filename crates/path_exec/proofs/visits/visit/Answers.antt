@@ -11,7 +11,7 @@ pub loop-moved-preserved : goal.loop-moved-preserved
 loop-moved-preserved g c =
     let x = g.E.Engine.views c.args.engine.now in
     gathers_on x c.args.port (x.place_at c.args.place) (x.place_at c.loop-moved.now) c.args.steps.now c.loop-moved.steps c.onward.new.steps c.in_ok-moved.moved c.in-Arrived.place
-    c.args.found.now.items c.loop-moved.found.items c.note.new.found.items c.loop-moved.invariant c.in_ok-moved.ensures c.in-Arrived.is c.in_ok-note.ensures
+    c.args.found.now.items c.loop-moved.found.items c.note.new.found.items c.loop-moved.invariant c.in_ok-moved.ensures c.in-Arrived.is c.in_ok-note-in-Arrived.ensures
 
 pub loop-moved-smaller : goal.loop-moved-smaller
 loop-moved-smaller g c =
