@@ -1,0 +1,79 @@
+//! Commands whose text is one piece.
+
+ghost use Rattle.std.specs.Prelude.{◌≡◌, ◌<◌, ◌≤◌, List, IfOk, IfErr, string_bytes};
+ghost use Rattle.run_answers.specs.Inputs.{Given as GivenOf};
+ghost use Rattle.run_answers.specs.Runs.{IsRefusal, Outcome, Puts, WriteShows, one_piece, text};
+
+use crate::work::Work;
+use job_files::Source;
+use run_answers::{Ending, OwnFault, Stop};
+use sn_edge::{Put, Sink};
+use std::alloc::Global;
+
+/// A command whose text is one piece, which is made before it is put.
+pub trait OnePiece {
+    type From: Source;
+
+    /// What it reads.
+    ghost source: { Self → Self.From };
+
+    fn source(&self) -> &Self::From
+        ensures { result.now ≡ source self.now };
+
+    /// What its work comes to, on what its inputs gave.
+    ghost comes: { Self → List GivenOf → Outcome → Type 0 };
+
+    /// The text with its ending, or why there is none.
+    fn text(
+        &self,
+        alloc: Global,
+        given: <Self::From as Source>::Given,
+    ) -> Result<(Ending, String), OwnFault>
+        requires { Self.From.keeps given }
+        ensures text { IfOk result (λ t. comes self.now (Self.From.givens given) (text t.0 (string_bytes t.1))) }
+        ensures refused { IfErr result (IsRefusal (comes self.now (Self.From.givens given))) };
+}
+
+/// Puts the text of a command in one piece, where there is one.
+fn put_text<K: Sink>(
+    answer: Result<(Ending, String), OwnFault>,
+    out: &mut K,
+) -> Result<Ending, Stop>
+    ensures faults_stay { K.faults out.old ≤ K.faults out.new }
+    ensures puts { Puts (K.taken out.old) (K.taken out.new) answer result }
+    ensures shows { WriteShows (K.faults out.old < K.faults out.new) result }
+{
+    match answer {
+        Ok((ending, text)) => match out.put(text.as_bytes()) {
+            Put::All => Ok(ending),
+            Put::Failed => Err(Stop::Write),
+            Put::NoMemory => Err(Stop::NoMemory),
+        },
+        Err(fault) => Err(Stop::Own(fault)),
+    }
+}
+
+/// The work of a command whose text is one piece.
+#[derive(Clone, Copy)]
+pub struct Piece<C>(pub C);
+
+impl<C: OnePiece> Work for Piece<C> {
+    type From = C::From;
+
+    ghost source = { λ p. C.source p.0 };
+
+    ghost work = { λ p. one_piece (C.comes p.0) };
+
+    fn source(&self) -> &C::From {
+        self.0.source()
+    }
+
+    fn perform<K: Sink>(
+        &self,
+        alloc: Global,
+        given: <C::From as Source>::Given,
+        out: &mut K,
+    ) -> Result<Ending, Stop> {
+        put_text(self.0.text(alloc, given), out)
+    }
+}

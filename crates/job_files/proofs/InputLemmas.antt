@@ -1,0 +1,24 @@
+-- Inputs in two parts.
+use Rattle.std.proofs.Common.{inl, inr, ap, sym, subst, List, [], ◌∷◌, ◌++◌}
+use Rattle.run_answers.specs.Outside.{Outside}
+use Rattle.run_answers.specs.Inputs.{Input, Given, AllOpen, FirstFails}
+use Rattle.run_answers.specs.declared.fault.InputFault.{InputFault}
+
+module _ {S : Type 0} (o : Outside S) where
+  -- a refusal in the first part
+  pub fails_first : (u v : S) (is js : List Input) (fault : InputFault) → FirstFails o u is fault v → FirstFails o u (is ++ js) fault v
+  fails_first u v [] js fault h = absurd h
+  fails_first u v (i ∷ is) js fault (inl h) = inl h
+  fails_first u v (i ∷ is) js fault (inr (g, m, opens, h)) = inr (g, m, opens, fails_first m v is js fault h)
+
+  -- a refusal in the second, where the first is open
+  pub fails_later : (u m v : S) (is js : List Input) (given : List Given) (fault : InputFault) → AllOpen o u is given m → FirstFails o m js fault v → FirstFails o u (is ++ js) fault v
+  fails_later u m v [] js given fault h f = subst (λ s. FirstFails o s js fault v) h.1 f
+  fails_later u m v (i ∷ is) js given fault (g, n, opens, rest, more, same) f = inr (g, n, opens, fails_later n m v is js rest fault more f)
+
+  -- both parts open
+  pub open_both : (u m v : S) (is js : List Input) (given others : List Given) → AllOpen o u is given m → AllOpen o m js others v → AllOpen o u (is ++ js) (given ++ others) v
+  open_both u m v [] js given others h k =
+      subst (λ gs. AllOpen o u js (gs ++ others) v) (sym h.0) (subst (λ s. AllOpen o s js others v) h.1 k)
+  open_both u m v (i ∷ is) js given others (g, n, opens, rest, more, same) k =
+      (g, n, opens, rest ++ others, open_both n m v is js rest others more k, ap (λ gs. gs ++ others) same)

@@ -1,0 +1,137 @@
+//! What commands read before their own work.
+
+ghost use Rattle.std.specs.Prelude.{◌≡◌, ◌<◌, ◌≤◌, List, [], ◌∷◌, ◌++◌, IfOk, IfErr};
+ghost use Rattle.net_check.specs.Network.{entry, network};
+ghost use Rattle.net_check.specs.Sound.{AreOfOneJob};
+ghost use Rattle.run_answers.specs.Inputs.{AllOpen, FirstFails, Given as GivenOf, Input, a_file, a_job, given_of, some_bytes};
+ghost use Rattle.run_answers.specs.Outside.{outside};
+ghost use Rattle.run_answers.specs.Runs.{InputShows};
+
+use crate::file::load_file;
+use crate::job::open_job;
+use net_check::Accepted;
+use run_answers::InputFault;
+use sn_edge::{Folder, Patterns};
+use std::alloc::Global;
+
+/// What a command reads.
+pub trait Source {
+    type Given: Drop;
+
+    /// The inputs, in order.
+    ghost inputs: { Self → List Input };
+
+    /// What they give.
+    ghost givens: { Self.Given → List GivenOf };
+
+    /// What is so of all that they give.
+    ghost keeps: { Self.Given → Type 0 };
+
+    /// Opens the inputs in order, up to the first that is refused.
+    fn open<F: Folder, P: Patterns>(
+        &self,
+        alloc: Global,
+        folder: &mut F,
+        patterns: &mut P,
+    ) -> Result<Self::Given, InputFault>
+        ensures faults_stay { F.faults folder.old ≤ F.faults folder.new }
+        ensures misses_stay { F.misses folder.old ≤ F.misses folder.new }
+        ensures excesses_stay { F.excesses folder.old ≤ F.excesses folder.new }
+        ensures files_kept { F.files folder.new ≡ F.files folder.old }
+        ensures matches_kept { P.matches patterns.new ≡ P.matches patterns.old }
+        ensures bad_kept { P.bad_patterns patterns.new ≡ P.bad_patterns patterns.old }
+        ensures refusals_stay { P.refusals patterns.old ≤ P.refusals patterns.new }
+        ensures opened { IfOk result (λ given. AllOpen (outside (F.files folder.old) P.matches P.bad_patterns P.refusals P.find_gives)
+            patterns.old (inputs self.now) (givens given) patterns.new) }
+        ensures kept { IfOk result keeps }
+        ensures fails { IfErr result (λ fault. FirstFails (outside (F.files folder.old) P.matches P.bad_patterns P.refusals P.find_gives)
+            patterns.old (inputs self.now) fault patterns.new) }
+        ensures shows { IfErr result (InputShows (F.faults folder.old < F.faults folder.new) (F.misses folder.old < F.misses folder.new)
+            (F.excesses folder.old < F.excesses folder.new) (P.refusals patterns.old < P.refusals patterns.new)) };
+}
+
+/// A job's file.
+#[derive(Clone, Copy)]
+pub struct JobFile<'a> {
+    pub name: &'a str,
+}
+
+/// A file of bytes, with the most that it may have.
+#[derive(Clone, Copy)]
+pub struct ByteFile<'a> {
+    pub name: &'a str,
+    pub limit: u64,
+}
+
+/// One source after another.
+#[derive(Clone, Copy)]
+pub struct Both<A, B> {
+    pub first: A,
+    pub second: B,
+}
+
+/// What two sources gave.
+#[derive(Drop)]
+pub struct Two<A: Drop, B: Drop> {
+    pub first: A,
+    pub second: B,
+}
+
+impl Source for JobFile<'_> {
+    type Given = Accepted;
+
+    ghost inputs = { λ s. a_job s.name.now ∷ [] };
+
+    ghost givens = { λ job. given_of job ∷ [] };
+
+    ghost keeps = { λ job. AreOfOneJob (network job.net) (entry job.injection) };
+
+    fn open<F: Folder, P: Patterns>(
+        &self,
+        alloc: Global,
+        folder: &mut F,
+        patterns: &mut P,
+    ) -> Result<Accepted, InputFault> {
+        open_job(alloc, self.name, folder, patterns)
+    }
+}
+
+impl Source for ByteFile<'_> {
+    type Given = Vec<u8>;
+
+    ghost inputs = { λ s. a_file s.limit s.name.now ∷ [] };
+
+    ghost givens = { λ bytes. some_bytes bytes.items ∷ [] };
+
+    ghost keeps = { λ _. Unit {0} };
+
+    fn open<F: Folder, P: Patterns>(
+        &self,
+        alloc: Global,
+        folder: &mut F,
+        _patterns: &mut P,
+    ) -> Result<Vec<u8>, InputFault> {
+        load_file(alloc, self.name, self.limit, folder)
+    }
+}
+
+impl<A: Source, B: Source> Source for Both<A, B> {
+    type Given = Two<A::Given, B::Given>;
+
+    ghost inputs = { λ s. A.inputs s.first ++ B.inputs s.second };
+
+    ghost givens = { λ given. A.givens given.first ++ B.givens given.second };
+
+    ghost keeps = { λ given. A.keeps given.first × B.keeps given.second };
+
+    fn open<F: Folder, P: Patterns>(
+        &self,
+        alloc: Global,
+        folder: &mut F,
+        patterns: &mut P,
+    ) -> Result<Two<A::Given, B::Given>, InputFault> {
+        let first = self.first.open(alloc, folder, patterns)?;
+        let second = self.second.open(alloc, folder, patterns)?;
+        Ok(Two { first, second })
+    }
+}

@@ -1,0 +1,11 @@
+use Rattle.run_answers.proofs.OnceLemmas.{all_exclude, all_once, first_once}
+use Rattle.run_answers.proofs.laws.worlds_decide.Goals as goal
+
+pub returns-clause-first : goal.returns-clause-first
+returns-clause-first c = first_once
+
+pub returns-clause-excludes : goal.returns-clause-excludes
+returns-clause-excludes c = all_exclude
+
+pub returns-clause-all : goal.returns-clause-all
+returns-clause-all c = all_once
