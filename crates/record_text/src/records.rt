@@ -126,7 +126,15 @@ pub(crate) fn write_record(
             end,
             fields,
             verdict,
-        } => write_path(alloc, out, net, Course { decisions, places }, end, fields, verdict),
+        } => write_path(
+            alloc,
+            out,
+            net,
+            Course { decisions, places },
+            end,
+            fields,
+            verdict,
+        ),
         Record::Pruned {
             decisions,
             before,
