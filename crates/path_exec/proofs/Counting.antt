@@ -1,5 +1,5 @@
 -- The count of steps beside the records and the tasks that stand for the whole.
-use Rattle.std.proofs.Common.{◌≡◌, ℕ, ◌+◌, ◌<◌, ◌≤◌, inl, inr, List, [], ◌∷◌, ◌++◌, refl, sym, ap, subst, ◌∙◌, arith, None}
+use Rattle.std.proofs.Common.{◌≡◌, ℕ, ◌+◌, ◌≤◌, inl, inr, List, [], ◌∷◌, ◌++◌, sym, ap, subst, ◌∙◌, arith, None}
 use Rattle.std.specs.List.{AllByRecursion}
 use Rattle.sefl_meaning.specs.declared.walk.Decision.{Decision}
 use Rattle.sefl_meaning.specs.Order.{Parts}
@@ -10,7 +10,7 @@ use Rattle.exact_records.specs.Laws.{StandingIsExact, StepsStand}
 use Rattle.exact_records.proofs.Lists.{all_append, split_last}
 use Rattle.path_exec.specs.Paying.{HasGrown, Holds, Paid, PaidBy, begun_before}
 use Rattle.path_exec.proofs.Ways.{last_at}
-use Rattle.path_exec.proofs.Spending.{not_snoc, paid_first, paid_made, paid_next, paid_opened}
+use Rattle.path_exec.proofs.Spending.{paid_first, paid_made, paid_next, paid_opened}
 
 -- each is behind one decision more
 abbrev pub AreBehind : List Decision → List Task → Type 0

@@ -1,8 +1,8 @@
 -- Records that a receiver was handed, and how an exploration ends.
-use Rattle.std.proofs.Common.{◌≡◌, ℕ, zero, suc, ◌+◌, ◌<◌, ◌≤◌, inl, inr, List, [], ◌∷◌, ◌++◌, length, map, refl, sym, ap, subst, ◌∙◌, append_assoc, length-append, arith, Option, Some, None, Result, Ok, Err}
+use Rattle.std.proofs.Common.{◌≡◌, ℕ, suc, ◌+◌, ◌<◌, ◌≤◌, List, [], ◌∷◌, ◌++◌, length, map, refl, sym, ap, subst, ◌∙◌, length-append, arith, Option, Some, None, Result, Ok, Err}
 use Rattle.std.specs.List.{AllByRecursion}
 use Rattle.exact_records.specs.Records.{RecordTree}
-use Rattle.exact_records.specs.Exact.{AreExact, IsTried}
+use Rattle.exact_records.specs.Exact.{IsTried}
 use Rattle.exact_records.specs.Spots.{IsPending, Stands, Task, first_spot, to_decide}
 use Rattle.exact_records.specs.Work.{work_of}
 use Rattle.exact_records.specs.Laws.{StandingIsExact, StepsStand}

@@ -1,24 +1,23 @@
 -- The arrivals of a run at a port, one after another.
-use Rattle.std.proofs.Common.{◌≡◌, ℕ, suc, ◌+◌, ◌-◌, ◌<◌, ◌⊎◌, inl, inr, List, [], ◌∷◌, ◌++◌, length, map, refl, sym, ap, subst, ◌∙◌, append_assoc, arith, Some, None}
+use Rattle.std.proofs.Common.{◌≡◌, ℕ, ◌+◌, inl, inr, List, [], ◌∷◌, ◌++◌, map, refl, sym, ap, subst, ◌∙◌, append_assoc, arith}
 use Rattle.lin_term.specs.Terms.{LinearTerm}
 use Rattle.sefl_meaning.specs.declared.walk.Decision.{Decision}
 use Rattle.sefl_meaning.specs.declared.walk.Place.{Place}
 use Rattle.sefl_meaning.specs.Carried.{Carried}
 use Rattle.sefl_meaning.specs.Courses.{Progress}
-use Rattle.sefl_meaning.specs.Trees.{arrives}
 use Rattle.exact_records.specs.Records.{SymTree}
-use Rattle.exact_records.specs.Spots.{IsAt, Spot, arrivals_of, first_spot}
+use Rattle.exact_records.specs.Spots.{Spot, arrivals_of, first_spot}
 use Rattle.exact_records.specs.Work.{at_last, begun_at}
 use Rattle.exact_records.proofs.Lists.{append_nil}
 use Rattle.path_exec.specs.declared.engine.Moved.{Moved}
 use Rattle.path_exec.specs.declared.engine.Moved.TheVariants.{Arrived, Stopped}
 use Rattle.path_exec.specs.declared.engine.Next.{Next}
 use Rattle.path_exec.specs.declared.engine.Next.TheVariants.{AtEnd, AtNode}
-use Rattle.path_exec.specs.Here.{EndsWith, Here, behind_last, spot_at}
+use Rattle.path_exec.specs.Here.{Here, behind_last, spot_at}
 use Rattle.path_exec.specs.Views.{Views}
-use Rattle.path_exec.specs.Moves.{Advances, IsMove, IsStop, Moves, Reaches}
-use Rattle.path_exec.specs.Following.{LeadsTo, StandsWith}
-use Rattle.path_exec.specs.Visiting.{AreVisits, ArrivesSo, IsNoted, IsVisit, LeadsBy, Visits}
+use Rattle.path_exec.specs.Moves.{IsMove, IsStop, Moves, Reaches}
+use Rattle.path_exec.specs.Following.{StandsWith}
+use Rattle.path_exec.specs.Visiting.{AreVisits, ArrivesSo, IsNoted, LeadsBy, Visits}
 use Rattle.path_exec.proofs.Ways.{IsUnderWay, ends_way, first_placed, goes_way, node_still, over_still, starts_way}
 use Rattle.path_exec.proofs.Spending.{last_same}
 use Rattle.path_exec.proofs.Guiding.{arrived_by, start_stands}

@@ -1,5 +1,5 @@
 -- The guided run, step by step.
-use Rattle.std.proofs.Common.{◌≡◌, ℕ, zero, suc, nat_lt, ◌+◌, ◌<◌, ◌≤◌, ◌⊎◌, inl, inr, Bool, true, false, List, [], ◌∷◌, ◌++◌, length, refl, sym, ap, subst, ◌∙◌, append_assoc, arith, Option, Some, None, option_map, if◌then◌else◌}
+use Rattle.std.proofs.Common.{◌≡◌, ℕ, zero, suc, nat_lt, ◌+◌, ◌<◌, inl, inr, Bool, true, false, List, [], ◌∷◌, ◌++◌, length, refl, sym, ap, subst, ◌∙◌, append_assoc, arith, Some, None, option_map, if◌then◌else◌}
 use Rattle.std.proofs.lemmas.Bool.Decides.{nat_tests}
 use Rattle.lin_term.specs.Terms.{LinearTerm}
 use Rattle.path_formula.specs.Formulas.{FormulaTree}
@@ -7,7 +7,7 @@ use Rattle.sefl_meaning.specs.declared.walk.Decision.{Decision}
 use Rattle.sefl_meaning.specs.declared.walk.Decision.TheVariants.{Then, Else, Pass, Broken, Copy}
 use Rattle.sefl_meaning.specs.declared.walk.Place.{Place}
 use Rattle.sefl_meaning.specs.Courses.{Asking, at_if, at_constrain, Progress}
-use Rattle.sefl_meaning.specs.Trees.{Tree, over, arrives, tests, splits, Copies, no_copies, copy_and}
+use Rattle.sefl_meaning.specs.Trees.{Tree, tests, splits, Copies, no_copies, copy_and}
 use Rattle.sefl_meaning.specs.Taken.{decision_at}
 use Rattle.sefl_meaning.specs.Routes.{Has, IsFirstClosed, behind, copy_route, offered_copies, offers, route, waiting}
 use Rattle.exact_records.specs.Records.{Leads, SymStart, SymTree}
@@ -21,9 +21,9 @@ use Rattle.path_exec.specs.declared.engine.Next.{Next}
 use Rattle.path_exec.specs.declared.engine.Next.TheVariants.{AtEnd, AtNode}
 use Rattle.path_exec.specs.Here.{Here, behind_last, spot_at, waiting_at}
 use Rattle.path_exec.specs.Views.{Views}
-use Rattle.path_exec.specs.Offers.{IsNode, IsOffered, IsOver, copied_by, copy_count, is_offered, next_by, next_spot}
+use Rattle.path_exec.specs.Offers.{IsNode, IsOffered, IsOver, copy_count, is_offered, next_by, next_spot}
 use Rattle.path_exec.specs.Moves.{Advances, ComesTo}
-use Rattle.path_exec.specs.Following.{IsKind, IsLed, IsTurned, LeadsTo, StandsWith, Turns, here_of, spot_of}
+use Rattle.path_exec.specs.Following.{IsLed, LeadsTo, StandsWith, Turns}
 use Rattle.path_exec.proofs.Ways.{begun_next, first_placed, placed}
 
 false_true : (b : Bool) → b ≡ false → b ≡ true → ⊥

@@ -1,8 +1,8 @@
 -- The work of records that are made one after another.
-use Rattle.std.proofs.Common.{◌≡◌, ℕ, zero, suc, ◌+◌, ◌-◌, ◌<◌, ◌≤◌, ◌==◌, ◌⊎◌, inl, inr, Bool, true, false, List, [], ◌∷◌, ◌++◌, refl, sym, ap, subst, ◌∙◌, append_assoc, arith, if◌then◌else◌}
+use Rattle.std.proofs.Common.{◌≡◌, ℕ, ◌+◌, ◌-◌, ◌<◌, ◌≤◌, ◌==◌, inl, inr, true, false, List, [], ◌∷◌, ◌++◌, sym, ap, ◌∙◌, arith, if◌then◌else◌}
 use Rattle.std.proofs.lemmas.Bool.Decides.{nat_tests}
 use Rattle.sefl_meaning.specs.declared.walk.Decision.{Decision}
-use Rattle.sefl_meaning.specs.Order.{BeginsWith, Parts, rank}
+use Rattle.sefl_meaning.specs.Order.{Parts, rank}
 use Rattle.exact_records.specs.Records.{RecordTree, decisions_of}
 use Rattle.exact_records.specs.Work.{common, count_of, work_after, work_by}
 use Rattle.exact_records.proofs.Lists.{last_of, same_first, same_rest}

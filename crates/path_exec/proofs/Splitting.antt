@@ -1,13 +1,12 @@
 -- Each split on the way has a copy.
-use Rattle.std.proofs.Common.{◌≡◌, ℕ, zero, suc, Bool, true, false, List, [], ◌∷◌, ◌++◌, refl, sym, ap, subst, ◌∙◌, Option, Some, None, option_map}
+use Rattle.std.proofs.Common.{ℕ, zero, suc, Bool, true, false, List, [], ◌∷◌, ◌++◌, subst, Option, Some, None, option_map}
 use Rattle.sefl_meaning.specs.declared.walk.Decision.{Decision}
 use Rattle.sefl_meaning.specs.declared.walk.Place.{Place}
-use Rattle.sefl_meaning.specs.Courses.{Asking, Progress}
+use Rattle.sefl_meaning.specs.Courses.{Progress}
 use Rattle.sefl_meaning.specs.Trees.{Tree, over, arrives, tests, splits, Copies, no_copies, copy_and}
-use Rattle.sefl_meaning.specs.Routes.{EachSplits, Route, Splits, arriving, behind, by_number, by_truth, copy_route, number_of, route, taking, truth_of, waiting}
+use Rattle.sefl_meaning.specs.Routes.{EachSplits, Route, Splits, arriving, behind, by_number, by_truth, copy_route, number_of, route, taking, truth_of}
 use Rattle.exact_records.specs.Records.{SymStart}
 use Rattle.exact_records.specs.Spots.{IsAt, Spot, node_of}
-use Rattle.exact_records.proofs.Lists.{append_nil}
 
 module _ {V F : Type 0} where
   -- what is left of a route, if there is one, has the property

@@ -1,5 +1,5 @@
 -- What each step of the exploration keeps.
-use Rattle.std.proofs.Common.{◌≡◌, ℕ, zero, suc, ◌+◌, ◌<◌, ◌≤◌, inl, inr, List, [], ◌∷◌, ◌++◌, length, refl, sym, ap, subst, ◌∙◌, append_assoc, arith, Option, Some, None}
+use Rattle.std.proofs.Common.{◌≡◌, ℕ, suc, ◌+◌, ◌<◌, ◌≤◌, List, [], ◌∷◌, ◌++◌, length, refl, sym, ap, subst, ◌∙◌, arith, Option, Some, None}
 use Rattle.std.specs.List.{AllByRecursion}
 use Rattle.lin_term.specs.Terms.{LinearTerm}
 use Rattle.path_formula.specs.Formulas.{FormulaTree}
@@ -8,14 +8,14 @@ use Rattle.refutation_check.specs.declared.outcome.Verdict.{Verdict}
 use Rattle.refutation_check.specs.declared.steps.Refute.{Refute}
 use Rattle.sefl_meaning.specs.declared.walk.Decision.{Decision}
 use Rattle.sefl_meaning.specs.declared.walk.Decision.TheVariants.{Then, Else, Pass, Broken, Copy}
-use Rattle.sefl_meaning.specs.Courses.{Asking, at_if, at_constrain, Progress}
+use Rattle.sefl_meaning.specs.Courses.{at_if, at_constrain, Progress}
 use Rattle.sefl_meaning.specs.Trees.{Tree, over, arrives, tests, splits, Copies, no_copies, copy_and}
 use Rattle.sefl_meaning.specs.Routes.{Splits}
 use Rattle.sefl_meaning.specs.Fields.{fields_of}
 use Rattle.exact_records.specs.Records.{IsRefutedBy, IsVerdictOn, RecordTree, SymStart, SymTree, decisions_of, path, pruned}
 use Rattle.exact_records.specs.Exact.{IsTried}
-use Rattle.exact_records.specs.Spots.{Arrives, IsAt, IsKnown, IsPending, Known, Spot, Stands, Task, condition_at, copy_tasks, decided, filled_verdict, first_spot, node_of, side_tasks, to_decide}
-use Rattle.exact_records.specs.Work.{at_last, begun_at, count_of, work_of}
+use Rattle.exact_records.specs.Spots.{Arrives, IsAt, IsKnown, IsPending, Known, Spot, Stands, Task, condition_at, copy_tasks, decided, filled_verdict, first_spot, node_of, to_decide}
+use Rattle.exact_records.specs.Work.{at_last, begun_at, count_of}
 use Rattle.exact_records.specs.Laws.{StandingIsExact, StepsStand, VerdictsStay}
 use Rattle.exact_records.proofs.Lists.{append_nil}
 use Rattle.path_exec.specs.declared.engine.Offer.{Offer}
@@ -24,13 +24,13 @@ use Rattle.path_exec.specs.declared.engine.Next.TheVariants.{AtEnd, AtNode}
 use Rattle.path_exec.specs.declared.opening.Work.{Work}
 use Rattle.path_exec.specs.Here.{Here, behind_last, spot_at, waiting_at}
 use Rattle.path_exec.specs.Views.{IsMade, Views}
-use Rattle.path_exec.specs.Offers.{IsNode, copy_count, known_behind, next_spot, offer_at, offer_count, skip, tasks_by, tasks_left}
+use Rattle.path_exec.specs.Offers.{IsNode, copy_count, known_behind, offer_at, offer_count, skip, tasks_by}
 use Rattle.path_exec.specs.Moves.{Advances, ComesTo}
-use Rattle.path_exec.specs.Trials.{IsOpenAt, IsPathOf}
+use Rattle.path_exec.specs.Trials.{IsPathOf}
 use Rattle.path_exec.specs.Works.{AreWorks, IsFork, IsFound, IsPut, IsWork, all_tasks, tasks_of}
 use Rattle.path_exec.specs.Paying.{Holds, begun_before}
-use Rattle.path_exec.specs.Keeping.{Keeps, made_of, weight, weight_of, weights}
-use Rattle.path_exec.proofs.Ways.{begun_next, last_at}
+use Rattle.path_exec.specs.Keeping.{Keeps, weight, weight_of, weights}
+use Rattle.path_exec.proofs.Ways.{begun_next}
 use Rattle.path_exec.proofs.Splitting.{splits_there}
 use Rattle.path_exec.proofs.Taking.{next_of, next_taken, put_back_works, put_tasks, put_works, split_tasks}
 use Rattle.path_exec.proofs.Counting.{AreBehind, IsPaidFor, holds_decided, holds_made, holds_opened}

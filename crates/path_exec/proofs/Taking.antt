@@ -1,23 +1,22 @@
 -- The tasks of a node, and the next of them.
-use Rattle.std.proofs.Common.{◌≡◌, ℕ, zero, suc, ◌+◌, ◌<◌, ◌≤◌, ◌⊎◌, inl, inr, Bool, true, false, List, [], ◌∷◌, ◌++◌, length, reverse, refl, sym, ap, subst, ◌∙◌, arith, Option, Some, None, option_map}
+use Rattle.std.proofs.Common.{◌≡◌, ℕ, zero, suc, ◌+◌, ◌<◌, ◌≤◌, inl, inr, true, false, List, [], ◌∷◌, ◌++◌, reverse, refl, sym, ap, subst, ◌∙◌, arith, Some, option_map}
 use Rattle.std.specs.List.{AllByRecursion, flat_map}
 use Rattle.std.proofs.lemmas.List.{reverse-append}
 use Rattle.lin_term.specs.Terms.{LinearTerm}
 use Rattle.path_formula.specs.Formulas.{FormulaTree}
 use Rattle.refutation_check.specs.declared.outcome.Verdict.{Verdict}
 use Rattle.sefl_meaning.specs.declared.walk.Decision.{Decision}
-use Rattle.sefl_meaning.specs.declared.walk.Decision.TheVariants.{Copy}
-use Rattle.sefl_meaning.specs.Courses.{Asking, at_if, at_constrain, Progress}
-use Rattle.sefl_meaning.specs.Trees.{over, tests, splits, Copies, no_copies, copy_and}
+use Rattle.sefl_meaning.specs.Courses.{at_if, at_constrain, Progress}
+use Rattle.sefl_meaning.specs.Trees.{tests, splits, Copies, no_copies, copy_and}
 use Rattle.exact_records.specs.Records.{SymTree}
-use Rattle.exact_records.specs.Spots.{Spot, Task, decided, copied, copy_at, copy_tasks, side_tasks, sided}
+use Rattle.exact_records.specs.Spots.{Spot, Task, decided, copied, copy_at, copy_tasks, sided}
 use Rattle.path_exec.specs.declared.engine.Offer.{Offer}
 use Rattle.path_exec.specs.declared.engine.Offer.TheVariants.{If, Constrain, Fork}
 use Rattle.path_exec.specs.declared.opening.Work.{Work}
 use Rattle.exact_records.specs.Work.{begun_at}
 use Rattle.path_exec.specs.Here.{behind_last, spot_at, waiting_at}
 use Rattle.path_exec.specs.Views.{Views}
-use Rattle.path_exec.specs.Offers.{IsNode, IsOffered, copied_by, copy_count, known_behind, next_by, next_spot, offer_at, offer_count, skip, tasks_by, tasks_left}
+use Rattle.path_exec.specs.Offers.{IsNode, IsOffered, copy_count, known_behind, next_by, next_spot, offer_at, offer_count, skip, tasks_by, tasks_left}
 use Rattle.path_exec.specs.Works.{AreWorks, IsFound, IsPut, IsWork, all_tasks, tasks_of}
 use Rattle.path_exec.proofs.Ways.{placed}
 

@@ -4,12 +4,12 @@ use Rattle.lin_term.specs.Terms.{LinearTerm}
 use Rattle.sefl_meaning.specs.declared.walk.Decision.{Decision}
 use Rattle.sefl_meaning.specs.declared.walk.Place.{Place}
 use Rattle.sefl_meaning.specs.Carried.{Carried}
-use Rattle.sefl_meaning.specs.Courses.{Asking, at_if, at_constrain, Progress}
+use Rattle.sefl_meaning.specs.Courses.{Progress}
 use Rattle.sefl_meaning.specs.Trees.{Tree, over, arrives, tests, splits}
 use Rattle.sefl_meaning.specs.Routes.{Route, arriving, behind, route}
 use Rattle.sefl_meaning.specs.Start.{progress_of}
 use Rattle.exact_records.specs.Records.{SymStart, SymTree}
-use Rattle.exact_records.specs.Spots.{Arrives, IsAt, Spot, first_spot, node_of, places_of}
+use Rattle.exact_records.specs.Spots.{IsAt, Spot, first_spot, node_of, places_of}
 use Rattle.exact_records.specs.Work.{at_last, begun_at, begun_on, without_last}
 use Rattle.exact_records.proofs.Lists.{append_nil}
 use Rattle.path_exec.specs.declared.engine.Moved.{Moved}
@@ -18,10 +18,10 @@ use Rattle.path_exec.specs.declared.engine.Next.{Next}
 use Rattle.path_exec.specs.declared.engine.Next.TheVariants.{AtEnd, AtNode}
 use Rattle.path_exec.specs.declared.engine.Offer.{Offer}
 use Rattle.path_exec.specs.declared.engine.Offer.TheVariants.{If, Constrain, Fork}
-use Rattle.path_exec.specs.Here.{Here, behind_last, spot_at, waiting_at}
+use Rattle.path_exec.specs.Here.{Here, behind_last, spot_at}
 use Rattle.path_exec.specs.Views.{Views}
-use Rattle.path_exec.specs.Offers.{IsAsking, IsNode, IsOver, IsSplit}
-use Rattle.path_exec.specs.Moves.{Advances, ComesTo, GoesOn, IsMove, IsNext, IsStop, Moves, Reaches, StopsAt}
+use Rattle.path_exec.specs.Offers.{IsNode, IsOver}
+use Rattle.path_exec.specs.Moves.{Advances, ComesTo, IsMove, IsNext, IsStop, Moves, Reaches, StopsAt}
 use Rattle.path_exec.specs.Keeping.{weight}
 
 -- ---- how many have begun

@@ -1,5 +1,5 @@
 -- The run that decisions guide.
-use Rattle.std.specs.Prelude.{ℕ, ◌≡◌, List, [], ◌∷◌, ◌++◌, Result, Ok, Err, Option, None, Some}
+use Rattle.std.specs.Prelude.{◌≡◌, List, [], ◌∷◌, ◌++◌, Result, Ok, Err, Option, None, Some}
 use Rattle.lin_term.specs.Terms.{LinearTerm}
 use Rattle.sefl_meaning.specs.declared.walk.Decision.{Decision}
 use Rattle.sefl_meaning.specs.declared.walk.Place.{Place}
@@ -10,7 +10,6 @@ use Rattle.exact_records.specs.Records.{SymRoute, SymStart}
 use Rattle.exact_records.specs.Spots.{IsAt, Spot}
 use Rattle.path_exec.specs.declared.engine.Next.{Next}
 use Rattle.path_exec.specs.declared.engine.Next.TheVariants.{AtEnd, AtNode}
-use Rattle.path_exec.specs.declared.engine.Offer.{Offer}
 use Rattle.path_exec.specs.declared.guided.FollowFault.{FollowFault}
 use Rattle.path_exec.specs.declared.guided.FollowFault.TheVariants.{Impossible, NoMemory}
 use Rattle.path_exec.specs.Here.{Here, behind_last, waiting_at}

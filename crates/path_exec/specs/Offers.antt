@@ -7,7 +7,7 @@ use Rattle.sefl_meaning.specs.declared.walk.Decision.{Decision}
 use Rattle.sefl_meaning.specs.declared.walk.Decision.TheVariants.{Then, Else, Pass, Broken, Copy}
 use Rattle.sefl_meaning.specs.declared.walk.End.{End}
 use Rattle.sefl_meaning.specs.Courses.{Asking, at_if, at_constrain, Progress}
-use Rattle.sefl_meaning.specs.Trees.{Tree, over, arrives, tests, splits, Copies, no_copies, copy_and}
+use Rattle.sefl_meaning.specs.Trees.{over, arrives, tests, splits, Copies, no_copies, copy_and}
 use Rattle.sefl_meaning.specs.Routes.{number_of, truth_of}
 use Rattle.exact_records.specs.Records.{SymTree}
 use Rattle.exact_records.specs.Spots.{Known, decided, to_decide, Spot, Task, copied, copy_at, copy_tasks, side_tasks, sided}

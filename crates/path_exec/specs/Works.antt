@@ -1,5 +1,5 @@
 -- The stack of nodes that are left, as tasks.
-use Rattle.std.specs.Prelude.{ℕ, suc, ◌≡◌, ◌<◌, ◌≤◌, ◌⊎◌, List, [], ◌∷◌, ◌++◌, reverse}
+use Rattle.std.specs.Prelude.{◌≡◌, ◌<◌, ◌≤◌, ◌⊎◌, List, [], ◌∷◌, ◌++◌, reverse}
 use Rattle.std.specs.List.{AllByRecursion, flat_map}
 use Rattle.exact_records.specs.Spots.{IsKnown, Task, condition_at}
 use Rattle.path_exec.specs.declared.engine.Offer.{Offer}

@@ -1,4 +1,4 @@
-use Rattle.std.proofs.Common.{rules, arith, refl, subst, sym, ap, ◌≡◌, ◌≤◌, [], Some, None, Ok}
+use Rattle.std.proofs.Common.{rules, arith, subst, ap, ◌≡◌, [], Ok}
 use Rattle.std.proofs.lemmas.List.{nil_from_length}
 use Rattle.std.proofs.lemmas.Bool.Decides.{nat_tests}
 use Rattle.sn_width.specs.declared.memory.NoMemory.{NoMemory}

@@ -1,4 +1,4 @@
-use Rattle.std.proofs.Common.{rules, arith, refl, subst, sym, ap, ◌≡◌, ◌++◌, ◌∷◌, [], ◌∙◌}
+use Rattle.std.proofs.Common.{rules, arith, subst, ◌≡◌, ◌++◌, ◌∷◌, []}
 use Rattle.exact_records.specs.Records.{unexplored}
 use Rattle.path_exec.specs.Views.{IsMade}
 use Rattle.path_exec.proofs.Taking.{popped_works, put_back_works}

@@ -1,8 +1,7 @@
-use Rattle.std.proofs.Common.{rules, arith, refl, subst, sym, ◌≡◌, ◌++◌, ◌∷◌, [], Some, None}
+use Rattle.std.proofs.Common.{rules, arith, refl, ◌≡◌, ◌++◌, ◌∷◌, []}
 use Rattle.path_exec.specs.Works.{tasks_of}
-use Rattle.path_exec.specs.Keeping.{Keeps}
 use Rattle.path_exec.proofs.Taking.{popped_works}
-use Rattle.path_exec.proofs.Endings.{made_own, runs_early, runs_made, runs_on, runs_pend, runs_popped, runs_stopped, runs_whole, same_then, step_falls, takes_still}
+use Rattle.path_exec.proofs.Endings.{made_own, runs_early, runs_made, runs_on, runs_pend, runs_popped, runs_stopped, runs_whole, same_then, takes_still}
 use Rattle.path_exec.proofs.exploration.run.Goals as goal
 
 pub take_next-requires-clause-work : goal.take_next-requires-clause-work

@@ -1,7 +1,5 @@
-use Rattle.std.proofs.Common.{rules, arith, refl, subst, sym, ap, ◌≡◌, ◌++◌, ◌∷◌, [], Some, None}
+use Rattle.std.proofs.Common.{rules, arith, refl, ◌∷◌, [], None}
 use Rattle.exact_records.specs.Spots.{first_spot, to_decide}
-use Rattle.path_exec.specs.Works.{AreWorks, all_tasks}
-use Rattle.path_exec.specs.Keeping.{Keeps, Runs}
 use Rattle.path_exec.proofs.Endings.{begun_runs, begun_works, made_own, runs_early, runs_made, runs_on, runs_stopped}
 use Rattle.path_exec.proofs.exploration.start.Goals as goal
 

@@ -1,9 +1,8 @@
-use Rattle.std.proofs.Common.{rules, ap, refl, subst, sym, ◌∙◌, ◌≡◌}
+use Rattle.std.proofs.Common.{rules, ap, subst, sym, ◌≡◌}
 use Rattle.std.proofs.lemmas.Result.{IfOk-weaker}
-use Rattle.exact_records.specs.Spots.{IsKnown, condition_at, decided}
+use Rattle.exact_records.specs.Spots.{IsKnown, condition_at}
 use Rattle.path_exec.specs.Here.{behind_last, spot_at}
-use Rattle.path_exec.specs.Keeping.{Keeps}
-use Rattle.path_exec.proofs.Taking.{next_of, offered_next, placed_next, there_next}
+use Rattle.path_exec.proofs.Taking.{offered_next, placed_next, there_next}
 use Rattle.path_exec.proofs.Steps.{copy_opened, copy_stays, keeps_open}
 use Rattle.path_exec.proofs.opening.take_copy.Goals as goal
 

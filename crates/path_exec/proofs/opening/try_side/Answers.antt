@@ -1,11 +1,10 @@
-use Rattle.std.proofs.Common.{ap, refl, subst, sym, ◌∙◌, ◌≡◌, ◌++◌, ◌∷◌, [], length, Some}
+use Rattle.std.proofs.Common.{subst, sym, ◌++◌, ◌∷◌, [], length, Some}
 use Rattle.std.proofs.lemmas.Result.{IfOk-weaker}
 use Rattle.exact_records.specs.Records.{IsVerdictOn, pruned}
-use Rattle.exact_records.specs.Spots.{IsKnown, condition_at, decided, filled_verdict}
+use Rattle.exact_records.specs.Spots.{IsKnown, condition_at, filled_verdict}
 use Rattle.exact_records.specs.Work.{begun_at}
-use Rattle.path_exec.specs.Here.{behind_last, spot_at, waiting_at}
+use Rattle.path_exec.specs.Here.{behind_last, waiting_at}
 use Rattle.path_exec.specs.Trials.{IsTrial}
-use Rattle.path_exec.specs.Keeping.{Keeps}
 use Rattle.path_exec.specs.Views.{IsMade}
 use Rattle.path_exec.proofs.Taking.{next_of, offered_next, placed_next, there_next}
 use Rattle.path_exec.proofs.Steps.{decides_side, keeps_open, keeps_pruned, side_opened}

@@ -1,4 +1,4 @@
-use Rattle.std.proofs.Common.{◌+◌, arith, refl, sym, ap, subst, ◌∙◌, ◌≡◌, ◌++◌, ◌∷◌, take, drop, get_or, suc, drop-cons, None, Some, []}
+use Rattle.std.proofs.Common.{◌+◌, arith, refl, sym, ap, subst, ◌∙◌, ◌≡◌, ◌++◌, ◌∷◌, take, drop, get_or, suc, drop-cons, []}
 use Rattle.std.proofs.Math.Seq.{take-suc}
 use Rattle.std.proofs.lemmas.List.{take-append-drop, length-take-le}
 use Rattle.sefl_meaning.specs.declared.walk.Decision.TheVariants.{Then}
@@ -6,7 +6,7 @@ use Rattle.exact_records.specs.Spots.{Spot}
 use Rattle.path_exec.specs.Following.{Turns}
 use Rattle.path_exec.specs.Visiting.{AreVisits, LeadsBy}
 use Rattle.path_exec.proofs.Guiding.{impossible_at}
-use Rattle.path_exec.proofs.Gathering.{arrives_so, leads_by, starts_with}
+use Rattle.path_exec.proofs.Gathering.{leads_by, starts_with}
 use Rattle.path_exec.proofs.visits.arrivals.Goals as goal
 
 pub turn-requires : goal.turn-requires
