@@ -1,0 +1,13 @@
+//! Laws of walks. Each is the contract of a function that does nothing.
+
+ghost use Rattle.std.specs.Prelude.{◌≡◌, ℕ, List, Option};
+ghost use Rattle.net_check.specs.Network.{Entry, Network};
+ghost use Rattle.run_answers.specs.Runs.{Outcome};
+ghost use Rattle.walk_command.specs.Walks.{WalksOf};
+
+/// What `walk` comes to of a packet's numbers is one thing: a text, or one refusal.
+#[tactic(auto, using(crate::proofs::OnceLemmas::walks_once))]
+pub fn walks_have_one_outcome()
+    ensures { (hops limit : ℕ) (net : Network) (i : Entry) (numbers : Option (List ℕ)) (a b : Outcome)
+        → WalksOf hops limit net i numbers a → WalksOf hops limit net i numbers b → a ≡ b }
+{}

@@ -1,0 +1,79 @@
+//! The command `walk`.
+
+ghost use Rattle.std.specs.Prelude.{◌≡◌, Some, IfOk, IfErr, string_bytes};
+ghost use Rattle.net_check.specs.Network.{entry, network};
+ghost use Rattle.net_check.specs.Sound.{AreOfOneJob};
+ghost use Rattle.packet_file.specs.Packet.{packet_of};
+ghost use Rattle.walk_command.specs.Walks.{IsNoPacket, IsWalkRefusal, IsWalksText, WalkComes};
+
+use crate::fault::fault_of_walk;
+use command_runs::OnePiece;
+use concrete_run::walk_all;
+use job_files::{Both, ByteFile, JobFile, Two};
+use net_check::Accepted;
+use packet_file::{PacketFault, read_packet};
+use run_answers::{Ending, OwnFault};
+use sn_width::Num;
+use std::alloc::Global;
+use walk_text::walks_text;
+
+/// All walks of the packet of one file through the job of the other, with so many hops; refused where they are more than
+/// the limit.
+#[derive(Clone, Copy)]
+pub struct Walk<'a> {
+    pub source: Both<JobFile<'a>, ByteFile<'a>>,
+    pub hops: u32,
+    pub limit: u32,
+}
+
+/// The numbers that the bytes of a packet's file spell.
+fn numbers_of(alloc: Global, bytes: &[u8]) -> Result<Vec<Num>, OwnFault>
+    ensures numbers { IfOk result (λ values. packet_of bytes.now ≡ Some values.items) }
+    ensures refused { IfErr result (IsNoPacket bytes.now) }
+{
+    match read_packet(alloc, bytes) {
+        Ok(values) => Ok(values),
+        Err(PacketFault::NotNumbers) => Err(OwnFault::BadPacket { kind: 4 }),
+        Err(PacketFault::NoMemory) => Err(OwnFault::NoMemory),
+    }
+}
+
+/// The text of the walks of a packet with these numbers.
+fn text_of_walks(
+    alloc: Global,
+    job: &Accepted,
+    values: &[Num],
+    hops: u32,
+    limit: u32,
+) -> Result<String, OwnFault>
+    requires { AreOfOneJob (network job.now.net) (entry job.now.injection) }
+    ensures text { IfOk result (λ text. IsWalksText hops limit (network job.now.net) (entry job.now.injection) values.now (string_bytes text)) }
+    ensures refused { IfErr result (IsWalkRefusal hops limit (network job.now.net) (entry job.now.injection) values.now) }
+{
+    match walk_all(alloc, &job.net, &job.injection, values, hops, limit) {
+        Ok(walks) => Ok(walks_text(alloc, &job.net, &walks)?),
+        Err(fault) => Err(fault_of_walk(fault)),
+    }
+}
+
+impl<'a> OnePiece for Walk<'a> {
+    type From = Both<JobFile<'a>, ByteFile<'a>>;
+
+    ghost source = { λ w. w.source };
+
+    ghost comes = { λ w. WalkComes w.hops w.limit };
+
+    fn source(&self) -> &Both<JobFile<'a>, ByteFile<'a>> {
+        &self.source
+    }
+
+    fn text(
+        &self,
+        alloc: Global,
+        given: Two<Accepted, Vec<u8>>,
+    ) -> Result<(Ending, String), OwnFault> {
+        let values = numbers_of(alloc, &given.second)?;
+        let text = text_of_walks(alloc, &given.first, &values, self.hops, self.limit)?;
+        Ok((Ending::Done, text))
+    }
+}
