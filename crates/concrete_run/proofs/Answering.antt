@@ -81,6 +81,18 @@ module _ (o : Values ℕ Bool) (net : Network) (node : NodeId) where
             ∙ way.1,
       )
 
+  -- up to a question, and at its answer
+  pub asked : (cur : Values ℕ Bool) (ds now new : List Decision) (move : Move Bool) (question : Question) (test : Bool) (found : Option Exit) (old mid left : List Frame) (s t : Carried ℕ) (k l : List ℕ) (n m : ℕ) (whole : Ran)
+      → cur ≡ o → now ≡ ds
+      → GoesOn n m (from (course_frames cur net node old) s k) (from (course_after cur net node (λ (t : Bool). t) move mid) t l)
+      → Way ds (course_frames o net node old) s k whole
+      → move ≡ Asked question test → new ≡ now ++ decision_at (asking_of question) test ∷ []
+      → ((p : Progress ℕ) → course_left o net node found left p ≡ course_behind o net node question test mid p)
+      → Way new (course_left o net node found left) t l whole
+  asked cur ds now new move question test found old mid left s t k l n m whole kept same on way is notes c =
+      answered now new question test mid left found t l whole notes c
+      (subst (λ (x : Move Bool). Way now (at_move x mid) t l whole) is (stepped cur ds now move old mid s t k l n m whole kept same on way))
+
   -- where the answer ends it
   pub left_ended : (ds : List Decision) (exit : Exit) (frames : List Frame) (s : Carried ℕ) (k : List ℕ) (whole : Ran)
       → Way ds (course_left o net node (Some exit) frames) s k whole → EndsAs ds s k exit whole
