@@ -13,6 +13,9 @@ returns-clause-run g c =
     let old = c.args.packet.now in
     let first : c.in_ok-first.first ≡ suc (code_of net c.args.node c.args.side c.args.port).0 = omega (arith, c.in_ok-first.ensures, c.code_site-site.ensures) in
     IfOk-weaker c.run_code.result _ _
-    (λ exit runs. (runs.0, runs.1
-    ∙ (λ i. noting old.decisions.items (run_code old.numbers.numbers.now old.numbers.unknowns (scene_at net c.args.node) (first i) (c.code_of-code.ensures i) (progress_of old)))))
+    (λ exit runs. (
+      runs.0,
+      runs.1
+          ∙ (λ i. noting old.decisions.items (run_code old.numbers.numbers.now old.numbers.unknowns (scene_at net c.args.node) (first i) (c.code_of-code.ensures i) (progress_of old))),
+    ))
     c.run_code.ensures.run
