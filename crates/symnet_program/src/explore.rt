@@ -12,12 +12,12 @@ use crate::open::open_job;
 use crate::report::report_pieces;
 use crate::status::Status;
 use crate::write::put_pieces;
-use thin_paths::sides;
 use sefl_syntax::Thin;
 use sn_edge::{Folder, Patterns, Put, Sink};
 use sn_width::Num;
 use std::alloc::Global;
 use thin_jobs::laws::spelled_jobs_are_sound;
+use thin_paths::sides;
 
 /// A thin job with the least value on each side of its test.
 #[derive(Drop)]
