@@ -10,7 +10,7 @@ use Rattle.code_frames.specs.declared.frame.Move.{Move}
 use Rattle.code_frames.specs.declared.frame.Move.TheVariants as moves
 use Rattle.code_frames.specs.declared.instrs.Done.{Done}
 use Rattle.code_frames.specs.declared.instrs.Done.TheVariants.{On, Runs, Go, Forked, Failed, Asked}
-use Rattle.code_frames.specs.Frames.{Part, asking_of, branch_of, course_after, course_frames, of_frame}
+use Rattle.code_frames.specs.Frames.{Part, WaitsFor, asking_of, branch_of, course_after, course_frames, of_frame}
 use Rattle.code_frames.specs.Weights.{frame_weight, question_weight}
 
 module _ {V F T : Type 0} (o : Values V F) (net : Network) (node : NodeId) (truth : T → F) where
@@ -27,6 +27,20 @@ module _ {V F T : Type 0} (o : Values V F) (net : Network) (node : NodeId) (trut
   abbrev pub course_on : Option (Move T) → List Frame → Part V F
   course_on None frames p = course_frames o net node frames p
   course_on (Some move) frames p = course_after o net node truth move frames p
+
+module _ {T : Type 0} where
+  -- a test that it asks has the property
+  abbrev pub AsksFor : (T → Type 0) → Done T → Type 0
+  AsksFor Fit On = Unit {0}
+  AsksFor Fit (Runs frame) = Unit {0}
+  AsksFor Fit (Go port) = Unit {0}
+  AsksFor Fit (Forked ports) = Unit {0}
+  AsksFor Fit (Failed failure site) = Unit {0}
+  AsksFor Fit (Asked question test) = Fit test
+
+  abbrev pub WaitsIfFor : (T → Type 0) → Option (Move T) → Type 0
+  WaitsIfFor Fit None = Unit {0}
+  WaitsIfFor Fit (Some move) = WaitsFor Fit move
 
 module _ {T : Type 0} (net : Network) where
   -- of what it puts on the frames, or may put there

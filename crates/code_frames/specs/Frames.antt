@@ -84,6 +84,11 @@ module _ {V F : Type 0} (o : Values V F) (net : Network) (node : NodeId) where
   course_left None frames p = course_frames frames p
   course_left (Some exit) frames p = ends p (exit_of exit)
 
+-- where the run waits, its test has the property
+abbrev pub WaitsFor : {T : Type 0} → (T → Type 0) → Move T → Type 0
+WaitsFor Fit (Ended exit) = Unit {0}
+WaitsFor Fit (Asked question test) = Fit test
+
 -- from what is carried on, where so many instructions have begun
 abbrev pub from : {V F : Type 0} → Part V F → Carried V → List ℕ → ℕ → Course V F
 from part s choices begun = part (progress_at s choices begun)

@@ -7,7 +7,7 @@ ghost use Rattle.net_check.specs.Network.{Network, network};
 ghost use Rattle.sefl_meaning.specs.Courses.{course_in};
 ghost use Rattle.sefl_meaning.specs.declared.walk.Failure.TheVariants.{Layout as LayoutFailure};
 ghost use Rattle.code_frames.specs.declared.instrs.Done.TheVariants.{Failed as FailedAt};
-ghost use Rattle.code_frames.specs.Doing.{course_of, done_weight};
+ghost use Rattle.code_frames.specs.Doing.{AsksFor, course_of, done_weight};
 ghost use Rattle.code_frames.specs.Frames.{progress_at, scene_in};
 ghost use Rattle.code_frames.specs.Steps.{is_step};
 ghost use Rattle.code_frames.specs.Weights.{code_weight, instr_weight};
@@ -54,6 +54,7 @@ pub(crate) fn run_instr<'a, M: Machine, L: Ledger>(
     ensures counted { OnOk result (steps.new ≡ steps.old + 1) }
     ensures kept { OnOk result (M.values machine.new ≡ M.values machine.old) }
     ensures rest { OnOk result (M.rest machine.new ≡ M.rest machine.old) }
+    ensures fit { IfOk result (AsksFor (M.IsFit machine.new)) }
     ensures weight { IfOk result (λ done. done_weight (network net.now) done < instr_weight (network net.now) (instr_tree instr.now)) }
 {
     match instr {
@@ -119,6 +120,7 @@ fn take<'a, M: Machine, L: Ledger>(
     ensures counted { steps.new ≡ steps.old + 1 }
     ensures kept { M.values machine.new ≡ M.values machine.old }
     ensures rest { M.rest machine.new ≡ M.rest machine.old }
+    ensures fit { IfOk result (AsksFor (M.IsFit machine.new)) }
     ensures weight { IfOk result (λ done. (at : Network) → done_weight at done ≡ 0) }
 {
     let at = Scene {
@@ -157,6 +159,7 @@ fn ask<'a, M: Machine, L: Ledger>(
         ≡ course_in (M.values machine.now) (scene_in (network net.now) node turns) site (constrain (cond_tree test.now))
         (progress_at (M.carried machine.now) (M.choices machine.now) begun)) }
     ensures counted { steps.new ≡ steps.old + 1 }
+    ensures fit { IfOk result (AsksFor (M.IsFit machine.now)) }
     ensures weight { IfOk result (λ done. (at : Network) → done_weight at done ≡ 0) }
 {
     let at = Scene {
@@ -192,6 +195,7 @@ fn branch<'a, M: Machine, L: Ledger>(
         ≡ course_in (M.values machine.now) (scene_in (network net.now) node turns) site (branch (cond_tree test.now) (code_tree first.now) (code_tree other.now))
         (progress_at (M.carried machine.now) (M.choices machine.now) begun)) }
     ensures counted { steps.new ≡ steps.old + 1 }
+    ensures fit { IfOk result (AsksFor (M.IsFit machine.now)) }
     ensures weight { IfOk result (λ done. (at : Network) → done_weight at done ≤ code_weight at (code_tree first.now) + code_weight at (code_tree other.now)) }
 {
     let at = Scene {
@@ -232,6 +236,7 @@ fn each<'a, M: Machine, L: Ledger>(
         ≡ course_in (M.values machine.now) (scene_in (network net.now) node turns) site (each var.now pattern.now (code_tree body.now))
         (progress_at (M.carried machine.now) (M.choices machine.now) begun)) }
     ensures counted { OnOk result (steps.new ≡ steps.old + 1) }
+    ensures fit { IfOk result (AsksFor (M.IsFit machine.now)) }
     ensures weight { IfOk result (λ done. done_weight (network net.now) done
         < instr_weight (network net.now) (each var.now pattern.now (code_tree body.now))) }
 {

@@ -46,6 +46,9 @@ pub trait Machine {
     /// That of this machine.
     ghost rest: { Self → Rest };
 
+    /// The test is one that this machine may make.
+    ghost IsFit: { Self → Self.Test → Type 0 };
+
     /// Takes an instruction without a test, a block or a port. A refused one changes nothing.
     fn step<L: Ledger>(
         &mut self,
@@ -70,6 +73,7 @@ pub trait Machine {
         steps: &mut Steps<L>,
     ) -> Result<Self::Test, StepFault>
         ensures test { GivesBy truth (truth_in (values self.now) (scene_of at.now) (cond_tree test.now) (carried self.now)) result }
+        ensures fit { IfOk result (IsFit self.now) }
         ensures counted { steps.new ≡ steps.old + 1 };
 
     /// What a For goes over in a box: those of the names that are allocated now, with their owners.

@@ -7,8 +7,8 @@ ghost use Rattle.sefl_syntax.specs.Views.{code_tree};
 ghost use Rattle.net_check.specs.Network.{Network, network};
 ghost use Rattle.sefl_meaning.specs.Courses.{Progress, after};
 ghost use Rattle.sefl_meaning.specs.Values.{Values};
-ghost use Rattle.code_frames.specs.Doing.{course_of, course_on, done_weight, waiting_weight};
-ghost use Rattle.code_frames.specs.Frames.{GoesOn, course_after, course_behind, course_frames, course_left, from, of_turns};
+ghost use Rattle.code_frames.specs.Doing.{AsksFor, WaitsIfFor, course_of, course_on, done_weight, waiting_weight};
+ghost use Rattle.code_frames.specs.Frames.{GoesOn, WaitsFor, course_after, course_behind, course_frames, course_left, from, of_turns};
 ghost use Rattle.code_frames.specs.Weights.{IsBelow, code_weight, frames_weight, question_weight, turns_weight};
 
 use crate::frame::{Exit, Frame, Move, Question};
@@ -39,6 +39,7 @@ pub fn next<'a, M: Machine, L: Ledger>(
         (from (course_after (M.values machine.old) (network net.now) node M.truth move (reverse frames.new.items)) (M.carried machine.new) (M.choices machine.new))) }
     ensures kept { OnOk result (M.values machine.new ≡ M.values machine.old) }
     ensures rest { OnOk result (M.rest machine.new ≡ M.rest machine.old) }
+    ensures fit { IfOk result (WaitsFor (M.IsFit machine.new)) }
     ensures weight { IfOk result (λ move. IsBelow (network net.now) move
         (frames_weight (network net.now) (reverse frames.new.items)) (frames_weight (network net.now) (reverse frames.old.items))) }
 {
@@ -115,6 +116,7 @@ fn step_frame<'a, M: Machine, L: Ledger>(
         (from (course_on (M.values machine.old) (network net.now) node M.truth found (reverse frames.new.items)) (M.carried machine.new) (M.choices machine.new))) }
     ensures kept { OnOk result (M.values machine.new ≡ M.values machine.old) }
     ensures rest { OnOk result (M.rest machine.new ≡ M.rest machine.old) }
+    ensures fit { IfOk result (WaitsIfFor (M.IsFit machine.new)) }
     ensures weight { IfOk result (λ found. waiting_weight (network net.now) found + frames_weight (network net.now) (reverse frames.new.items)
         < frames_weight (network net.now) (frame.entry ∷ reverse frames.old.items)) }
 {
@@ -157,6 +159,7 @@ fn put<'a, M: Machine>(
     ensures course { IfOk result (λ found. (o : Values M.Value M.Truth) (net : Network) (at : Box) (p : Progress M.Value)
         → course_on o net at M.truth found (reverse frames.new.items) p
         ≡ after (course_of o net at M.truth done.entry p) (course_frames o net at (reverse frames.old.items))) }
+    ensures fit { IfOk result (λ found. (machine : M) → AsksFor (M.IsFit machine) done.entry → WaitsIfFor (M.IsFit machine) found) }
     ensures weight { IfOk result (λ found. (net : Network) → waiting_weight net found + frames_weight net (reverse frames.new.items)
         ≡ done_weight net done.entry + frames_weight net (reverse frames.old.items)) }
 {

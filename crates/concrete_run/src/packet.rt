@@ -57,6 +57,8 @@ impl<'a> Machine for Packet<'a> {
 
     ghost rest = { λ p. (p.decisions.items, p.numbers.numbers.now, p.numbers.unknowns) };
 
+    ghost IsFit = { λ p test. Unit {0} };
+
     fn step<L: Ledger>(
         &mut self,
         alloc: Global,

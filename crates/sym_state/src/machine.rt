@@ -48,6 +48,7 @@ impl SymState {
 
 impl Machine for SymState {
     ghost use Rattle.path_formula.specs.Formulas.{FormulaTree};
+    ghost use Rattle.path_formula.specs.Typed.{IsTyped};
     ghost use Rattle.path_formula.specs.View.{view};
     ghost use Rattle.term_values.specs.TermValues.{terms};
     ghost use Rattle.sym_state.specs.Symbolic.{Rest, choices_of, rest_of};
@@ -69,6 +70,8 @@ impl Machine for SymState {
     ghost Rest = { Rest };
 
     ghost rest = { rest_of };
+
+    ghost IsFit = { λ s formula. IsTyped s.condition.widths (view formula) };
 
     fn step<L: Ledger>(
         &mut self,

@@ -5,6 +5,7 @@ ghost use Rattle.interval_solver.specs.Domains.{AreDomainsOf};
 ghost use Rattle.instr_steps.specs.Scenes.{scene_of};
 ghost use Rattle.net_check.specs.Network.{network};
 ghost use Rattle.sefl_meaning.specs.Valued.{CarriedFits};
+ghost use Rattle.sn_tree.specs.Ends.{first};
 ghost use Rattle.sym_state.specs.Symbolic.{node_of, scene_in};
 ghost use Rattle.term_values.specs.Fits.{typed_fits};
 
@@ -116,6 +117,13 @@ impl SymState {
         ensures { CarriedFits (typed_fits self.now.condition.widths) self.now.carried }
     {
         let _carried = &self.carried;
+    }
+
+    /// The port that was arrived at last; None exactly before that.
+    pub fn last_place(&self) -> Option<Place>
+        ensures { result ≡ first self.now.places }
+    {
+        self.places.top().copied()
     }
 
     /// The node of the port that was arrived at last; node 0 before that.

@@ -2,7 +2,7 @@ use Rattle.std.proofs.Common.{◌≡◌, List, [], ◌∷◌, reverse, refl, ap,
 use Rattle.std.proofs.lemmas.List.{reverse-append}
 use Rattle.net_check.specs.Network.{network}
 use Rattle.code_frames.specs.declared.frame.Frame.{Frame}
-use Rattle.code_frames.specs.Doing.{course_on}
+use Rattle.code_frames.specs.Doing.{WaitsIfFor, course_on}
 use Rattle.code_frames.specs.Frames.{GoesOn, course_frames, from}
 use Rattle.code_frames.specs.Weights.{frames_weight}
 use Rattle.code_frames.proofs.Framing.{on_from}
@@ -64,3 +64,6 @@ returns-clause-course g c =
     let empty : c.loop-frame.frames.items ≡ [] = search rules in
     subst (λ (fs : List Frame). GoesOn c.args.steps.now c.loop-frame.steps whole (from (course_frames (m.values first) net c.args.node (reverse fs)) (m.carried was) (m.choices was))) empty
     c.loop-frame.invariant.course
+
+pub returns-in-Some-2-clause-fit : goal.returns-in-Some-2-clause-fit
+returns-in-Some-2-clause-fit g c = subst (WaitsIfFor (g.M.Machine.IsFit c.step_frame.new.machine)) c.in-Some-2.is c.in_ok-found.ensures.fit

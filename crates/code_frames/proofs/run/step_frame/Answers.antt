@@ -34,3 +34,8 @@ returns-in_ok-done-in-Code-clause-course g c =
     (first_of code instr some c.instr-item.is) c.in-Ok.ensures.same c.in_ok-behind-in-Code.ensures (put o net node c.args.frames.now.items c.push.new.self.items _ c.in_ok-push-in-Code.ensures.items)
     ∙ ap (λ (f : Frame). course_frames o net node (f ∷ old) (progress_at (m.carried c.args.machine.now) (m.choices c.args.machine.now) begun)) (sym c.in-Code.is)))
     c.put.ensures.course
+
+-- the machine has not changed since it made the test
+pub returns-in_ok-done-in-Code-clause-fit : goal.returns-in_ok-done-in-Code-clause-fit
+returns-in_ok-done-in-Code-clause-fit g c =
+    IfOk-weaker c.put.result _ _ (λ found fits. fits c.run_instr.new.machine c.in_ok-done-in-Code.ensures.fit) c.put.ensures.fit
