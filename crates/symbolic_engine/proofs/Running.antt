@@ -71,10 +71,11 @@ tests_same s x y same = ap (λ (r : Rest). drop (length s.tests) (map (entry_see
 
 pub wider_by : (s : SymStart) (x y : Symbolic) → rest_of y ≡ rest_of x → IsRunOf s x → Grown (choices_of x) (choices_of y)
     → Grown x.condition.widths y.condition.widths
-wider_by s x y same run grown =
-    (grown.0,
-    all_widths s y (run_on s x y same run) ∙ ap (λ l. s.unknowns ++ l) grown.1 ∙ sym (append_assoc s.unknowns (choices_of x) grown.0)
-    ∙ ap (λ l. l ++ grown.0) (sym (all_widths s x run)))
+wider_by s x y same run grown = (
+  grown.0,
+  all_widths s y (run_on s x y same run) ∙ ap (λ l. s.unknowns ++ l) grown.1 ∙ sym (append_assoc s.unknowns (choices_of x) grown.0)
+      ∙ ap (λ l. l ++ grown.0) (sym (all_widths s x run)),
+)
 
 pub run_placed : (s : SymStart) (x : Symbolic) (place : Place) → IsRunOf s x → IsRunOf s (with_place x place)
 run_placed s x place run = record { unknowns = run.unknowns; fields = run.fields; tests = run.tests }
