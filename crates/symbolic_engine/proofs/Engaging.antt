@@ -29,6 +29,7 @@ use Rattle.exact_records.specs.View.{record_tree}
 use Rattle.path_exec.specs.Here.{EndsWith, spot_at}
 use Rattle.path_exec.specs.Offers.{next_spot}
 use Rattle.path_exec.specs.Trials.{IsOpenAt, IsPathOf}
+use Rattle.symbolic_engine.specs.declared.origin.Origin.{Ghosts}
 use Rattle.symbolic_engine.specs.declared.spots.Standing.{Standing}
 use Rattle.symbolic_engine.specs.declared.stage.Stage.{Stage}
 use Rattle.symbolic_engine.specs.declared.stage.Stage.TheVariants.{Entering}
@@ -71,8 +72,8 @@ module _ (s : SymStart) (net : Network) (x : Symbolic) (stage : Stage) (begun : 
   condition_there = ap (condition_at s) (sym stands) ∙ condition_here s x (stage_tree net stage x) begun run
 
   -- the verdict there is that on the state's condition
-  pub open_there : {B : Type 0} (place : Standing B) (verdict : Verdict) → place.run ≡ x → place.stage ≡ stage → IsOpenBy (condition_seen x) verdict
-      → IsOpenAt (views_of {B} s net) begun c place verdict
+  pub open_there : {B : Type 0} {origin : Ghosts B} (place : Standing B) (verdict : Verdict) → place.run ≡ x → place.stage ≡ stage → IsOpenBy (condition_seen x) verdict
+      → IsOpenAt (views_of {B} {origin} s net) begun c place verdict
   open_there place verdict is at open' = record {
     stands = (λ i. spot_at begun (standing_at s net (is i) (at i))) ∙ stands;
     typed = subst (λ (k : SymCondition). AllTyped itself k.widths k.entries) (sym condition_there) open'.typed;
@@ -116,9 +117,9 @@ base_behind stays wait x d y noted (Some b) h = base_noted stays wait x d y b no
 over_same : (p q : Progress LinearTerm) (e f : End) → over {F = FormulaTree} p e ≡ over q f → (p ≡ q) × (e ≡ f)
 over_same p q e f h = (cc h, cc h)
 
-pub path_there : {B : Type 0} (s : SymStart) (net : Network) (x : Symbolic) (how : End) (verdict : Verdict) (made : Record)
+pub path_there : {B : Type 0} {origin : Ghosts B} (s : SymStart) (net : Network) (x : Symbolic) (how : End) (verdict : Verdict) (made : Record)
     → record_tree made ≡ path (reverse x.decisions) (reverse x.places) how (fields_of x.carried) (filled_verdict (length x.condition.widths) verdict)
-    → (begun : ℕ) → IsPathOf (views_of {B} s net) (spot_at begun (finished_at s x how)) verdict made
+    → (begun : ℕ) → IsPathOf (views_of {B} {origin} s net) (spot_at begun (finished_at s x how)) verdict made
 path_there s net x how verdict made is begun p end' e =
     let same = over_same (progress_in x begun) p how end' e in
     record {

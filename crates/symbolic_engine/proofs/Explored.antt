@@ -26,6 +26,7 @@ use Rattle.path_exec.specs.Here.{spot_at}
 use Rattle.path_exec.specs.Offers.{IsNode}
 use Rattle.path_exec.specs.Receiving.{Receiving}
 use Rattle.path_exec.specs.Visiting.{AreVisits}
+use Rattle.symbolic_engine.specs.declared.origin.Origin.{Ghosts}
 use Rattle.symbolic_engine.specs.declared.spots.Standing.{Standing}
 use Rattle.symbolic_engine.specs.declared.guiding.Waits.{Waits}
 use Rattle.symbolic_engine.specs.declared.stage.Wait.{Wait}
@@ -63,10 +64,10 @@ module _ (net : Network) (i : Entry) (hops : ℕ) where
       → after ≤ before + work_of s (record_trees xs) → after ≤ before + work_of t (record_trees xs)
   spent_for s t xs before after a b h = subst (λ (u : SymStart). after ≤ before + work_of u (record_trees xs)) (one_start s t a b) h
 
-  module _ {B E : Type 0} (own : Network) (s : SymStart) (laws : ExactRecordsShowWalks net i hops) (is : IsExplored net i hops s) (limit stops : ℕ)
+  module _ {E : Type 0} (own : Network) (s : SymStart) (laws : ExactRecordsShowWalks net i hops) (is : IsExplored net i hops s) (limit stops : ℕ)
       (m : Receiving Record) (before after : ℕ) where
     -- what is exact for the start is exact for the net
-    pub explored_for : (r : Result Ended E) → Explored (views_of {B} s own) limit stops m before after r → ExploredFor net i hops limit stops m before after r
+    pub explored_for : {B : Type 0} {origin : Ghosts B} (r : Result Ended E) → Explored (views_of {B} {origin} s own) limit stops m before after r → ExploredFor net i hops limit stops m before after r
     explored_for (Ok Whole) h =
         let exact = laws.exact s limit (record_trees h.items) is h.exact in
         record { items = h.items; stands = h.stands; exact = exact; tried = h.tried; spent = spent_for s exact.start h.items before after is exact.explored h.spent }
