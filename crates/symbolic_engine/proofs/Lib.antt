@@ -6,4 +6,5 @@ pub mod Turns
 pub mod Bases
 pub mod Engaging
 pub mod Filling
+pub mod Copying
 pub mod Explored
