@@ -73,7 +73,7 @@ module _ (s : SymStart) (net : Network) (x : Symbolic) (stage : Stage) (begun : 
 
   -- the verdict there is that on the state's condition
   pub open_there : {B : Type 0} {origin : Ghosts B} (place : Standing B) (verdict : Verdict) → place.run ≡ x → place.stage ≡ stage → IsOpenBy (condition_seen x) verdict
-      → IsOpenAt (views_of {B} {origin} s net) begun c place verdict
+      → IsOpenAt (views_of {B = B} {origin = origin} s net) begun c place verdict
   open_there place verdict is at open' = record {
     stands = (λ i. spot_at begun (standing_at s net (is i) (at i))) ∙ stands;
     typed = subst (λ (k : SymCondition). AllTyped itself k.widths k.entries) (sym condition_there) open'.typed;
@@ -119,7 +119,7 @@ over_same p q e f h = (cc h, cc h)
 
 pub path_there : {B : Type 0} {origin : Ghosts B} (s : SymStart) (net : Network) (x : Symbolic) (how : End) (verdict : Verdict) (made : Record)
     → record_tree made ≡ path (reverse x.decisions) (reverse x.places) how (fields_of x.carried) (filled_verdict (length x.condition.widths) verdict)
-    → (begun : ℕ) → IsPathOf (views_of {B} {origin} s net) (spot_at begun (finished_at s x how)) verdict made
+    → (begun : ℕ) → IsPathOf (views_of {B = B} {origin = origin} s net) (spot_at begun (finished_at s x how)) verdict made
 path_there s net x how verdict made is begun p end' e =
     let same = over_same (progress_in x begun) p how end' e in
     record {

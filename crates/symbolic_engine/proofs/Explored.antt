@@ -1,5 +1,6 @@
 -- What explorations answer, for the net.
-use Rattle.std.proofs.Common.{◌≡◌, ℕ, ◌+◌, ◌≤◌, inl, inr, true, List, [], ◌∷◌, ◌++◌, length, map, Result, Ok, Err, IfOk, arith, refl, sym, ap, subst, ◌∙◌}
+use Rattle.std.proofs.Common.{◌≡◌, ℕ, ◌+◌, ◌≤◌, inl, inr, true, List, [], ◌∷◌, ◌++◌, length, map, Result, Ok, Err, IfOk, IsErrAnd, arith, refl, sym, ap, subst, ◌∙◌}
+use Rattle.std.specs.Global.{Vec}
 use Rattle.sefl_meaning.specs.declared.walk.Decision.{Decision}
 use Rattle.sefl_meaning.specs.declared.walk.Place.{Place}
 use Rattle.sefl_meaning.specs.Courses.{Progress}
@@ -20,21 +21,25 @@ use Rattle.sym_state.specs.Symbolic.{Symbolic}
 use Rattle.path_exec.specs.declared.engine.Offer.{Offer}
 use Rattle.path_exec.specs.declared.exploration.Ended.{Ended}
 use Rattle.path_exec.specs.declared.exploration.Ended.TheVariants.{Whole, Partial, Stopped}
+use Rattle.path_exec.specs.declared.guided.FollowFault.{FollowFault}
+use Rattle.path_exec.specs.declared.guided.FollowFault.TheVariants.{Impossible, NoMemory}
 use Rattle.path_exec.specs.Ending.{Explored}
-use Rattle.path_exec.specs.Following.{IsLed}
+use Rattle.path_exec.specs.Following.{Followed, IsLed}
 use Rattle.path_exec.specs.Here.{spot_at}
 use Rattle.path_exec.specs.Offers.{IsNode}
 use Rattle.path_exec.specs.Receiving.{Receiving}
-use Rattle.path_exec.specs.Visiting.{AreVisits}
+use Rattle.path_exec.specs.Views.{Views}
+use Rattle.path_exec.specs.Visiting.{ArrivedAs, AreVisits}
 use Rattle.symbolic_engine.specs.declared.origin.Origin.{Ghosts}
 use Rattle.symbolic_engine.specs.declared.spots.Standing.{Standing}
+use Rattle.symbolic_engine.specs.declared.guiding.Led.{Led}
 use Rattle.symbolic_engine.specs.declared.guiding.Waits.{Waits}
 use Rattle.symbolic_engine.specs.declared.stage.Wait.{Wait}
 use Rattle.symbolic_engine.specs.declared.stage.Wait.TheVariants.{Asked, Forked}
 use Rattle.symbolic_engine.specs.Stages.{wait_tree}
 use Rattle.symbolic_engine.specs.Origins.{IsFirstState, IsRunOf, condition_seen, here_of}
 use Rattle.symbolic_engine.specs.Seeing.{views_of}
-use Rattle.symbolic_engine.specs.Exploring.{AreFound, ExploredFor, LeadsThere, WaitsAs}
+use Rattle.symbolic_engine.specs.Exploring.{AreFound, ArrivedFor, ExploredFor, FollowedFor, LeadsThere, WaitsAs}
 use Rattle.symbolic_engine.proofs.Running.{all_tests}
 
 -- ---- the start
@@ -67,14 +72,15 @@ module _ (net : Network) (i : Entry) (hops : ℕ) where
   module _ {E : Type 0} (own : Network) (s : SymStart) (laws : ExactRecordsShowWalks net i hops) (is : IsExplored net i hops s) (limit stops : ℕ)
       (m : Receiving Record) (before after : ℕ) where
     -- what is exact for the start is exact for the net
-    pub explored_for : {B : Type 0} {origin : Ghosts B} (r : Result Ended E) → Explored (views_of {B} {origin} s own) limit stops m before after r → ExploredFor net i hops limit stops m before after r
-    explored_for (Ok Whole) h =
+    pub explored_for : (B : Type 0) (origin : Ghosts B) (r : Result Ended E) → Explored (views_of {B = B} {origin = origin} s own) limit stops m before after r
+        → ExploredFor net i hops limit stops m before after r
+    explored_for B origin (Ok Whole) h =
         let exact = laws.exact s limit (record_trees h.items) is h.exact in
         record { items = h.items; stands = h.stands; exact = exact; tried = h.tried; spent = spent_for s exact.start h.items before after is exact.explored h.spent }
-    explored_for (Ok Partial) h =
+    explored_for B origin (Ok Partial) h =
         let exact = laws.exact s limit (record_trees h.items) is h.exact in
         record { items = h.items; stands = h.stands; exact = exact; untried = h.untried; spent = spent_for s exact.start h.items before after is exact.explored h.spent }
-    explored_for (Ok Stopped) h =
+    explored_for B origin (Ok Stopped) h =
         let exact = laws.up_to s (record_trees h.items) (record_tree h.last) is h.exact in
         record {
           items = h.items;
@@ -84,7 +90,7 @@ module _ (net : Network) (i : Entry) (hops : ℕ) where
           cause = h.cause;
           spent = spent_for s exact.start (h.items ++ h.last ∷ []) before after is exact.explored h.spent;
         }
-    explored_for (Err e) h = record { items = h.items; stands = h.stands; exact = laws.so_far s (record_trees h.items) is h.exact }
+    explored_for B origin (Err e) h = record { items = h.items; stands = h.stands; exact = laws.so_far s (record_trees h.items) is h.exact }
 
 -- ---- where decisions lead
 
@@ -107,6 +113,27 @@ module _ (s : SymStart) (ds : List Decision) (x : Symbolic) (tree : ℕ → SymT
     places = sym led.places;
     condition = condition_led;
   }
+
+-- the first decision that is not offered, or want of memory, for the net
+module _ {P O N D T : Type 0} (x : Views P O N D T) (net : Network) (i : Entry) (hops : ℕ) (is : IsExplored net i hops x.start) (ds : List Decision) where
+  follow_fault : (fault : FollowFault) → Followed x ds (Err fault) → FollowedFor net i hops ds (Err fault)
+  follow_fault (Impossible index) h = record { start = x.start; explored = is; holds = h }
+  follow_fault NoMemory h = tt
+
+  pub not_followed : (r : Result Led FollowFault) (fault : FollowFault) → IsErrAnd r (λ e. e ≡ fault) → Followed x ds (Err fault)
+      → FollowedFor net i hops ds r
+  not_followed (Ok led) fault same h = absurd same
+  not_followed (Err e) fault same h = subst (λ (k : FollowFault). FollowedFor net i hops ds (Err k)) (sym same) (follow_fault fault h)
+
+  arrival_fault : (port : Place) (fault : FollowFault) → ArrivedAs x port ds (Err fault) → ArrivedFor net i hops port ds (Err fault)
+  arrival_fault port (Impossible index) h = record { start = x.start; explored = is; holds = h }
+  arrival_fault port NoMemory h = tt
+
+  pub not_arrived : (port : Place) (r : Result (Vec Symbolic) FollowFault) (fault : FollowFault) → IsErrAnd r (λ e. e ≡ fault)
+      → ArrivedAs x port ds (Err fault) → ArrivedFor net i hops port ds r
+  not_arrived port (Ok states) fault same h = absurd same
+  not_arrived port (Err e) fault same h =
+      subst (λ (k : FollowFault). ArrivedFor net i hops port ds (Err k)) (sym same) (arrival_fault port fault h)
 
 -- the states of places that were visited
 pub states_visit : {B : Type 0} (port : Place) (arrivals : List (Place × Progress LinearTerm)) (places : List (Standing B)) (states : List Symbolic)
