@@ -13,7 +13,7 @@ use Rattle.sefl_meaning.specs.Carried.{Carried, Scene, Key}
 use Rattle.sefl_meaning.specs.Terms.{truth_in}
 use Rattle.sefl_meaning.specs.Steps.{allocated, deallocated, assigned, evaluated, tag_created, tag_set, tag_destroyed}
 use Rattle.sefl_meaning.specs.Runs.{Progress, off, go, forked, failed, in_turn, turns_of}
-use Rattle.sefl_meaning.specs.Courses.{Course, ends, asks, after, begin, chosen, course_code, course_in, course_turns, step, unless_fault, with_state}
+use Rattle.sefl_meaning.specs.Courses.{Course, ends, asks, at_if, at_constrain, after, begin, chosen, course_code, course_in, course_turns, step, unless_fault, with_state}
 use Rattle.code_frames.specs.declared.frame.Frame.{Frame}
 use Rattle.code_frames.specs.declared.frame.Frame.TheVariants.{Code, Turns}
 use Rattle.code_frames.specs.declared.frame.Move.{Move}
@@ -84,12 +84,12 @@ module _ {V F : Type 0} (o : Values V F) where
     grows_in (set_tag name addr) at site p = grows_step site (tag_set at name addr p.state) p
     grows_in (destroy_tag name) at site p = grows_step site (tag_destroyed at name p.state) p
     grows_in (constrain test) at site p =
-        grows_unless site (truth_in o at test p.state) p (λ f. asks _ p f (ends p off) (ends p (failed Constraint site)))
+        grows_unless site (truth_in o at test p.state) p (λ f. asks at_constrain p f (ends p off) (ends p (failed Constraint site)))
         (λ f. (grown_none p.choices, grown_none p.choices, grown_none p.choices))
     grows_in (fail text) at site p = grown_none p.choices
     grows_in (branch test first other) at site p =
         grows_unless site (truth_in o at test p.state) p
-        (λ f. asks _ p f (course_code o at (suc site) first p) (course_code o at (suc site + code_size first) other p))
+        (λ f. asks at_if p f (course_code o at (suc site) first p) (course_code o at (suc site + code_size first) other p))
         (λ f. (grown_none p.choices, grows_code first at (suc site) p, grows_code other at (suc site + code_size first) p))
     grows_in (each var pattern body) at site p =
         grows_turns (λ key q. course_code o (in_turn at var key) (suc site) body q) (λ key q. grows_code body (in_turn at var key) (suc site) q)

@@ -16,27 +16,27 @@ use Rattle.symbolic_engine.specs.Stages.{onward_of}
 use Rattle.symbolic_engine.proofs.Arrivals.{crossed_failed, crossed_forked, crossed_go, link_known, other_tree}
 use Rattle.symbolic_engine.proofs.arriving.crossed.Goals as goal
 
-pub returns-in-Off-None : goal.returns-in-Off-None
-returns-in-Off-None g c = λ begun.
+pub returns-in-None : goal.returns-in-None
+returns-in-None g c = λ begun.
     let s = g.B.Origin.start in
     let net = network c.args.net.now in
     let x = c.args.run in
     let gate = c.args.gate in
     other_tree (views_of s net) s x _ _ begun c.ended.result
     (ap (λ (e : Exit). behind_side net x.unknowns gate.node gate.port gate.hops Outward (exit_of e) (progress_in x begun)) c.in-Off.is
-    ∙ ap (λ (l : Option (NodeId × ℕ)). crossed (terms x.unknowns) net (onward_of net x.unknowns gate.hops) l off (progress_in x begun)) (sym (link_known c.link.result _ c.link.ensures) ∙ c.in-Off-None.is))
+    ∙ ap (λ (l : Option (NodeId × ℕ)). crossed (terms x.unknowns) net (onward_of net x.unknowns gate.hops) l off (progress_in x begun)) (sym (link_known c.link.result _ c.link.ensures) ∙ c.in-None.is))
     (c.ended.ensures net begun)
 
-pub returns-in-Off-Some : goal.returns-in-Off-Some
-returns-in-Off-Some g c = λ begun.
+pub returns-in_ok-place-in-Some : goal.returns-in_ok-place-in-Some
+returns-in_ok-place-in-Some g c = λ begun.
     let s = g.B.Origin.start in
     let net = network c.args.net.now in
     let x = c.args.run in
     let gate = c.args.gate in
     other_tree (views_of s net) s x _ _ begun _
     (ap (λ (e : Exit). behind_side net x.unknowns gate.node gate.port gate.hops Outward (exit_of e) (progress_in x begun)) c.in-Off.is
-    ∙ ap (λ (l : Option (NodeId × ℕ)). crossed (terms x.unknowns) net (onward_of net x.unknowns gate.hops) l off (progress_in x begun)) (sym (link_known c.link.result _ c.link.ensures) ∙ c.in-Off-Some.is))
-    (c.in_ok-place-in-Off-Some.ensures begun)
+    ∙ ap (λ (l : Option (NodeId × ℕ)). crossed (terms x.unknowns) net (onward_of net x.unknowns gate.hops) l off (progress_in x begun)) (sym (link_known c.link.result _ c.link.ensures) ∙ c.in-Some.is))
+    (c.in_ok-place-in-Some.ensures begun)
 
 pub returns-in-Failed : goal.returns-in-Failed
 returns-in-Failed g c = λ begun.

@@ -17,6 +17,6 @@ returns g c = λ net begun.
         progress = p;
         branches = copies (terms x.unknowns) net (onward_of net x.unknowns c.args.hops) c.args.node ports p;
         is = refl;
-        counted = c.in-Ok.ensures ∙ sym (count_of_copies net x.unknowns c.args.hops c.args.node ports p);
+        counted = c.in-Ok.ensures.1 ∙ sym (count_of_copies net x.unknowns c.args.hops c.args.node ports p);
       },
     )

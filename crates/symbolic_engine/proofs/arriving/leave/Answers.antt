@@ -12,7 +12,7 @@ pub returns : goal.returns
 returns g c = λ begun.
     let net = network c.args.net.now in
     let x = c.args.run in
-    arrives_at g.B.Origin.start net x c.in_ok-run.run c.args.node Outward c.args.port
+    arrives_at g.B.Origin.start net x c.in_ok-run.run' c.args.node Outward c.args.port
     (λ n. leave (terms x.unknowns) net (onward_of net x.unknowns c.args.hops) c.args.node c.args.port (progress_in x n)) _
     c.in_ok-run.ensures
     (λ n. leaves net x.unknowns (reverse c.in_ok-frames.frames.items) c.args.node c.args.port c.args.hops (progress_in x n)

@@ -20,8 +20,8 @@ returns-in-Off g c = λ begun.
     (ap (λ (e : Exit). behind_side net x.unknowns gate.node gate.port gate.hops Inward (exit_of e) (progress_in x begun)) c.in-Off.is)
     (c.ended.ensures net begun)
 
-pub returns-in-Go : goal.returns-in-Go
-returns-in-Go g c = λ begun.
+pub returns-in_ok-place-in-Go : goal.returns-in_ok-place-in-Go
+returns-in_ok-place-in-Go g c = λ begun.
     let s = g.B.Origin.start in
     let net = network c.args.net.now in
     let x = c.args.run in

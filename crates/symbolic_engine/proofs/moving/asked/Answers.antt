@@ -6,7 +6,7 @@ use Rattle.symbolic_engine.proofs.Running.{stops_here}
 use Rattle.symbolic_engine.proofs.moving.asked.Goals as goal
 
 pub invariant_of-node : goal.invariant_of-node
-invariant_of-node g c = (c.the_tests_of_types.ensures.formula c.args.run.condition.widths (view c.args.test)).1 c.requires
+invariant_of-node g c = record { typed = (c.the_tests_of_types.ensures.formula c.args.run.condition.widths (view c.args.test)).1 c.requires }
 
 pub returns : goal.returns
 returns g c = λ own begun. (
