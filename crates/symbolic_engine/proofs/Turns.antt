@@ -1,7 +1,7 @@
 -- What a decision makes of a node.
-use Rattle.std.proofs.Common.{◌≡◌, ℕ, zero, suc, ◌+◌, ◌<◌, Bool, true, false, if◌then◌else◌, List, [], ◌∷◌, ◌++◌, drop, length, reverse, Option, None, Some, refl, sym, ap, subst, ◌∙◌, arith}
+use Rattle.std.proofs.Common.{◌≡◌, ℕ, zero, suc, ◌+◌, ◌<◌, Bool, true, false, if◌then◌else◌, List, [], ◌∷◌, ◌++◌, drop, length, reverse, Option, None, Some, Bor, slice_index_or, refl, sym, ap, subst, ◌∙◌, arith}
 use Rattle.std.proofs.lemmas.List.{reverse-append}
-use Rattle.std.specs.Prelude.{option_map, slice_get}
+use Rattle.std.specs.Prelude.{option_map}
 use Rattle.std.specs.Global.{Vec}
 use Rattle.sn_width.specs.declared.ids.NodeId.{NodeId}
 use Rattle.lin_term.specs.Terms.{LinearTerm}
@@ -28,11 +28,12 @@ use Rattle.path_exec.specs.Here.{spot_at}
 use Rattle.path_exec.specs.Offers.{IsOffered, copied_by, next_spot}
 use Rattle.symbolic_engine.specs.declared.stage.Gate.{Gate}
 use Rattle.symbolic_engine.specs.declared.stage.Stage.{Stage}
+use Rattle.symbolic_engine.specs.declared.stage.Stage.TheVariants.{Leaving}
 use Rattle.symbolic_engine.specs.declared.stage.Wait.{Wait}
 use Rattle.symbolic_engine.specs.declared.stage.Wait.TheVariants.{Asked, Forked}
 use Rattle.symbolic_engine.specs.Origins.{IsRunOf, entries_seen, here_of, progress_in}
 use Rattle.symbolic_engine.specs.Stages.{behind_gate, inside_tree, onward_of, side_tree, stage_tree, wait_tree}
-use Rattle.symbolic_engine.specs.Turning.{IsAwaited, IsNoted, IsStageBehind, copy_of, tree_behind}
+use Rattle.symbolic_engine.specs.Turning.{IsAwaited, IsCopyOf, IsNoted, IsStageBehind, copy_of, tree_behind}
 use Rattle.symbolic_engine.specs.Seeing.{standing_at, waiting_at}
 use Rattle.symbolic_engine.proofs.Running.{run_copied, run_decided, some_same, tests_decided}
 
@@ -79,11 +80,11 @@ module _ (net : Network) (u hops : ℕ) (node : NodeId) (p : Progress LinearTerm
   copy_below (port ∷ ports) (suc n) t e = let h = copy_below ports n t e in omega (arith, h)
 
   -- the copy of this number leaves by the port of this number
-  pub copy_leaves : (ports : List ℕ) (n port : ℕ) → slice_get ports n ≡ Some port
-      → copy_at (branches_of ports) n ≡ Some (leave (terms u) net (onward_of net u hops) node port p)
-  copy_leaves [] n port e = absurd (cc e)
-  copy_leaves (first ∷ ports) zero port e = ap (λ (k : ℕ). Some (leave (terms u) net (onward_of net u hops) node k p)) (cc e)
-  copy_leaves (first ∷ ports) (suc n) port e = copy_leaves ports n port e
+  pub copy_leaves : (ports : List ℕ) (n : ℕ) → n < length ports
+      → copy_at (branches_of ports) n ≡ Some (leave (terms u) net (onward_of net u hops) node (slice_index_or ports n 0) p)
+  copy_leaves [] n h = absurd (omega (arith, h))
+  copy_leaves (port ∷ ports) zero h = refl
+  copy_leaves (port ∷ ports) (suc n) h = copy_leaves ports n (omega (arith, h))
 
 copied_there : (a : Spot) (branches : Copies LinearTerm FormulaTree) (o : Option ℕ) (c : Spot) → copied_by a branches o ≡ Some c
     → (n : ℕ) × (o ≡ Some n) × ((t : SymTree) × (copy_at branches n ≡ Some t) × (copied a n t ≡ c))
@@ -190,3 +191,18 @@ module _ (net : Network) (gate : Gate) (question : Question) (test : Formula) (x
       ap (option_map (λ truth. side_tree net gate question (reverse held.items) truth x begun)) takes
       ∙ ap (λ (c : Course LinearTerm FormulaTree). Some (then_tree c (behind_gate net x.unknowns gate)))
       ((λ i. course_behind (terms x.unknowns) net gate.node question (sym so i) (sym frames i) (progress_in x begun)) ∙ sym course)
+
+-- an awaited copy is one of those that there are
+within_copies : (count n : ℕ) → IsCopyOf count (Copy n) → n < count
+within_copies count n h = let e : n ≡ h.number = cc h.is in omega (arith, e, h.below)
+
+-- a copy leaves by the port of its number
+pub leaves_by : (net : Network) (wait : Wait) (d : Decision) (node : NodeId) (hops n : ℕ) (ports : Bor (List ℕ)) → IsAwaited wait d
+    → wait ≡ Forked node hops ports → d ≡ Copy n → IsStageBehind net wait d (Leaving node (slice_index_or ports.now n 0) hops)
+leaves_by net wait d node hops n ports awaits is copy =
+    let stage : Stage = Leaving node (slice_index_or ports.now n 0) hops in
+    let within : n < length ports.now =
+    within_copies (length ports.now) n (subst (IsCopyOf (length ports.now)) copy (subst (λ (w : Wait). IsAwaited w d) is awaits)) in
+    subst (λ (w : Wait). IsStageBehind net w d stage) (sym is)
+    (subst (λ (e : Decision). IsStageBehind net (Forked node hops ports) e stage) (sym copy)
+    (λ x begun. copy_leaves net x.unknowns hops node (progress_in x begun) ports.now n within))

@@ -5,7 +5,7 @@ use Rattle.code_frames.specs.declared.frame.Frame.{Frame}
 use Rattle.symbolic_engine.specs.declared.stage.Wait.{Wait}
 use Rattle.symbolic_engine.specs.Origins.{progress_in}
 use Rattle.symbolic_engine.specs.Turning.{IsAwaited, IsStageBehind}
-use Rattle.symbolic_engine.proofs.Turns.{answered}
+use Rattle.symbolic_engine.proofs.Turns.{answered, leaves_by}
 use Rattle.symbolic_engine.proofs.turning.stage_behind.Goals as goal
 
 pub returns-in-Asked : goal.returns-in-Asked
@@ -18,3 +18,8 @@ returns-in-Asked c =
     (reverse c.in_ok-frames.frames.items) (reverse c.answer.new.frames.items) c.in_ok-left.left
     awaits.1 c.holds.ensures (ap (λ (l : List Frame). reverse l) (c.in_ok-frames.ensures ∙ c.deref.ensures.value))
     (c.in_ok-left.ensures.course (terms x.unknowns) net gate.node (progress_in x begun)))
+
+pub returns-in-Copy : goal.returns-in-Copy
+returns-in-Copy c =
+    leaves_by (network c.args.net.now) c.args.wait.now c.args.decision c.in-Forked.node c.in-Forked.hops c.in-Copy.number c.in-Forked.ports c.requires c.in-Forked.is
+    c.in-Copy.is
