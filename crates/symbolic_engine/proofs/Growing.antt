@@ -69,7 +69,7 @@ module _ {V F : Type 0} where
   grows_unless site (Err fault) p next h = grown_none p.choices
 
 module _ {V F : Type 0} (o : Values V F) where
-  grows_step : (site : ℕ) (r : Result (Carried V) LayoutFault) (p : Progress V) → Grows {V} {F} p.choices (step site r p)
+  grows_step : (site : ℕ) (r : Result (Carried V) LayoutFault) (p : Progress V) → Grows {V = V} {F = F} p.choices (step site r p)
   grows_step site r p = grows_unless site r p (λ next. ends (with_state p next) off) (λ next. grown_none p.choices)
 
   mutual
