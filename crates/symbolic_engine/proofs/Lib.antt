@@ -1,6 +1,6 @@
 pub mod Growing
 pub mod Running
-pub mod Arrivals
+pub mod Ports
 pub mod Asking
 pub mod Turns
 pub mod Bases

@@ -13,7 +13,7 @@ use Rattle.sefl_meaning.specs.Runs.{off}
 use Rattle.sefl_meaning.specs.Trees.{crossed}
 use Rattle.term_values.specs.TermValues.{terms}
 use Rattle.symbolic_engine.specs.Stages.{onward_of}
-use Rattle.symbolic_engine.proofs.Arrivals.{crossed_failed, crossed_forked, crossed_go, link_known, other_tree}
+use Rattle.symbolic_engine.proofs.Ports.{crossed_failed, crossed_forked, crossed_go, link_known, other_tree}
 use Rattle.symbolic_engine.proofs.arriving.crossed.Goals as goal
 
 pub returns-in-None : goal.returns-in-None

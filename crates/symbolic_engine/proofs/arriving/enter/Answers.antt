@@ -4,7 +4,7 @@ use Rattle.sefl_syntax.specs.declared.net.Side.TheVariants.{Inward}
 use Rattle.term_values.specs.TermValues.{terms}
 use Rattle.symbolic_engine.specs.Origins.{progress_in}
 use Rattle.symbolic_engine.specs.Stages.{onward_of}
-use Rattle.symbolic_engine.proofs.Arrivals.{arrives_at, enters, enters_cut}
+use Rattle.symbolic_engine.proofs.Ports.{arrives_at, enters, enters_cut}
 use Rattle.symbolic_engine.proofs.arriving.enter.Goals as goal
 
 pub returns-then-hops-eq0 : goal.returns-then-hops-eq0

@@ -3,7 +3,7 @@ use Rattle.sefl_meaning.specs.Trees.{copies}
 use Rattle.term_values.specs.TermValues.{terms}
 use Rattle.symbolic_engine.specs.Origins.{progress_in}
 use Rattle.symbolic_engine.specs.Stages.{onward_of, wait_tree}
-use Rattle.symbolic_engine.proofs.Arrivals.{count_of_copies}
+use Rattle.symbolic_engine.proofs.Ports.{count_of_copies}
 use Rattle.symbolic_engine.proofs.Running.{stops_here}
 use Rattle.symbolic_engine.proofs.arriving.forked.Goals as goal
 

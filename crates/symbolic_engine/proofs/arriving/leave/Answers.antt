@@ -5,7 +5,7 @@ use Rattle.sefl_meaning.specs.Trees.{leave}
 use Rattle.term_values.specs.TermValues.{terms}
 use Rattle.symbolic_engine.specs.Origins.{progress_in}
 use Rattle.symbolic_engine.specs.Stages.{onward_of}
-use Rattle.symbolic_engine.proofs.Arrivals.{arrives_at, leaves}
+use Rattle.symbolic_engine.proofs.Ports.{arrives_at, leaves}
 use Rattle.symbolic_engine.proofs.arriving.leave.Goals as goal
 
 pub returns : goal.returns

@@ -7,7 +7,7 @@ use Rattle.code_frames.specs.Frames.{exit_of}
 use Rattle.symbolic_engine.specs.Origins.{progress_in}
 use Rattle.symbolic_engine.specs.Stages.{behind_side}
 use Rattle.symbolic_engine.specs.Seeing.{views_of}
-use Rattle.symbolic_engine.proofs.Arrivals.{other_tree}
+use Rattle.symbolic_engine.proofs.Ports.{other_tree}
 use Rattle.symbolic_engine.proofs.arriving.passed.Goals as goal
 
 pub returns-in-Off : goal.returns-in-Off

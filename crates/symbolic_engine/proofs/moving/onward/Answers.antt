@@ -7,7 +7,7 @@ use Rattle.symbolic_engine.specs.declared.stage.Stage.{Stage}
 use Rattle.symbolic_engine.specs.declared.stage.Stage.TheVariants.{Inside}
 use Rattle.symbolic_engine.specs.Seeing.{standing_at, views_of}
 use Rattle.symbolic_engine.specs.Stages.{stage_tree}
-use Rattle.symbolic_engine.proofs.Arrivals.{at_once}
+use Rattle.symbolic_engine.proofs.Ports.{at_once}
 use Rattle.symbolic_engine.proofs.moving.onward.Goals as goal
 
 pub returns-in_ok-place-in-Entering : goal.returns-in_ok-place-in-Entering

@@ -11,7 +11,7 @@ use Rattle.path_exec.specs.Here.{spot_at}
 use Rattle.path_exec.specs.Moves.{IsMove}
 use Rattle.symbolic_engine.specs.Origins.{here_of}
 use Rattle.symbolic_engine.specs.Seeing.{views_of}
-use Rattle.symbolic_engine.proofs.Arrivals.{move_tree, moves_still}
+use Rattle.symbolic_engine.proofs.Ports.{move_tree, moves_still}
 use Rattle.symbolic_engine.proofs.Running.{run_on}
 use Rattle.symbolic_engine.proofs.moving.run_on.Goals as goal
 
