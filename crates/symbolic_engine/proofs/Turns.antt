@@ -98,7 +98,7 @@ awaited s net x (Asked gate question test frames) d h =
     let found = there _ (truth_of (asking_of question) d) h.1 h.2 in (found.0, found.1)
 awaited s net x (Forked node hops ports) d h =
     let p : Progress LinearTerm = progress_in x h.0 in
-    let found = copied_there _ (branches_of net x.unknowns hops node p ports.now) (number_of d) h.1 h.2 in
+    let found = copied_there (spot_at h.0 (waiting_at s net x (Forked node hops ports))) (branches_of net x.unknowns hops node p ports.now) (number_of d) h.1 h.2 in
     record { number = found.0; is = found.1; below = copy_below net x.unknowns hops node p ports.now found.0 found.2.0 found.2.1 }
 
 -- ---- the spot behind a decision
@@ -140,7 +140,7 @@ module _ (s : SymStart) (net : Network) (x : Symbolic) (d : Decision) where
       )
   noted_spot y (Forked node hops ports) run noted begun c e =
       let wait = Forked node hops ports in
-      let found = copied_there _ (branches_of net x.unknowns hops node (progress_in x begun) ports.now) (number_of d) c e in (
+      let found = copied_there (spot_at begun (waiting_at s net x wait)) (branches_of net x.unknowns hops node (progress_in x begun) ports.now) (number_of d) c e in (
         found.2.0,
         ap (λ (z : Symbolic). spot_at begun (here_of s z (λ n. found.2.0))) noted
             ∙ copy_spot found.0 (wait_tree net wait x) found.2.0 begun found.1 ∙ found.2.2,
@@ -158,7 +158,7 @@ module _ (s : SymStart) (net : Network) (x : Symbolic) (d : Decision) where
       ∙ sym (by_either found.0 (λ b. side_tree net gate question (reverse frames.items) b x begun)) ∙ ap (λ (a : Spot). a.tree) found.2
   stage_spot y (Forked node hops ports) stage noted at begun c e =
       let branches = branches_of net x.unknowns hops node (progress_in x begun) ports.now in
-      let found = copied_there _ branches (number_of d) c e in
+      let found = copied_there (spot_at begun (waiting_at s net x (Forked node hops ports))) branches (number_of d) c e in
       let z : Symbolic = with_decision x d in
       let side : found.2.0 ≡ stage_tree net stage z begun = some_same (sym found.2.1 ∙ ap (copy_of branches) (sym found.1) ∙ at z begun) in
       ap (λ (w : Symbolic). stage_tree net stage w begun) noted ∙ sym side ∙ ap (λ (a : Spot). a.tree) found.2.2

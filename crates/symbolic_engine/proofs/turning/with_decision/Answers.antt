@@ -12,7 +12,7 @@ constrain-requires c =
     let x = c.args.state in
     let typed = subst (λ (wait : Wait). has_typed_test x wait ≡ true) c.in-Asked.is c.requires.typed in
     subst (λ (f : FormulaTree). IsTyped x.condition.widths f) (sym c.in_ok-formula-in-Asked.ensures.same)
-    ((c.the_tests_of_types.ensures.formula x.condition.widths (view c.in-Asked.test.now)).0 typed)
+    ((c.the_tests_of_types.ensures.formula x.condition.widths (view c.in-Asked.test)).0 typed)
 
 pub returns-in_ok-constrain-in-Asked : goal.returns-in_ok-constrain-in-Asked
 returns-in_ok-constrain-in-Asked c =
