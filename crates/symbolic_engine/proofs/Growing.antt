@@ -5,7 +5,6 @@ use Rattle.sn_width.specs.declared.faults.LayoutFault.{LayoutFault}
 use Rattle.sn_width.specs.declared.ids.NodeId.{NodeId}
 use Rattle.sefl_syntax.specs.Trees.{InstrTree, CodeTree, allocate, deallocate, assign, assign_any, create_tag, set_tag, destroy_tag, constrain, fail, branch, each, forward, fork, block, no_op, no_code, instr_and}
 use Rattle.sefl_syntax.specs.Views.{code_tree}
-use Rattle.job_items.specs.AtomRules.{width_of}
 use Rattle.sefl_meaning.specs.declared.walk.Failure.TheVariants.{Constraint}
 use Rattle.sefl_meaning.specs.Values.{Values}
 use Rattle.sefl_meaning.specs.Network.{Network, code_size, inner_size}
@@ -72,14 +71,16 @@ module _ {V F : Type 0} (o : Values V F) where
   grows_step : (site : ℕ) (r : Result (Carried V) LayoutFault) (p : Progress V) → Grows {V = V} {F = F} p.choices (step site r p)
   grows_step site r p = grows_unless site r p (λ next. ends (with_state p next) off) (λ next. grown_none p.choices)
 
+  grows_choice : (site width : ℕ) (r : Result (Carried V) LayoutFault) (p : Progress V)
+      → Grows {V = V} {F = F} p.choices (unless_fault site r p (λ next. ends (chosen p width next) off))
+  grows_choice site width r p = grows_unless site r p (λ next. ends (chosen p width next) off) (λ next. (width ∷ [], refl))
+
   mutual
     grows_in : (i : InstrTree) (at : Scene) (site : ℕ) (p : Progress V) → Grows p.choices (course_in o at site i p)
     grows_in (allocate target) at site p = grows_step site (allocated at target p.state) p
     grows_in (deallocate target) at site p = grows_step site (deallocated at target p.state) p
     grows_in (assign target value) at site p = grows_step site (evaluated o at target value p.state) p
-    grows_in (assign_any target) at site p =
-        grows_unless site (assigned at target (o.choice (width_of target) (length p.choices)) p.state) p
-        (λ next. ends (chosen p (width_of target) next) off) (λ next. (width_of target ∷ [], refl))
+    grows_in (assign_any target) at site p = grows_choice site _ _ p
     grows_in (create_tag name addr) at site p = grows_step site (tag_created at name addr p.state) p
     grows_in (set_tag name addr) at site p = grows_step site (tag_set at name addr p.state) p
     grows_in (destroy_tag name) at site p = grows_step site (tag_destroyed at name p.state) p

@@ -165,14 +165,10 @@ module _ {P O N D T : Type 0} (v : Views P O N D T) (net : Network) (gate : Gate
 -- ---- exits
 
 -- the same tree in another form
-tree_counted : {P O N D T : Type 0} (v : Views P O N D T) (s : SymStart) (x : Symbolic) (tree other : ℕ → SymTree) (begun count : ℕ) (moved : Moved P O N)
-    → tree begun ≡ other begun → IsMove v (spot_at begun (here_of s x other)) count moved → IsMove v (spot_at begun (here_of s x tree)) count moved
-tree_counted v s x tree other begun count moved e h =
+pub other_tree : {P O N D T : Type 0} (v : Views P O N D T) (s : SymStart) (x : Symbolic) (tree other : SymTree) (begun count : ℕ) (moved : Moved P O N)
+    → tree ≡ other → IsMove v (spot_at begun (here_of s x (λ n. other))) count moved → IsMove v (spot_at begun (here_of s x (λ n. tree))) count moved
+other_tree v s x tree other begun count moved e h =
     subst (λ (t : SymTree). IsMove v (spot_at begun (here_of s x (λ n. t))) count moved) (sym e) h
-
-pub other_tree : {P O N D T : Type 0} (v : Views P O N D T) (s : SymStart) (x : Symbolic) (tree other : ℕ → SymTree) (begun : ℕ) (moved : Moved P O N)
-    → tree begun ≡ other begun → IsMove v (spot_at begun (here_of s x other)) begun moved → IsMove v (spot_at begun (here_of s x tree)) begun moved
-other_tree v s x tree other begun moved e h = tree_counted v s x tree other begun begun moved e h
 
 module _ (net : Network) (u hops : ℕ) (p : Progress LinearTerm) where
   pub crossed_go : (link : Option (NodeId × ℕ)) (port : ℕ) → crossed (terms u) net (onward_of net u hops) link (go port) p ≡ over p Stopped
@@ -197,5 +193,5 @@ at_once v s x tree other steps moved same moves = record {
   counted = omega arith;
   goes = λ begun.
       let none : begun ≡ begun + 0 = omega arith in
-      tree_counted v s x tree other begun (begun + 0) moved (same begun) (subst (λ (n : ℕ). IsMove v (spot_at begun (here_of s x other)) n moved) none (moves begun));
+      other_tree v s x (tree begun) (other begun) begun (begun + 0) moved (same begun) (subst (λ (n : ℕ). IsMove v (spot_at begun (here_of s x other)) n moved) none (moves begun));
 }

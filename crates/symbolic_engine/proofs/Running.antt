@@ -108,13 +108,10 @@ true_tests : (entries : List Entry) → MustBeTrue entries → map (entry_seen v
 true_tests [] h = refl
 true_tests (entry ∷ entries) h = λ i. (view entry.0, h.0 i) ∷ true_tests entries h.1 i
 
-none_left : {A : Type 0} (n : ℕ) (xs : List A) → xs ≡ [] → drop n xs ≡ []
-none_left zero xs e = e
-none_left (suc n) xs e = ap (drop (suc n)) e
-
 -- behind all of a list there is nothing
 none_behind : {A : Type 0} (n : ℕ) (xs : List A) → length xs ≤ n → drop n xs ≡ []
-none_behind n [] h = none_left n [] refl
+none_behind zero [] h = refl
+none_behind (suc n) [] h = refl
 none_behind zero (y ∷ ys) h = absurd (omega (arith, h))
 none_behind (suc n) (y ∷ ys) h = none_behind n ys (omega (arith, h))
 

@@ -17,7 +17,7 @@ returns-in-Inward g c =
     let x = c.args.run in
     let gate = c.args.gate in
     IfOk-weaker c.passed.result _ _
-    (λ moved m begun. other_tree (views_of s net) s x _ (λ n. behind_side net x.unknowns gate.node gate.port gate.hops Inward (exit_of c.args.exit) (progress_in x n)) begun moved
+    (λ moved m begun. other_tree (views_of {origin = g.B.Origin} s net) s x _ _ begun begun moved
     (ap (λ (side : Side). behind_side net x.unknowns gate.node gate.port gate.hops side (exit_of c.args.exit) (progress_in x begun)) c.in-Inward.is) (m begun))
     c.passed.ensures
 
@@ -28,6 +28,6 @@ returns-in-Outward g c =
     let x = c.args.run in
     let gate = c.args.gate in
     IfOk-weaker c.crossed.result _ _
-    (λ moved m begun. other_tree (views_of s net) s x _ (λ n. behind_side net x.unknowns gate.node gate.port gate.hops Outward (exit_of c.args.exit) (progress_in x n)) begun moved
+    (λ moved m begun. other_tree (views_of {origin = g.B.Origin} s net) s x _ _ begun begun moved
     (ap (λ (side : Side). behind_side net x.unknowns gate.node gate.port gate.hops side (exit_of c.args.exit) (progress_in x begun)) c.in-Outward.is) (m begun))
     c.crossed.ensures
