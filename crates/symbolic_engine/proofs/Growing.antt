@@ -1,5 +1,5 @@
 -- Choices are only added on the way through code.
-use Rattle.std.proofs.Common.{◌≡◌, ℕ, suc, ◌+◌, List, [], ◌∷◌, ◌++◌, length, Result, Ok, Err, refl, sym, ap, subst, ◌∙◌, append_assoc}
+use Rattle.std.proofs.Common.{◌≡◌, ℕ, suc, ◌+◌, List, [], ◌∷◌, ◌++◌, Result, Ok, Err, refl, sym, ap, subst, ◌∙◌, append_assoc}
 use Rattle.std.proofs.lemmas.List.{append-nil}
 use Rattle.sn_width.specs.declared.faults.LayoutFault.{LayoutFault}
 use Rattle.sn_width.specs.declared.ids.NodeId.{NodeId}
@@ -10,7 +10,7 @@ use Rattle.sefl_meaning.specs.Values.{Values}
 use Rattle.sefl_meaning.specs.Network.{Network, code_size, inner_size}
 use Rattle.sefl_meaning.specs.Carried.{Carried, Scene, Key}
 use Rattle.sefl_meaning.specs.Terms.{truth_in}
-use Rattle.sefl_meaning.specs.Steps.{allocated, deallocated, assigned, evaluated, tag_created, tag_set, tag_destroyed}
+use Rattle.sefl_meaning.specs.Steps.{allocated, deallocated, evaluated, tag_created, tag_set, tag_destroyed}
 use Rattle.sefl_meaning.specs.Runs.{Progress, off, go, forked, failed, in_turn, turns_of}
 use Rattle.sefl_meaning.specs.Courses.{Course, ends, asks, at_if, at_constrain, after, begin, chosen, course_code, course_in, course_turns, step, unless_fault, with_state}
 use Rattle.code_frames.specs.declared.frame.Frame.{Frame}

@@ -35,7 +35,6 @@ use Rattle.path_exec.specs.Offers.{copy_count}
 use Rattle.path_exec.specs.Views.{Views}
 use Rattle.symbolic_engine.specs.declared.stage.Gate.{Gate}
 use Rattle.symbolic_engine.specs.declared.stage.Stage.{Stage}
-use Rattle.symbolic_engine.specs.declared.stage.Wait.TheVariants as waits
 use Rattle.symbolic_engine.specs.Origins.{IsRunOf, here_of, progress_in}
 use Rattle.symbolic_engine.specs.Stages.{behind_gate, behind_side, inside_tree, onward_of, stage_tree}
 use Rattle.symbolic_engine.specs.Seeing.{standing_at}

@@ -1,7 +1,6 @@
 use Rattle.std.proofs.Common.{ap}
 use Rattle.std.proofs.lemmas.Result.{IfOk-weaker}
 use Rattle.sefl_syntax.specs.declared.net.Side.{Side}
-use Rattle.sefl_syntax.specs.declared.net.Side.TheVariants.{Inward, Outward}
 use Rattle.net_check.specs.Network.{network}
 use Rattle.code_frames.specs.Frames.{exit_of}
 use Rattle.symbolic_engine.specs.Origins.{progress_in}
