@@ -4,7 +4,6 @@ use Rattle.std.proofs.lemmas.List.{reverse-append, reverse-reverse}
 use Rattle.sn_tree.specs.Ends.{first}
 use Rattle.sn_width.specs.declared.ids.NodeId.{NodeId}
 use Rattle.lin_term.specs.Terms.{LinearTerm}
-use Rattle.path_formula.specs.Formulas.{FormulaTree}
 use Rattle.path_cond.specs.Conditions.{Condition, Entry}
 use Rattle.path_cond.specs.Seen.{AllTyped, itself}
 use Rattle.net_check.specs.Network.{Network}
@@ -23,7 +22,7 @@ use Rattle.term_values.specs.TermValues.{terms}
 use Rattle.code_frames.specs.Frames.{progress_at}
 use Rattle.path_records.specs.declared.records.Record.{Record}
 use Rattle.sym_state.specs.Symbolic.{Symbolic}
-use Rattle.exact_records.specs.Records.{IsRefutedBy, IsVerdictOn, SymCondition, SymStart, path}
+use Rattle.exact_records.specs.Records.{IsRefutedBy, IsVerdictOn, SymCondition, SymStart, SymTree, path}
 use Rattle.exact_records.specs.Spots.{IsKnown, Spot, condition_at, filled_verdict, first_spot}
 use Rattle.exact_records.specs.View.{record_tree}
 use Rattle.path_exec.specs.Here.{EndsWith, spot_at}
@@ -114,7 +113,7 @@ base_behind stays wait x d y noted (Some b) h = base_noted stays wait x d y b no
 
 -- ---- records
 
-over_same : (p q : Progress LinearTerm) (e f : End) → over {F = FormulaTree} p e ≡ over q f → (p ≡ q) × (e ≡ f)
+over_same : (p q : Progress LinearTerm) (e f : End) → ◌≡◌ {A = SymTree} (over p e) (over q f) → (p ≡ q) × (e ≡ f)
 over_same p q e f h = (cc h, cc h)
 
 pub path_there : {B : Type 0} {origin : Ghosts B} (s : SymStart) (net : Network) (x : Symbolic) (how : End) (verdict : Verdict) (made : Record)
