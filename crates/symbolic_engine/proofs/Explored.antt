@@ -56,7 +56,7 @@ first_of net i hops x begins = record {
   places = begins.places;
 }
 
-ok_same : {A E : Type 0} {x y : A} → Ok {E = E} x ≡ Ok y → x ≡ y
+ok_same : {A E : Type 0} {x y : A} → ◌≡◌ {A = Result A E} (Ok x) (Ok y) → x ≡ y
 ok_same e = cc e
 
 -- ---- records
@@ -153,6 +153,12 @@ states_visit port (arrival ∷ arrivals) places states is (inr v) = inr (v.0, st
 -- a node stays what it is
 pub at_wait : (offer : Offer) (t u : SymTree) → t ≡ u → IsNode offer u → IsNode offer t
 at_wait offer t u e h = subst (IsNode offer) (sym e) h
+
+-- what nothing was handed over to is, where there was no memory
+pub nothing_yet : {E : Type 0} (net : Network) (i : Entry) (hops limit stops : ℕ) (m : Receiving Record) (before after : ℕ) (r : Result Ended E) (Q : E → Type 0)
+    → IsErrAnd r Q → m.StandsFor [] → ExploredFor net i hops limit stops m before after r
+nothing_yet net i hops limit stops m before after (Ok how) Q h stands = absurd h
+nothing_yet net i hops limit stops m before after (Err e) Q h stands = record { items = []; stands = stands; exact = record { is = inl refl } }
 
 -- what a list that was kept is
 pub kept_found : {E : Type 0} (net : Network) (i : Entry) (hops limit : ℕ) (m : Receiving Record) (kept : List Record) (before after : ℕ) (r : Result Ended E)

@@ -20,8 +20,8 @@ returns g c =
       };
     }
 
-pub new-requires-clause-first : goal.new-requires-clause-first
-new-requires-clause-first g c =
+pub new-engine-requires-clause-first : goal.new-engine-requires-clause-first
+new-engine-requires-clause-first g c =
     subst (λ (at : NodeId × ℕ). IsFirstState g.B.Origin.start (network c.args.net.now) c.args.hops at.0 at.1 c.args.first) (sym c.place.ensures) c.requires.first
 
 pub returns-in_err-places : goal.returns-in_err-places

@@ -13,8 +13,8 @@ use Rattle.symbolic_engine.specs.Stages.{wait_tree}
 use Rattle.symbolic_engine.proofs.Explored.{at_wait, leads_there, not_followed, wait_carries}
 use Rattle.symbolic_engine.proofs.guiding.follow_from.Goals as goal
 
-pub new-requires-clause-first : goal.new-requires-clause-first
-new-requires-clause-first g c =
+pub new-engine-requires-clause-first : goal.new-engine-requires-clause-first
+new-engine-requires-clause-first g c =
     subst (λ (at : NodeId × ℕ). IsFirstState g.B.Origin.start (network c.args.net.now) c.args.hops at.0 at.1 c.args.first) (sym c.place.ensures) c.requires.first
 
 pub returns-in-AtEnd : goal.returns-in-AtEnd
@@ -33,8 +33,8 @@ returns-in-AtEnd g c =
           (leads_there s ds x (λ n. over (progress_in x n) how) begun c.into_state-state.ensures.run leads.led (Nothing how) (begun, leads.led.left) refl);
     }
 
-pub returns-in-AtNode : goal.returns-in-AtNode
-returns-in-AtNode g c =
+pub returns : goal.returns
+returns g c =
     let s = g.B.Origin.start in
     let net = g.B.Origin.net in
     let ds = c.args.decisions.now in
