@@ -11,7 +11,7 @@ use Rattle.sefl_meaning.specs.Values.{Values}
 use Rattle.term_values.specs.TermValues.{terms}
 use Rattle.code_frames.specs.declared.frame.Exit.{Exit as Left}
 use Rattle.code_frames.specs.declared.frame.Frame.{Frame}
-use Rattle.code_frames.specs.Frames.{course_left, exit_of}
+use Rattle.code_frames.specs.Frames.{course_left}
 use Rattle.sym_state.specs.Symbolic.{Symbolic}
 use Rattle.symbolic_engine.specs.declared.stage.Gate.{Gate}
 use Rattle.symbolic_engine.specs.Origins.{progress_in}
