@@ -1,11 +1,13 @@
 pub mod Closing
+pub mod Flooring
+pub mod Leading
+pub mod Lowering
+pub mod MadeZero
 pub mod Meeting
 pub mod Parting
 pub mod Passing
 pub mod Placing
-pub mod WordLemmas
 pub mod Reading
 pub mod Solving
 pub mod Steps
-pub mod Trying
-pub mod MadeZero
+pub mod WordLemmas

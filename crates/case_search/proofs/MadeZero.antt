@@ -8,8 +8,7 @@ use Rattle.difference_solver.specs.declared.bound.Bound.{Bound}
 use Rattle.difference_solver.specs.Bound.{Meets, number, IsInRange}
 use Rattle.case_search.specs.Choices.{Case}
 use Rattle.case_search.specs.Parts.{AreZero}
-use Rattle.case_search.proofs.Trying.{all_left}
-use Rattle.case_search.proofs.Meeting.{has_below_left}
+use Rattle.case_search.proofs.Meeting.{all_left, has_below_left}
 
 -- an unknown that passes is not made zero
 pub zeros_kept : (count n : ℕ) (test : ℕ → Bool) (case : Case) → test (n + 1) ≡ true → AreZero count n test case → AreZero count (n + 1) test case

@@ -13,7 +13,7 @@ three true true false h = absurd (cc)
 three true false c h = absurd (cc)
 three false b c h = absurd (cc)
 
-two : (a b : Bool) → cond a b false ≡ true → (a ≡ true) × (b ≡ true)
+pub two : (a b : Bool) → cond a b false ≡ true → (a ≡ true) × (b ≡ true)
 two true true h = (refl, refl)
 two true false h = absurd (cc)
 two false b h = absurd (cc)

@@ -2,10 +2,9 @@
 use Rattle.std.proofs.Common.{◌≡◌, ℕ, ◌<◌, ℤ, List, length, get_or, ap, sym, subst, ◌∙◌}
 use Rattle.std.specs.Global.{Vec}
 use Rattle.std.proofs.lemmas.List.{get_or-map, length-map}
-use Rattle.difference_solver.specs.Cycle.{IsNegativeCycle}
-use Rattle.difference_solver.specs.Verdict.{IfValues, IfCycle, IsCycle}
+use Rattle.difference_solver.specs.Verdict.{IfValues}
 use Rattle.difference_solver.specs.declared.bound.DiffVerdict.{DiffVerdict}
-use Rattle.difference_solver.specs.declared.bound.DiffVerdict.TheVariants.{Values, Cycle}
+use Rattle.difference_solver.specs.declared.bound.DiffVerdict.TheVariants.{Values}
 use Rattle.case_search.specs.Choices.{Case, lists_of, cases_of, cases_at, items_of}
 use Rattle.case_search.specs.declared.choice.Choice.{Choice}
 
@@ -13,14 +12,6 @@ use Rattle.case_search.specs.declared.choice.Choice.{Choice}
 pub of_values : (P : Case → List ℤ → Type 0) (g seen : Case) (verdict : DiffVerdict) (values : Vec ℤ) → seen ≡ g → verdict ≡ Values values → IfValues verdict (P seen) → P g values.items
 of_values P g seen verdict values same is h =
     subst (λ (b : Case). P b values.items) same (subst (λ (v : DiffVerdict). IfValues v (P seen)) is h)
-
--- the fact of an answer with a cycle
-pub of_cycle : (g seen : Case) (verdict : DiffVerdict) (around : Vec ℕ) → seen ≡ g → verdict ≡ Cycle around → IfCycle verdict (IsNegativeCycle seen) → IsNegativeCycle g around.items
-of_cycle g seen verdict around same is h =
-    subst (λ (b : Case). IsNegativeCycle b around.items) same (subst (λ (v : DiffVerdict). IfCycle v (IsNegativeCycle seen)) is h)
-
-pub is_cycle : (verdict : DiffVerdict) (around : Vec ℕ) → verdict ≡ Cycle around → IsCycle verdict
-is_cycle verdict around is = subst (λ (v : DiffVerdict). IsCycle v) (sym is) tt
 
 -- the cases of a choice, by the choice itself
 pub cases_there : (choices : List Choice) (k : ℕ) (x : Choice) → k < length choices → x ≡ get_or choices k x → cases_at (lists_of choices) k ≡ cases_of x

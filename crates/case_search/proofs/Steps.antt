@@ -1,20 +1,18 @@
--- How each step of a search takes it on.
-use Rattle.std.proofs.Common.{ℕ, ◌<◌, ℤ, List, [], ◌∷◌, ◌++◌, inl, inr, length, append_assoc, arith, sym, subst, ◌∙◌}
+-- How what is found goes on with each step of a search.
+use Rattle.std.proofs.Common.{◌≡◌, ℕ, ◌+◌, ◌<◌, ℤ, Bool, true, false, not, List, [], ◌∷◌, ◌++◌, Option, Some, None, inl, inr, length, arith, sym, ◌∙◌}
 use Rattle.std.specs.Prelude.{All}
 use Rattle.std.specs.Global.{Vec}
-use Rattle.difference_solver.specs.Bound.{Meets, IsSolution, IsUnsolvable}
+use Rattle.std.proofs.lemmas.Bool.{not-true, not-false}
+use Rattle.std.proofs.lemmas.List.Elements.{All-append, All-map, All-weaker}
+use Rattle.difference_solver.specs.Bound.{Meets, IsInRange, IsSolution, HasLowerBounds}
 use Rattle.difference_solver.specs.Bound as Bounds
-use Rattle.difference_solver.specs.Cycle.{IsNegativeCycle}
 use Rattle.case_search.specs.Choices.{Case, MeetsOne, MeetsEach, with_each, cases_at, AreBelow, IsMet, IsUpTo}
-use Rattle.case_search.specs.Progress.{RefutesAllBut, IsLeastAllBut}
-use Rattle.case_search.specs.Steps.{Refutes}
-use Rattle.case_search.specs.declared.choice.Step.{Step}
-use Rattle.case_search.specs.declared.choice.Step.TheVariants.{Split, Cycle}
-use Rattle.case_search.proofs.Meeting.{one_append_left, one_append_right, one_with, each_at}
-use Rattle.case_search.proofs.WordLemmas.{up_to_from, up_to_trans}
-
-pub nothing_yet : (count : ℕ) (choices : List (List Case)) → RefutesAllBut count choices ([] ∷ []) []
-nothing_yet count choices = record { refutes = λ rest h. h; others = λ w met. inl (λ k d lt. absurd (omega arith)) }
+use Rattle.case_search.specs.Progress.{AreFirst, IsSoFar, IsLeastAllBut}
+use Rattle.case_search.specs.Floors.{bound_of, bounds_of, IsFloor, AreFloors}
+use Rattle.case_search.specs.declared.floors.Floor.{Floor}
+use Rattle.case_search.specs.Words.{comes_before, is_behind}
+use Rattle.case_search.proofs.Meeting.{one_append_left, one_append_right, one_with, each_at, has_below_right}
+use Rattle.case_search.proofs.WordLemmas.{up_to_from, up_to_trans, before_up_to, not_before_up_to}
 
 split_others : (choices : List (List Case)) (g : Case) (left : List Case) (choice : ℕ) (w : List ℤ) → choice < length choices → MeetsEach w choices → MeetsOne w (g ∷ left) → MeetsOne w (with_each g (cases_at choices choice) ++ left)
 split_others choices g left choice w lt each one =
@@ -23,69 +21,88 @@ split_others choices g left choice w lt each one =
       | inr other ↦ one_append_right w (with_each g (cases_at choices choice)) left other
     ]
 
-pub split_refutes : (count : ℕ) (choices : List (List Case)) (g : Case) (left : List Case) (choice : ℕ) (steps : List Step) → choice < length choices → RefutesAllBut count choices (g ∷ left) steps → RefutesAllBut count choices (with_each g (cases_at choices choice) ++ left) (steps ++ Split choice ∷ [])
-split_refutes count choices g left choice steps lt h =
-    record {
-      refutes = λ rest r. subst (λ (ss : List Step). Refutes choices ([] ∷ []) ss) (sym (append_assoc steps (Split choice ∷ []) rest)) (h.refutes (Split choice ∷ rest) (lt, r));
-      others = λ w met. split_others choices g left choice w lt met.met (h.others w met);
-    }
-
-pub split_least : (count : ℕ) (choices : List (List Case)) (g : Case) (left : List Case) (choice : ℕ) (v : List ℤ) → choice < length choices → IsLeastAllBut count choices (g ∷ left) v → IsLeastAllBut count choices (with_each g (cases_at choices choice) ++ left) v
-split_least count choices g left choice v lt h =
+-- a choice is split
+pub split_so_far : (count : ℕ) (choices : List (List Case)) (g : Case) (left : List Case) (choice : ℕ) (best : Option (Vec ℤ)) → choice < length choices → IsSoFar count choices (g ∷ left) best → IsSoFar count choices (with_each g (cases_at choices choice) ++ left) best
+split_so_far count choices g left choice None lt h = λ w met. split_others choices g left choice w lt met.met (h w met)
+split_so_far count choices g left choice (Some values) lt h =
     record {
       met = h.met;
       others = λ below w met. elim (h.others below w met) [ inl up ↦ inl up | inr one ↦ inr (split_others choices g left choice w lt met.met one) ];
     }
 
-cycle_others : (count : ℕ) (choices : List (List Case)) (g : Case) (left : List Case) (w : List ℤ) → IsUnsolvable count g → IsMet count choices w → MeetsOne w (g ∷ left) → MeetsOne w left
-cycle_others count choices g left w none met one = elim one [ inl all ↦ absurd (none w met.one_each all) | inr other ↦ other ]
+others_left : (g : Case) (left : List Case) (w : List ℤ) → (All (Meets w) g → ⊥) → MeetsOne w (g ∷ left) → MeetsOne w left
+others_left g left w none one = elim one [ inl all ↦ absurd (none all) | inr other ↦ other ]
 
-pub cycle_refutes : (count : ℕ) (choices : List (List Case)) (g : Case) (left : List Case) (around : Vec ℕ) (steps : List Step) → IsNegativeCycle g around.items → IsUnsolvable count g → RefutesAllBut count choices (g ∷ left) steps → RefutesAllBut count choices left (steps ++ Cycle around ∷ [])
-cycle_refutes count choices g left around steps cycle none h =
-    record {
-      refutes = λ rest r. subst (λ (ss : List Step). Refutes choices ([] ∷ []) ss) (sym (append_assoc steps (Cycle around ∷ []) rest)) (h.refutes (Cycle around ∷ rest) (cycle, r));
-      others = λ w met. cycle_others count choices g left w none met (h.others w met);
-    }
-
-pub cycle_least : (count : ℕ) (choices : List (List Case)) (g : Case) (left : List Case) (v : List ℤ) → IsUnsolvable count g → IsLeastAllBut count choices (g ∷ left) v → IsLeastAllBut count choices left v
-cycle_least count choices g left v none h =
+-- no integers meet the bounds
+pub cycle_so_far : (count : ℕ) (choices : List (List Case)) (g : Case) (left : List Case) (best : Option (Vec ℤ)) → ((w : List ℤ) → All (Meets w) g → ⊥) → IsSoFar count choices (g ∷ left) best → IsSoFar count choices left best
+cycle_so_far count choices g left None none h = λ w met. others_left g left w (none w) (h w met)
+cycle_so_far count choices g left (Some values) none h =
     record {
       met = h.met;
-      others = λ below w met. elim (h.others below w met) [ inl up ↦ inl up | inr one ↦ inr (cycle_others count choices g left w none met one) ];
+      others = λ below w met. elim (h.others below w met) [ inl up ↦ inl up | inr one ↦ inr (others_left g left w (none w) one) ];
     }
 
--- integers that are least at each unknown come first
-pub solved_first : (count : ℕ) (choices : List (List Case)) (g : Case) (v w : List ℤ) → IsMet count choices v → Bounds.IsLeast count g v → IsMet count choices w → All (Meets w) g → IsUpTo v w
-solved_first count choices g v w is least met all =
-    up_to_from v w (is.one_each ∙ sym met.one_each)
-    (λ u lt same. least w record { one_each = met.one_each; first = met.first; met = all } u (omega (arith, is.one_each)))
+floors_met : (count : ℕ) (choices : List (List Case)) (floors : List Floor) (w : List ℤ) → All (IsFloor count choices) floors → MeetsEach w choices → All (Meets w) (bounds_of floors)
+floors_met count choices floors w each met =
+    All-map (Meets w) bound_of floors
+    (All-weaker (IsFloor count choices) (λ (f : Floor). Meets w (bound_of f)) (λ f is. is.met w met) floors each)
 
-pub values_first : (count : ℕ) (choices : List (List Case)) (g : Case) (left : List Case) (steps : List Step) (v : List ℤ) → IsMet count choices v → (AreBelow count choices → Bounds.IsLeast count g v) → RefutesAllBut count choices (g ∷ left) steps → IsLeastAllBut count choices left v
-values_first count choices g left steps v is least h =
+-- the bounds and the floors are within the limits of a solver
+pub floors_in_range : (count : ℕ) (choices : List (List Case)) (g : Case) (floors : List Floor) → All (IsFloor count choices) floors → All (IsInRange count) g → All (IsInRange count) (g ++ bounds_of floors)
+floors_in_range count choices g floors each in_range =
+    All-append (IsInRange count) g (bounds_of floors) in_range
+    (All-map (IsInRange count) bound_of floors
+    (All-weaker (IsFloor count choices) (λ (f : Floor). IsInRange count (bound_of f)) (λ f is. is.in_range) floors each))
+
+-- the least integers that meet bounds and floors come first
+pub first_of : (count : ℕ) (choices : List (List Case)) (g : Case) (floors : List Floor) (v : List ℤ) → AreFloors count choices floors → IsSolution count (g ++ bounds_of floors) v → (HasLowerBounds count (g ++ bounds_of floors) → Bounds.IsLeast count (g ++ bounds_of floors) v) → AreFirst count choices g v
+first_of count choices g floors v are is least =
     record {
-      met = is;
-      others = λ below w met. elim (h.others w met) [
-        | inl all ↦ inl (solved_first count choices g v w is (least below) met all)
-        | inr other ↦ inr other
-      ];
+      one_each = is.one_each;
+      zero_first = is.first;
+      before = λ below w met all.
+          let all_met : All (Meets w) (g ++ bounds_of floors) = All-append (Meets w) g (bounds_of floors) all (floors_met count choices floors w are.each met.met) in
+          let low : HasLowerBounds count (g ++ bounds_of floors) = λ u above within. has_below_right u g (bounds_of floors) (are.below below u above within) in
+          up_to_from v w (is.one_each ∙ sym met.one_each)
+          (λ u lt same. least low w record { one_each = met.one_each; first = met.first; met = all_met } u (omega (arith, is.one_each)));
     }
 
-pub values_before : (count : ℕ) (choices : List (List Case)) (g : Case) (left : List Case) (old v : List ℤ) → IsUpTo v old → IsMet count choices v → (AreBelow count choices → Bounds.IsLeast count g v) → IsLeastAllBut count choices (g ∷ left) old → IsLeastAllBut count choices left v
-values_before count choices g left old v up is least h =
-    record {
-      met = is;
-      others = λ below w met. elim (h.others below w met) [
-        | inl after ↦ inl (up_to_trans v old w up after)
-        | inr one ↦ elim one [ inl all ↦ inl (solved_first count choices g v w is (least below) met all) | inr other ↦ inr other ]
-      ];
-    }
-
-pub values_after : (count : ℕ) (choices : List (List Case)) (g : Case) (left : List Case) (old v : List ℤ) → IsUpTo old v → IsMet count choices v → (AreBelow count choices → Bounds.IsLeast count g v) → IsLeastAllBut count choices (g ∷ left) old → IsLeastAllBut count choices left old
-values_after count choices g left old v up is least h =
+-- integers that are found before come before all that meet the bounds
+pub behind_so_far : (count : ℕ) (choices : List (List Case)) (g : Case) (left : List Case) (old : Vec ℤ) (v : List ℤ) → is_behind (Some old) v ≡ true → AreFirst count choices g v → IsSoFar count choices (g ∷ left) (Some old) → IsSoFar count choices left (Some old)
+behind_so_far count choices g left old v behind is h =
+    let not_before : comes_before v old.items ≡ false = not-true (comes_before v old.items) behind in
+    let up : IsUpTo old.items v = not_before_up_to v old.items (is.one_each ∙ sym h.met.one_each) not_before in
     record {
       met = h.met;
       others = λ below w met. elim (h.others below w met) [
         | inl after ↦ inl after
-        | inr one ↦ elim one [ inl all ↦ inl (up_to_trans old v w up (solved_first count choices g v w is (least below) met all)) | inr other ↦ inr other ]
+        | inr one ↦ elim one [
+          | inl all ↦ inl (up_to_trans old.items v w up (is.before below w met all))
+          | inr other ↦ inr other
+        ]
+      ];
+    }
+
+-- integers that meet one case of each choice are the first so far
+pub values_so_far : (count : ℕ) (choices : List (List Case)) (g : Case) (left : List Case) (best : Option (Vec ℤ)) (values : Vec ℤ) → is_behind best values.items ≡ false → MeetsEach values.items choices → AreFirst count choices g values.items → IsSoFar count choices (g ∷ left) best → IsSoFar count choices left (Some values)
+values_so_far count choices g left None values behind each is h =
+    record {
+      met = record { one_each = is.one_each; first = is.zero_first; met = each };
+      others = λ below w met. elim (h w met) [
+        | inl all ↦ inl (is.before below w met all)
+        | inr other ↦ inr other
+      ];
+    }
+values_so_far count choices g left (Some old) values behind each is h =
+    let before : comes_before values.items old.items ≡ true = not-false (comes_before values.items old.items) behind in
+    let up : IsUpTo values.items old.items = before_up_to values.items old.items before in
+    record {
+      met = record { one_each = is.one_each; first = is.zero_first; met = each };
+      others = λ below w met. elim (h.others below w met) [
+        | inl after ↦ inl (up_to_trans values.items old.items w up after)
+        | inr one ↦ elim one [
+          | inl all ↦ inl (is.before below w met all)
+          | inr other ↦ inr other
+        ]
       ];
     }

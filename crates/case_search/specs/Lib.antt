@@ -1,7 +1,9 @@
+pub mod Branches
 pub mod Choices
+pub mod Floors
+pub mod Lifting
 pub mod Outcomes
 pub mod Parts
 pub mod Progress
 pub mod Steps
-pub mod Untried
 pub mod Words

@@ -1,5 +1,6 @@
 -- What a search finds.
-use Rattle.std.specs.Prelude.{ℤ, List}
+use Rattle.std.specs.Prelude.{ℤ, List, Option, Some, None}
+use Rattle.std.specs.Global.{Vec}
 use Rattle.case_search.specs.declared.choice.Step.{Step}
 use Rattle.case_search.specs.declared.choice.Outcome.{Outcome}
 use Rattle.case_search.specs.declared.choice.Outcome.TheVariants.{Least, Refuted}
@@ -17,3 +18,8 @@ IfRefuted (Refuted steps) P = P steps.items
 abbrev pub IsRefuted : Outcome → Type 0
 IsRefuted (Least values) = ⊥
 IsRefuted (Refuted steps) = Unit {0}
+
+-- the integers, where there are some, and else the steps
+abbrev pub outcome_of : Option (Vec ℤ) → Vec Step → Outcome
+outcome_of None steps = Refuted steps
+outcome_of (Some values) steps = Least values

@@ -2,12 +2,14 @@
 #![tactic(auto)]
 
 mod choice;
+mod floors;
 mod labels;
 pub mod laws;
 mod least;
+mod lift;
+mod met;
 mod order;
 mod parts;
-mod progress;
 mod search;
 mod walk;
 mod zeros;

@@ -6,12 +6,13 @@ ghost use Rattle.case_search.specs.Outcomes.{IfLeast, IfRefuted, IsRefuted};
 ghost use Rattle.case_search.specs.Steps.{Refutes};
 
 use crate::choice::{Choice, Outcome};
+use crate::floors::floors_of;
 use crate::walk::Walk;
 use difference_solver::NoMemory;
 use std::alloc::Global;
 
 /// Integers that meet one case of each choice, the first in the order of words where each unknown is bounded from below;
-/// or a refutation.
+/// or a refutation. Choices of one case are taken first. Answers NoMemory too where 2^64 lists of bounds were looked at.
 pub(crate) fn search(alloc: Global, choices: &[Choice], count: u32) -> Result<Outcome, NoMemory>
     requires unknowns { count ≤ 64 }
     requires few { length choices.now ≤ 2 ^ 32 }
@@ -23,17 +24,13 @@ pub(crate) fn search(alloc: Global, choices: &[Choice], count: u32) -> Result<Ou
     ensures refuted { IfOk result (λ outcome. IfRefuted outcome (Refutes (lists_of choices.now) ([] ∷ []))) }
     ensures unmet { IfOk result (λ outcome. IsRefuted outcome ↔ IsUnmet count (lists_of choices.now)) }
 {
-    let mut walk = Walk {
-        gathered: Vec::new(alloc),
-        untried: Vec::new(alloc),
-    };
-    let nothing = Outcome::Refuted {
-        steps: Vec::new(alloc),
-    };
-    let mut outcome = walk.visit(alloc, choices, count, 0, nothing)?;
-    while let Some(next) = walk.untried.pop() {
-        walk.gather(choices, next)?;
-        outcome = walk.visit(alloc, choices, count, next.choice + 1, outcome)?;
+    let floors = floors_of(alloc, choices, count)?;
+    let mut walk = Walk::new(alloc);
+    walk.take_single_cases(alloc, choices, count)?;
+    for _ in 0..u64::MAX {
+        if !walk.turn(alloc, choices, floors.as_slice(), count)? {
+            return Ok(walk.outcome());
+        }
     }
-    Ok(outcome)
+    Err(NoMemory)
 }

@@ -1,121 +1,434 @@
-//! The bounds that are gathered, and the cases that are still to be tried.
+//! A walk through the cases of choices.
 
-ghost use Rattle.std.specs.Prelude.{◌≡◌, ◌+◌, ◌^◌, ◌<◌, ◌≤◌, ◌++◌, take, drop, length, reverse, IfOk, OnOk};
-ghost use Rattle.case_search.specs.Choices.{lists_of, cases_at};
-ghost use Rattle.case_search.specs.Progress.{IsAt, IsPast};
-ghost use Rattle.case_search.specs.Untried.{case_of, tries, looks_of, looks_left};
+ghost use Rattle.std.specs.Prelude.{◌≡◌, ℕ, ◌<◌, ◌≤◌, ◌-◌, ◌^◌, [], ◌∷◌, ◌++◌, List, is_some, false, take, length, reverse, IfOk, OnOk, MatchOption};
+ghost use Rattle.std.specs.Bool.{MatchBool, OnFalse};
+ghost use Rattle.std.specs.List.{AllZip};
+ghost use Rattle.difference_solver.specs.Cycle.{IsNegativeCycle};
+ghost use Rattle.case_search.specs.Choices.{Case, lists_of, cases_at, AreInRange};
+ghost use Rattle.case_search.specs.Branches.{case_of};
+ghost use Rattle.case_search.specs.Floors.{bounds_of, AreFloors};
+ghost use Rattle.case_search.specs.Lifting.{IsLowered};
+ghost use Rattle.case_search.specs.Outcomes.{outcome_of};
+ghost use Rattle.case_search.specs.Progress.{AreFirst, IsPast, IsLeft, IsFound, IsWalkAt, IsWalkPast};
+ghost use Rattle.case_search.specs.Words.{is_behind};
+ghost use Rattle.case_search.specs.declared.choice.Step.TheVariants.{Split as SplitStep, Cycle as CycleStep};
 
-use crate::choice::{Choice, Outcome};
+use crate::choice::{Choice, Outcome, Step};
+use crate::floors::{Floor, choice_of, first_behind, with_floors};
+use crate::lift::{all_avoid, lower};
+use crate::met::first_broken;
+use crate::order::is_before;
+use difference_solver::laws::cycle_refutes;
 use difference_solver::{Bound, DiffVerdict, NoMemory, solve};
 use std::alloc::{AllocError, Global};
+use std::mem;
 
-/// A case that is still to be tried: the bounds before `start` go before it.
-#[derive(Clone, Copy)]
-pub struct Untried {
+/// A choice that is split, and the case of it that is taken.
+#[derive(Drop)]
+pub struct Branch {
     pub choice: usize,
     pub case: usize,
+    /// How many bounds are gathered before those of the case.
     pub start: usize,
+    /// The split, and behind it the refutations of the cases before this one, where no integers are found yet.
+    pub steps: Vec<Step>,
 }
 
-/// The bounds that are gathered, and the cases that are still to be tried, the next one last.
+/// A place in a search.
 #[derive(Drop)]
 pub struct Walk {
+    /// The bounds of the cases that are taken.
     pub gathered: Vec<Bound>,
-    pub untried: Vec<Untried>,
+    /// The splits on the way, the last one last.
+    pub branches: Vec<Branch>,
+    /// The first integers in the order of words that are found.
+    pub best: Option<Vec<i128>>,
+    /// The refutation of the bounds that are gathered, where these are done with and no integers are found yet.
+    pub steps: Vec<Step>,
+}
+
+/// Whether integers were found before, and these do not come before them.
+fn is_behind(best: &Option<Vec<i128>>, values: &[i128]) -> bool
+    ensures { result ≡ is_behind best.now values.now }
+{
+    match best {
+        None => false,
+        Some(best) => !is_before(values, best.as_slice()),
+    }
+}
+
+/// The step that splits a choice.
+fn split_steps(alloc: Global, choice: u32) -> Result<Vec<Step>, AllocError>
+    ensures { IfOk result (λ steps. steps.items ≡ SplitStep choice ∷ []) }
+{
+    let split = Step::Split { choice };
+    Ok(vec![in alloc; split]?)
+}
+
+/// The step of bounds around a cycle.
+fn cycle_steps(alloc: Global, bounds: Vec<u32>) -> Result<Vec<Step>, AllocError>
+    ensures { IfOk result (λ steps. steps.items ≡ CycleStep bounds ∷ []) }
+{
+    let cycle = Step::Cycle { bounds };
+    Ok(vec![in alloc; cycle]?)
 }
 
 impl Walk {
-    /// Gathers the bounds of a case.
-    pub(crate) fn gather(&mut self, choices: &[Choice], next: Untried) -> Result<(), AllocError>
-        requires choice { next.choice < length choices.now }
-        requires case { next.case < length (cases_at (lists_of choices.now) next.choice) }
-        ensures untried { self.new.untried.items ≡ self.old.untried.items }
-        ensures gathered { OnOk result (self.new.gathered.items
-            ≡ take next.start self.old.gathered.items ++ case_of (lists_of choices.now) next) }
+    /// A walk that has not begun.
+    pub(crate) fn new(alloc: Global) -> Walk
+        ensures { (count : ℕ) (choices : List (List Case)) → count ≤ 64 → IsWalkAt count choices result }
     {
-        self.gathered.truncate(next.start);
-        let case = &choices[next.choice].cases[next.case];
-        self.gathered.extend_from_slice(case.as_slice())
+        Walk {
+            gathered: Vec::new(alloc),
+            branches: Vec::new(alloc),
+            best: None,
+            steps: Vec::new(alloc),
+        }
     }
 
-    /// Looks at the bounds that are gathered, of one case of each of the first `depth` choices.
-    pub(crate) fn visit(
+    /// Takes the case of a branch, behind the bounds that are gathered before it.
+    fn enter(&mut self, choices: &[Choice], branch: Branch) -> Result<(), AllocError>
+        requires choice { branch.choice < length choices.now }
+        requires case { branch.case < length (cases_at (lists_of choices.now) branch.choice) }
+        ensures gathered { OnOk result (self.new.gathered.items
+            ≡ take branch.start self.old.gathered.items ++ case_of (lists_of choices.now) branch) }
+        ensures branches { OnOk result (self.new.branches.items ≡ self.old.branches.items ++ branch ∷ []) }
+        ensures best { self.new.best ≡ self.old.best }
+    {
+        self.gathered.truncate(branch.start);
+        let case = &choices[branch.choice].cases[branch.case];
+        self.gathered.extend_from_slice(case.as_slice())?;
+        self.branches.push(branch)?;
+        Ok(())
+    }
+
+    /// Splits a choice, and takes its first case.
+    fn take_first(
         &mut self,
         alloc: Global,
         choices: &[Choice],
         count: u32,
-        depth: usize,
-        outcome: Outcome,
-    ) -> Result<Outcome, NoMemory>
-        requires unknowns { count ≤ 64 }
+        choice: usize,
+    ) -> Result<(), AllocError>
         requires few { length choices.now ≤ 2 ^ 32 }
-        requires at { IsAt count (lists_of choices.now) depth self.old.gathered.items (reverse self.old.untried.items) outcome }
-        ensures past { IfOk result
-            (IsPast count (lists_of choices.now) self.new.gathered.items (reverse self.new.untried.items)) }
-        ensures looks { OnOk result (looks_left (lists_of choices.now) (reverse self.new.untried.items)
-            < looks_of (drop depth (lists_of choices.now)) + looks_left (lists_of choices.now) (reverse self.old.untried.items)) }
+        requires in_range { AreInRange count (lists_of choices.now) }
+        requires choice { choice < length choices.now }
+        requires some { 0 < length (cases_at (lists_of choices.now) choice) }
+        requires at { IsWalkAt count (lists_of choices.now) self.old }
+        ensures { OnOk result (IsWalkAt count (lists_of choices.now) self.new) }
     {
-        if depth < choices.len() && choices[depth].cases.len() < 2 {
-            return self.split(choices, count, depth, outcome);
+        let start = self.gathered.len();
+        let steps = split_steps(alloc, choice as u32)?;
+        let branch = Branch {
+            choice,
+            case: 0,
+            start,
+            steps,
+        };
+        self.enter(choices, branch)?;
+        Ok(())
+    }
+
+    /// Takes the case of each choice that has one alone.
+    pub(crate) fn take_single_cases(
+        &mut self,
+        alloc: Global,
+        choices: &[Choice],
+        count: u32,
+    ) -> Result<(), AllocError>
+        requires few { length choices.now ≤ 2 ^ 32 }
+        requires in_range { AreInRange count (lists_of choices.now) }
+        requires at { IsWalkAt count (lists_of choices.now) self.old }
+        ensures { OnOk result (IsWalkAt count (lists_of choices.now) self.new) }
+    {
+        for choice in 0..choices.len() {
+            if choices[choice].cases.len() == 1 {
+                self.take_first(alloc, choices, count, choice)?;
+            }
         }
-        if self.gathered.len() > u32::MAX as usize {
+        Ok(())
+    }
+
+    /// Refutes the bounds by a choice without cases.
+    fn refute_empty(
+        &mut self,
+        alloc: Global,
+        choices: &[Choice],
+        count: u32,
+        choice: usize,
+    ) -> Result<(), AllocError>
+        requires few { length choices.now ≤ 2 ^ 32 }
+        requires choice { choice < length choices.now }
+        requires none { length (cases_at (lists_of choices.now) choice) ≡ 0 }
+        requires at { IsWalkAt count (lists_of choices.now) self.old }
+        ensures { OnOk result (IsWalkPast count (lists_of choices.now) self.new) }
+    {
+        let steps = split_steps(alloc, choice as u32)?;
+        self.steps = steps;
+        Ok(())
+    }
+
+    /// Splits a choice, and takes its first case. Answers false where it has none: then the bounds are refuted.
+    fn split(
+        &mut self,
+        alloc: Global,
+        choices: &[Choice],
+        count: u32,
+        choice: usize,
+    ) -> Result<bool, AllocError>
+        requires few { length choices.now ≤ 2 ^ 32 }
+        requires in_range { AreInRange count (lists_of choices.now) }
+        requires choice { choice < length choices.now }
+        requires at { IsWalkAt count (lists_of choices.now) self.old }
+        ensures { IfOk result (λ taken. MatchBool taken
+            (IsWalkAt count (lists_of choices.now) self.new) (IsWalkPast count (lists_of choices.now) self.new)) }
+    {
+        if choices[choice].cases.len() == 0 {
+            self.refute_empty(alloc, choices, count, choice)?;
+            return Ok(false);
+        }
+        self.take_first(alloc, choices, count, choice)?;
+        Ok(true)
+    }
+
+    /// Looks at the bounds that are gathered. Answers a choice that is to be split; none where they are done with.
+    fn look(
+        &mut self,
+        alloc: Global,
+        choices: &[Choice],
+        floors: &[Floor],
+        count: u32,
+    ) -> Result<Option<usize>, NoMemory>
+        requires floors { AreFloors count (lists_of choices.now) floors.now }
+        requires at { IsWalkAt count (lists_of choices.now) self.old }
+        ensures { IfOk result (λ next. MatchOption next (IsWalkPast count (lists_of choices.now) self.new)
+            (λ choice. (choice < length choices.now) × IsWalkAt count (lists_of choices.now) self.new)) }
+    {
+        let gathered = self.gathered.as_slice();
+        let bounds = with_floors(alloc, gathered, floors)?;
+        if bounds.len() > u32::MAX as usize {
             return Err(NoMemory);
         }
-        match solve(alloc, self.gathered.as_slice(), count)? {
-            DiffVerdict::Cycle { bounds } => Ok(outcome.with_cycle(bounds)?),
-            DiffVerdict::Values { values } => {
-                if depth < choices.len() {
-                    self.split(choices, count, depth, outcome)
-                } else {
-                    Ok(outcome.with_values(values))
-                }
+        let all = bounds.as_slice();
+        let verdict = solve(alloc, all, count)?;
+        match verdict {
+            DiffVerdict::Cycle { bounds } => {
+                let next = self.refute(alloc, choices, floors, count, bounds)?;
+                Ok(next)
+            }
+            DiffVerdict::Values { values } => Ok(self.weigh(choices, count, values)),
+        }
+    }
+
+    /// Looks at a cycle of the bounds that are gathered and of floors. It refutes the bounds where no floor is one of it;
+    /// else the choice of a floor is to be split.
+    fn refute(
+        &mut self,
+        alloc: Global,
+        choices: &[Choice],
+        floors: &[Floor],
+        count: u32,
+        bounds: Vec<u32>,
+    ) -> Result<Option<usize>, AllocError>
+        requires floors { AreFloors count (lists_of choices.now) floors.now }
+        requires at { IsWalkAt count (lists_of choices.now) self.old }
+        requires cycle { IsNegativeCycle (self.old.gathered.items ++ bounds_of floors.now) bounds.items }
+        ensures { IfOk result (λ next. MatchOption next (IsWalkPast count (lists_of choices.now) self.new)
+            (λ choice. (choice < length choices.now) × IsWalkAt count (lists_of choices.now) self.new)) }
+    {
+        cycle_refutes();
+        let _choices = choices.len();
+        let start = self.gathered.len();
+        match first_behind(bounds.as_slice(), start) {
+            Some(index) => Ok(Some(choice_of(floors, index - start))),
+            None => {
+                let steps = cycle_steps(alloc, bounds)?;
+                self.steps = steps;
+                Ok(None)
             }
         }
     }
 
-    /// Leaves each case of a choice to be tried.
-    fn split(
+    /// Looks at integers that meet the bounds that are gathered, and come before all others where each unknown is bounded
+    /// from below. They are the first so far where they meet a case of each choice; else a choice that they break is to be
+    /// split, but where they do not come before those that are found.
+    fn weigh(&mut self, choices: &[Choice], count: u32, values: Vec<i128>) -> Option<usize>
+        requires at { IsWalkAt count (lists_of choices.now) self.old }
+        requires values { AreFirst count (lists_of choices.now) self.old.gathered.items values.items }
+        ensures { MatchOption result (IsWalkPast count (lists_of choices.now) self.new)
+            (λ choice. (choice < length choices.now) × IsWalkAt count (lists_of choices.now) self.new) }
+    {
+        let integers = values.as_slice();
+        if is_behind(&self.best, integers) {
+            return None;
+        }
+        match first_broken(choices, integers) {
+            Some(choice) => Some(choice),
+            None => {
+                self.best = Some(values);
+                None
+            }
+        }
+    }
+
+    /// Takes the case behind that of a branch whose case is done with, or goes back to what it is split from. Answers
+    /// whether there is such a case.
+    fn next(&mut self, choices: &[Choice], count: u32, branch: Branch) -> Result<bool, AllocError>
+        requires in_range { AreInRange count (lists_of choices.now) }
+        requires left { IsLeft count (lists_of choices.now) self.old.gathered.items branch (reverse self.old.branches.items) self.old.best }
+        ensures next { IfOk result (λ taken. MatchBool taken
+            (IsWalkAt count (lists_of choices.now) self.new) (IsWalkPast count (lists_of choices.now) self.new)) }
+        ensures back { IfOk result (λ taken. OnFalse taken (self.new.branches.items ≡ self.old.branches.items)) }
+    {
+        let choice = branch.choice;
+        let cases = choices[choice].cases.len();
+        let case = branch.case + 1;
+        if case < cases {
+            let next = Branch {
+                choice,
+                case,
+                start: branch.start,
+                steps: branch.steps,
+            };
+            self.enter(choices, next)?;
+            return Ok(true);
+        }
+        self.gathered.truncate(branch.start);
+        self.steps = branch.steps;
+        Ok(false)
+    }
+
+    /// Takes away the bounds from `start` on, which no cycle of the steps uses.
+    fn go_back(&mut self, alloc: Global, start: usize) -> Result<(), AllocError>
+        requires { start ≤ length self.old.gathered.items }
+        ensures gathered { OnOk result (self.new.gathered.items ≡ take start self.old.gathered.items) }
+        ensures branches { self.new.branches.items ≡ self.old.branches.items }
+        ensures best { self.new.best ≡ self.old.best }
+        ensures steps { OnOk result (AllZip (IsLowered start (length self.old.gathered.items - start))
+            self.old.steps.items self.new.steps.items) }
+    {
+        let width = self.gathered.len() - start;
+        let steps = mem::replace(&mut self.steps, Vec::new(alloc));
+        self.steps = lower(alloc, steps, start, width)?;
+        self.gathered.truncate(start);
+        Ok(())
+    }
+
+    /// Goes on behind a branch whose case is refuted, where no integers are found yet. Where no cycle uses the bounds of
+    /// the case, what is split is refuted without the split, and its other cases need no look.
+    fn leave_refuted(
         &mut self,
+        alloc: Global,
         choices: &[Choice],
         count: u32,
-        choice: usize,
-        outcome: Outcome,
-    ) -> Result<Outcome, NoMemory>
-        requires within { choice < length choices.now }
-        requires few { length choices.now ≤ 2 ^ 32 }
-        requires at { IsAt count (lists_of choices.now) choice self.old.gathered.items (reverse self.old.untried.items) outcome }
-        ensures past { IfOk result
-            (IsPast count (lists_of choices.now) self.new.gathered.items (reverse self.new.untried.items)) }
-        ensures looks { OnOk result (looks_left (lists_of choices.now) (reverse self.new.untried.items)
-            < looks_of (drop choice (lists_of choices.now)) + looks_left (lists_of choices.now) (reverse self.old.untried.items)) }
+        mut branch: Branch,
+    ) -> Result<bool, AllocError>
+        requires in_range { AreInRange count (lists_of choices.now) }
+        requires none { is_some self.old.best ≡ false }
+        requires past { IsPast count (lists_of choices.now) self.old.gathered.items (branch ∷ reverse self.old.branches.items) self.old.best self.old.steps.items }
+        ensures next { IfOk result (λ taken. MatchBool taken
+            (IsWalkAt count (lists_of choices.now) self.new) (IsWalkPast count (lists_of choices.now) self.new)) }
+        ensures back { IfOk result (λ taken. OnFalse taken (self.new.branches.items ≡ self.old.branches.items)) }
     {
-        let after = outcome.with_split(choice as u32)?;
-        let start = self.gathered.len();
-        push_tries(
-            &mut self.untried,
-            choice,
-            start,
-            choices[choice].cases.len(),
-        )?;
-        Ok(after)
+        cycle_refutes();
+        if all_avoid(self.steps.as_slice(), branch.start, self.gathered.len()) {
+            self.go_back(alloc, branch.start)?;
+            return Ok(false);
+        }
+        branch.steps.append(&mut self.steps)?;
+        self.next(choices, count, branch)
     }
-}
 
-/// Puts all cases of a choice on top, the first one last.
-fn push_tries(
-    untried: &mut Vec<Untried>,
-    choice: usize,
-    start: usize,
-    cases: usize,
-) -> Result<(), AllocError>
-    ensures { OnOk result (reverse untried.new.items ≡ tries choice start 0 cases ++ reverse untried.old.items) }
-{
-    for done in 0..cases {
-        untried.push(Untried {
-            choice,
-            case: cases - 1 - done,
-            start,
-        })?;
+    /// Goes on behind a branch whose case is done with. Answers whether another case of it is taken.
+    fn leave(
+        &mut self,
+        alloc: Global,
+        choices: &[Choice],
+        count: u32,
+        branch: Branch,
+    ) -> Result<bool, AllocError>
+        requires in_range { AreInRange count (lists_of choices.now) }
+        requires past { IsPast count (lists_of choices.now) self.old.gathered.items (branch ∷ reverse self.old.branches.items) self.old.best self.old.steps.items }
+        ensures next { IfOk result (λ taken. MatchBool taken
+            (IsWalkAt count (lists_of choices.now) self.new) (IsWalkPast count (lists_of choices.now) self.new)) }
+        ensures back { IfOk result (λ taken. OnFalse taken (self.new.branches.items ≡ self.old.branches.items)) }
+    {
+        if self.best.is_some() {
+            return self.next(choices, count, branch);
+        }
+        self.leave_refuted(alloc, choices, count, branch)
     }
-    Ok(())
+
+    /// Goes on behind bounds that are done with. Answers whether there are others that are left.
+    fn advance(&mut self, alloc: Global, choices: &[Choice], count: u32) -> Result<bool, AllocError>
+        requires in_range { AreInRange count (lists_of choices.now) }
+        requires past { IsWalkPast count (lists_of choices.now) self.old }
+        ensures { IfOk result (λ more. MatchBool more (IsWalkAt count (lists_of choices.now) self.new)
+            (IsFound count (lists_of choices.now) self.new.best self.new.steps.items)) }
+    {
+        while let Some(branch) = self.branches.pop() {
+            if self.leave(alloc, choices, count, branch)? {
+                return Ok(true);
+            }
+        }
+        Ok(false)
+    }
+
+    /// Looks at the bounds that are gathered, and splits a choice where one is to be split. Answers whether a case of it
+    /// is taken, and false where the bounds are done with.
+    fn visit(
+        &mut self,
+        alloc: Global,
+        choices: &[Choice],
+        floors: &[Floor],
+        count: u32,
+    ) -> Result<bool, NoMemory>
+        requires few { length choices.now ≤ 2 ^ 32 }
+        requires floors { AreFloors count (lists_of choices.now) floors.now }
+        requires in_range { AreInRange count (lists_of choices.now) }
+        requires at { IsWalkAt count (lists_of choices.now) self.old }
+        ensures { IfOk result (λ taken. MatchBool taken
+            (IsWalkAt count (lists_of choices.now) self.new) (IsWalkPast count (lists_of choices.now) self.new)) }
+    {
+        match self.look(alloc, choices, floors, count)? {
+            None => Ok(false),
+            Some(choice) => {
+                let taken = self.split(alloc, choices, count, choice)?;
+                Ok(taken)
+            }
+        }
+    }
+
+    /// Looks at the bounds that are gathered, and goes on. Answers whether others are left.
+    pub(crate) fn turn(
+        &mut self,
+        alloc: Global,
+        choices: &[Choice],
+        floors: &[Floor],
+        count: u32,
+    ) -> Result<bool, NoMemory>
+        requires few { length choices.now ≤ 2 ^ 32 }
+        requires floors { AreFloors count (lists_of choices.now) floors.now }
+        requires in_range { AreInRange count (lists_of choices.now) }
+        requires at { IsWalkAt count (lists_of choices.now) self.old }
+        ensures { IfOk result (λ more. MatchBool more (IsWalkAt count (lists_of choices.now) self.new)
+            (IsFound count (lists_of choices.now) self.new.best self.new.steps.items)) }
+    {
+        if self.visit(alloc, choices, floors, count)? {
+            return Ok(true);
+        }
+        let more = self.advance(alloc, choices, count)?;
+        Ok(more)
+    }
+
+    /// What was found, where nothing is left.
+    pub(crate) fn outcome(self) -> Outcome
+        ensures { result ≡ outcome_of self.best self.steps }
+    {
+        let Walk { best, steps, .. } = self;
+        match best {
+            None => Outcome::Refuted { steps },
+            Some(values) => Outcome::Least { values },
+        }
+    }
 }

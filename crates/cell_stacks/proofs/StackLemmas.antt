@@ -1,5 +1,5 @@
 -- What holds of each pair of a list of stacks, and what stands at a key after a change.
-use Rattle.std.proofs.Common.{◌≡◌, Bool, true, false, cond, List, [], ◌∷◌, ◌++◌, unwrap_or, Option, Some, None, IfSome, Bor}
+use Rattle.std.proofs.Common.{Result, Ok, Err, OnOk, OnErr, subst, sym, ◌≡◌, Bool, true, false, cond, List, [], ◌∷◌, ◌++◌, unwrap_or, Option, Some, None, IfSome, Bor}
 use Rattle.std.specs.List.{AllByRecursion, filter}
 use Rattle.std.specs.declared.cmp.Ordering.{Ordering}
 use Rattle.std.specs.Option.{option_map}
@@ -53,3 +53,7 @@ module _ {K X : Type 0} (cmp : K → K → Ordering) (key : K) (stacks : List (K
 
   pub last_is_full : option_map pair_of lent ≡ last_before cmp key stacks → IfSome lent (λ p. IsNonEmpty p.1.now)
   last_is_full e = of_lent_pair (λ p. IsNonEmpty p.1) lent (rw e (last_of_all (λ p. IsNonEmpty p.1) (pairs_before cmp key stacks) (all_kept _ _ stacks full)))
+
+pub none_empty_changed : {K X A E : Type 0} (cmp : K → K → Ordering) (result : Result A E) (key : K) (stack : List X) (old new : List (K × List X)) → OnOk result (new ≡ with_stack cmp key stack old) → OnErr result (new ≡ old) → NoneEmpty old → NoneEmpty new
+none_empty_changed cmp (Ok x) key stack old new put kept a = subst NoneEmpty (sym put) (none_empty_with_stack cmp key stack old a)
+none_empty_changed cmp (Err x) key stack old new put kept a = subst NoneEmpty (sym kept) a

@@ -148,29 +148,29 @@ impl<K: Ord + Copy, X: Drop> StackMap<K, X> {
         ensures ok { OnOk result (self.new ≡ with_stack K.cmp key stack self.old) }
         ensures err { OnErr result (self.new ≡ self.old) }
     {
-        let stacks = changed(alloc, &self.stacks, key, stack)?;
-        self.stacks = stacks;
-        Ok(())
+        changed(alloc, &mut self.stacks, key, stack)
     }
 }
 
-/// The tree with this stack at the key, in place of what was there; an empty one goes.
+/// Puts this stack at the key, in place of what was there; an empty one goes.
 fn changed<K: Ord + Copy, X: Drop>(
     alloc: Global,
-    stacks: &Tree<K, Shared<X>>,
+    stacks: &mut Tree<K, Shared<X>>,
     key: K,
     stack: Shared<X>,
-) -> Result<Tree<K, Shared<X>>, NoMemory>
-    ensures { IfOk result (λ tree. tree ≡ with_stack K.cmp key stack stacks.now) }
+) -> Result<(), NoMemory>
+    ensures ok { OnOk result (stacks.new ≡ with_stack K.cmp key stack stacks.old) }
+    ensures err { OnErr result (stacks.new ≡ stacks.old) }
 {
     if stack.is_empty() {
         let Ok(tree) = stacks.without(alloc, &key) else {
             return Err(NoMemory);
         };
-        return Ok(tree);
+        *stacks = tree;
+        return Ok(());
     }
-    let Ok(tree) = stacks.with(alloc, key, stack) else {
+    let Ok(()) = stacks.set(alloc, key, stack) else {
         return Err(NoMemory);
     };
-    Ok(tree)
+    Ok(())
 }

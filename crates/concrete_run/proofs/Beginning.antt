@@ -1,5 +1,5 @@
 -- Which numbers fit, which test fails first, and what a packet carries at its start.
-use Rattle.std.proofs.Common.{◌≡◌, ℕ, suc, ◌+◌, ◌<◌, ◌≤◌, Bool, true, false, not, ◌^◌, List, [], ◌∷◌, ◌++◌, length, get_or, drop, Option, Some, None, Result, Ok, Err, map, refl, sym, ap, ◌∙◌, arith, subst}
+use Rattle.std.proofs.Common.{◌≡◌, ℕ, suc, ◌+◌, ◌<◌, ◌≤◌, Bool, true, false, not, ◌^◌, List, [], ◌∷◌, ◌++◌, length, get_or, drop, Option, Some, None, Result, Ok, Err, map, refl, sym, ap, ◌∙◌, arith, subst, add-one, drop-cons}
 use Rattle.std.specs.List.{AllByRecursion}
 use Rattle.std.proofs.lemmas.List.{drop_all, get_or_default}
 use Rattle.std.proofs.lemmas.Nat.{pow_pos}
@@ -26,8 +26,10 @@ use Rattle.sefl_meaning.specs.Values.{Values, numbers}
 use Rattle.sefl_meaning.specs.declared.walk.Turn.{Turn}
 use Rattle.instr_steps.specs.Scenes.{GivesBy}
 use Rattle.concrete_run.specs.Starting.{Goes, HasNoFault, IsFirstTooWide, IsFirstOther, StartsBut}
-use Rattle.concrete_run.proofs.Arms.{fault_seen}
-use Rattle.concrete_run.proofs.Counting.{next_of}
+
+-- the member at a place, and those behind it
+next_of : {A : Type 0} (xs : List A) (i : ℕ) (x : A) → i < length xs → x ≡ get_or xs i x → drop i xs ≡ x ∷ drop (i + 1) xs
+next_of xs i x h is = rw add-one (drop-cons xs i x h ∙ ap (λ y. y ∷ drop (suc i) xs) (sym is))
 
 -- what the test of a field's value tells
 pub none_of : (value : Option ℕ) (b : Bool) → is_some value ≡ not b → b ≡ true → value ≡ None
@@ -201,6 +203,10 @@ module _ (net : Network) (p : EntryParts) (v : List ℕ) (raw : RawInjection) (f
     holds = subst (λ (a : At). AllByRecursion (IsTrueIn a.1 a.0 s) (map cond_tree p.raw.tests.items)) same_at
         (subst (λ l. AllByRecursion (IsTrueIn seen.1 seen.0 s) (map cond_tree l)) all_tests h);
   }
+
+-- the fault of an evaluation that was refused
+fault_seen : (truth : Result Bool LayoutFault) (found : StepFault) (fault : LayoutFault) → GivesBy (λ t. t) truth (Err found) → found ≡ Layout fault → truth ≡ Err fault
+fault_seen truth found fault gives is = subst (λ f. GivesBy (λ t. t) truth (Err f)) is gives
 
 -- the truth of a test that is not true
 pub is_truth : (r : Result Bool StepFault) (t : Result Bool LayoutFault) (b : Bool) → GivesBy (λ truth. truth) t r → r ≡ Ok b → t ≡ Ok b

@@ -1,9 +1,5 @@
-pub mod Counting
-pub mod Runs
-pub mod Framing
-pub mod Trees
-pub mod Arms
-pub mod Weighing
+pub mod Alike
+pub mod Answering
 pub mod Moving
 pub mod Working
 pub mod Searching

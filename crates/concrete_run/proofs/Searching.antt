@@ -6,9 +6,9 @@ use Rattle.sefl_meaning.specs.declared.walk.Decision.{Decision}
 use Rattle.sefl_meaning.specs.declared.walk.Place.{Place}
 use Rattle.sefl_meaning.specs.Routes.{Has}
 use Rattle.sefl_meaning.specs.Walks.{Passage, Trail}
-use Rattle.concrete_run.specs.declared.packet.Run.{Run}
+use Rattle.sefl_meaning.specs.Network.{Network}
 use Rattle.concrete_run.specs.declared.pending.Pending.{Pending}
-use Rattle.concrete_run.specs.Passing.{progress_of}
+use Rattle.concrete_run.specs.Packets.{given_of, progress_of}
 use Rattle.concrete_run.specs.Pending.{BeginsWith, Sought, led, walks_at, walks_of, walks_of_all}
 
 has_first : (xs ys : List Trail) (t : Trail) → Has xs t → Has (xs ++ ys) t
@@ -35,23 +35,23 @@ led_begins ds ps [] t h = absurd h
 led_begins ds ps (u ∷ us) t (inl e) = (u.decisions, ap (λ (x : Trail). x.decisions) e)
 led_begins ds ps (u ∷ us) t (inr h) = led_begins ds ps us t h
 
-module _ (run : Run) (ds : List Decision) where
+module _ (net : Network) (ds : List Decision) where
   -- without a packet of which no walk has the decisions
   pub sought_less : (p : Pending) (work : List Pending) (all : List Trail)
-      → ((t : Trail) → Has (walks_of run p) t → t.decisions ≡ ds → ⊥) → Sought run ds (p ∷ work) all → Sought run ds work all
+      → ((t : Trail) → Has (walks_of net p) t → t.decisions ≡ ds → ⊥) → Sought net ds (p ∷ work) all → Sought net ds work all
   sought_less p work all none before = record {
-    within = λ t h. before.within t (has_second (walks_of run p) (walks_of_all run work) t h);
-    kept = λ t h d. elim (has_either (walks_of run p) (walks_of_all run work) t (before.kept t h d)) [ inl l ↦ absurd (none t l d) | inr r ↦ r ];
+    within = λ t h. before.within t (has_second (walks_of net p) (walks_of_all net work) t h);
+    kept = λ t h d. elim (has_either (walks_of net p) (walks_of_all net work) t (before.kept t h d)) [ inl l ↦ absurd (none t l d) | inr r ↦ r ];
   }
 
-  pub none_sought : (work : List Pending) (all : List Trail) → work ≡ [] → Sought run ds work all → AllByRecursion (λ t. t.decisions ≡ ds → ⊥) all
+  pub none_sought : (work : List Pending) (all : List Trail) → work ≡ [] → Sought net ds work all → AllByRecursion (λ t. t.decisions ≡ ds → ⊥) all
   none_sought work all e before =
-      all_of (λ t. t.decisions ≡ ds → ⊥) all (λ t h d. subst (λ l. Has (walks_of_all run l) t) e (before.kept t h d))
+      all_of (λ t. t.decisions ≡ ds → ⊥) all (λ t h d. subst (λ l. Has (walks_of_all net l) t) e (before.kept t h d))
 
   -- no walk of a packet whose decisions are not the first of those that are sought
-  pub none_led : (p : Pending) → (BeginsWith p.packet.decisions.items ds → ⊥) → (t : Trail) → Has (walks_of run p) t → t.decisions ≡ ds → ⊥
+  pub none_led : (p : Pending) → (BeginsWith p.packet.decisions.items ds → ⊥) → (t : Trail) → Has (walks_of net p) t → t.decisions ≡ ds → ⊥
   none_led p other t h e =
-      let begins = led_begins p.packet.decisions.items p.places.items (walks_at run p.stage p.hops (progress_of p.packet)) t h in
+      let begins = led_begins p.packet.decisions.items p.places.items (walks_at net (given_of p.packet) p.stage p.hops (progress_of p.packet)) t h in
       other (begins.0, begins.1 ∙ e)
 
 -- the last of a stack is the first of its work

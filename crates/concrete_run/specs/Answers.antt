@@ -11,7 +11,6 @@ use Rattle.sefl_meaning.specs.Network.{Network, Entry}
 use Rattle.sefl_meaning.specs.Routes.{Has}
 use Rattle.sefl_meaning.specs.View.{carried_of, trail_of}
 use Rattle.sefl_meaning.specs.declared.walk.Carried.{Carried as State}
-use Rattle.concrete_run.specs.declared.packet.Run.{Run}
 use Rattle.concrete_run.specs.declared.pending.Pending.{Pending}
 use Rattle.concrete_run.specs.declared.pending.Stage.TheVariants.{Arriving}
 use Rattle.sefl_meaning.specs.Walks.{Trail}
@@ -20,6 +19,7 @@ use Rattle.concrete_run.specs.declared.injecting.StartFault.{StartFault}
 use Rattle.concrete_run.specs.declared.injecting.StartFault.TheVariants as starts
 use Rattle.concrete_run.specs.declared.walks.WalkFault.{WalkFault}
 use Rattle.concrete_run.specs.declared.walks.WalkFault.TheVariants.{Start, TooMany, NoMemory}
+use Rattle.concrete_run.specs.Packets.{Given, given_of}
 use Rattle.concrete_run.specs.Pending.{Sought}
 use Rattle.concrete_run.specs.Starting.{IsStartFault}
 
@@ -66,9 +66,9 @@ SearchAnswer decisions all (Ok found) = IsOne decisions found all
 SearchAnswer decisions all (Err e) = Unit {0}
 
 -- one with the decisions, or the work in which it is still sought
-abbrev pub SeekAnswer : Run → List Decision → List Pending → List Trail → Option Walk → Type 0
-SeekAnswer run decisions work all (Some walk) = Has all (trail_of walk) × (walk.decisions.items ≡ decisions)
-SeekAnswer run decisions work all None = Sought run decisions work all
+abbrev pub SeekAnswer : Network → List Decision → List Pending → List Trail → Option Walk → Type 0
+SeekAnswer net decisions work all (Some walk) = Has all (trail_of walk) × (walk.decisions.items ≡ decisions)
+SeekAnswer net decisions work all None = Sought net decisions work all
 
 abbrev pub StartedAnswer : Network → Entry → List ℕ → Result (State ℕ) WalkFault → Type 0
 StartedAnswer net i v (Ok s) = Starts net i v (carried_of s)
@@ -77,11 +77,11 @@ StartedAnswer net i v (Err (TooMany count)) = ⊥
 StartedAnswer net i v (Err NoMemory) = Unit {0}
 
 -- before the port of the injection, with nothing behind it
-pub record IsAtStart (i : Entry) (allowed : ℕ) (s : Carried ℕ) (p : Pending) : Type 0 where
+pub record IsAtStart (i : Entry) (given : Given) (allowed : ℕ) (s : Carried ℕ) (p : Pending) : Type 0 where
+  pub numbers : given_of p.packet ≡ given
   pub decisions : p.packet.decisions.items ≡ []
   pub places : p.places.items ≡ []
   pub state : carried_of p.packet.state ≡ s
   pub choices : p.packet.choices.items ≡ []
-  pub begun : p.packet.begun ≡ 0
   pub hops : p.hops ≡ allowed
   pub stage : p.stage ≡ Arriving i.node i.own.port

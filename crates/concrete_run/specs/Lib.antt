@@ -1,5 +1,4 @@
-pub mod Passing
-pub mod Weights
+pub mod Packets
 pub mod Pending
 pub mod Starting
 pub mod Answers

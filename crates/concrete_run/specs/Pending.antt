@@ -1,7 +1,6 @@
 -- The walks that are still to come.
 use Rattle.std.specs.Prelude.{◌≡◌, ℕ, zero, suc, ◌+◌, List, [], ◌∷◌, ◌++◌, map, Option, None, Some}
 use Rattle.sn_width.specs.declared.ids.NodeId.{NodeId}
-use Rattle.net_check.specs.Network.{network}
 use Rattle.sefl_meaning.specs.declared.walk.Decision.{Decision}
 use Rattle.sefl_meaning.specs.declared.walk.Place.{Place}
 use Rattle.sefl_meaning.specs.declared.walk.End.TheVariants as ends
@@ -14,11 +13,10 @@ use Rattle.sefl_meaning.specs.Routes.{Has}
 use Rattle.sefl_meaning.specs.Runs as runs
 use Rattle.sefl_meaning.specs.Runs.{Progress, off, go, forked, failed}
 use Rattle.sefl_meaning.specs.Walks.{Passage, Trail, shown, run_port, enter, leave, copies, ended}
-use Rattle.concrete_run.specs.Passing.{progress_of}
-use Rattle.concrete_run.specs.declared.packet.Run.{Run}
+use Rattle.concrete_run.specs.Packets.{Given, given_of, progress_of}
 use Rattle.concrete_run.specs.declared.packet.Packet.{Packet}
-use Rattle.concrete_run.specs.declared.instrs.Exit.{Exit}
-use Rattle.concrete_run.specs.declared.instrs.Exit.TheVariants.{Off, Go, Forked, Failed}
+use Rattle.code_frames.specs.declared.frame.Exit.{Exit}
+use Rattle.code_frames.specs.declared.frame.Exit.TheVariants.{Off, Go, Forked, Failed}
 use Rattle.concrete_run.specs.declared.pending.Pending.{Pending}
 use Rattle.concrete_run.specs.declared.pending.Stage.{Stage}
 use Rattle.concrete_run.specs.declared.pending.Stage.TheVariants.{Arriving, Leaving, Copying, Ended}
@@ -88,20 +86,17 @@ module _ (net : Network) (v : List ℕ) (unknowns : ℕ) where
       let r = run_port net v unknowns node Inward port p in
       suc (steps_passed (steps_entered hops) node r.exit r.progress)
 
-module _ (run : Run) where
+module _ (net : Network) where
   -- with so many hops left
-  abbrev pub walks_at : Stage → ℕ → Progress ℕ → List Passage
-  walks_at (Arriving node port) hops p = enter (network run.net.now) run.numbers.now run.unknowns hops node port p
-  walks_at (Leaving node port) hops p =
-      leave (network run.net.now) run.numbers.now run.unknowns (enter (network run.net.now) run.numbers.now run.unknowns hops) node port p
-  walks_at (Copying node number ports) hops p =
-      copies (network run.net.now) run.numbers.now run.unknowns (enter (network run.net.now) run.numbers.now run.unknowns hops)
-      node number ports.now p
-  walks_at (Ended end') hops p = ended end' p
+  abbrev pub walks_at : Given → Stage → ℕ → Progress ℕ → List Passage
+  walks_at g (Arriving node port) hops p = enter net g.0 g.1 hops node port p
+  walks_at g (Leaving node port) hops p = leave net g.0 g.1 (enter net g.0 g.1 hops) node port p
+  walks_at g (Copying node number ports) hops p = copies net g.0 g.1 (enter net g.0 g.1 hops) node number ports.now p
+  walks_at g (Ended end') hops p = ended end' p
 
   abbrev pub walks_by : Stage → ℕ → List Place → Packet → List Trail
   walks_by stage hops places packet =
-      map (led packet.decisions.items places) (walks_at stage hops (progress_of packet))
+      map (led packet.decisions.items places) (walks_at (given_of packet) stage hops (progress_of packet))
 
   abbrev pub walks_of : Pending → List Trail
   walks_of p = walks_by p.stage p.hops p.places.items p.packet
@@ -117,18 +112,14 @@ module _ (run : Run) where
   walks_of_all [] = []
   walks_of_all (p ∷ ps) = walks_of p ++ walks_of_all ps
 
-  abbrev pub steps_at : Stage → ℕ → Progress ℕ → ℕ
-  steps_at (Arriving node port) hops p =
-      steps_entered (network run.net.now) run.numbers.now run.unknowns hops node port p
-  steps_at (Leaving node port) hops p =
-      steps_left (network run.net.now) run.numbers.now run.unknowns (steps_entered (network run.net.now) run.numbers.now run.unknowns hops) node port p
-  steps_at (Copying node number ports) hops p =
-      steps_copied (network run.net.now) run.numbers.now run.unknowns (steps_entered (network run.net.now) run.numbers.now run.unknowns hops)
-      node ports.now p
-  steps_at (Ended end') hops p = 1
+  abbrev pub steps_at : Given → Stage → ℕ → Progress ℕ → ℕ
+  steps_at g (Arriving node port) hops p = steps_entered net g.0 g.1 hops node port p
+  steps_at g (Leaving node port) hops p = steps_left net g.0 g.1 (steps_entered net g.0 g.1 hops) node port p
+  steps_at g (Copying node number ports) hops p = steps_copied net g.0 g.1 (steps_entered net g.0 g.1 hops) node ports.now p
+  steps_at g (Ended end') hops p = 1
 
   abbrev pub steps_by : Stage → ℕ → Packet → ℕ
-  steps_by stage hops packet = steps_at stage hops (progress_of packet)
+  steps_by stage hops packet = steps_at (given_of packet) stage hops (progress_of packet)
 
   abbrev pub steps_of : Pending → ℕ
   steps_of p = steps_by p.stage p.hops p.packet
@@ -148,6 +139,6 @@ walk_found None = []
 walk_found (Some walk) = trail_of walk ∷ []
 
 -- the work that is left has walks of the whole alone, and all with the decisions
-pub record Sought (run : Run) (ds : List Decision) (work : List Pending) (all : List Trail) : Type 0 where
-  pub within : (t : Trail) → Has (walks_of_all run work) t → Has all t
-  pub kept : (t : Trail) → Has all t → t.decisions ≡ ds → Has (walks_of_all run work) t
+pub record Sought (net : Network) (ds : List Decision) (work : List Pending) (all : List Trail) : Type 0 where
+  pub within : (t : Trail) → Has (walks_of_all net work) t → Has all t
+  pub kept : (t : Trail) → Has all t → t.decisions ≡ ds → Has (walks_of_all net work) t

@@ -1,9 +1,7 @@
 //! The walks of one packet through a net.
 #![tactic(auto)]
 
-mod frames;
 mod injecting;
-mod instrs;
 mod packet;
 mod pending;
 mod walks;

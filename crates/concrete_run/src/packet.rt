@@ -1,76 +1,163 @@
-//! A packet on its way.
+//! A packet on its way, and its run of a port's code.
 
-ghost use Rattle.std.specs.Prelude.{◌≡◌, ◌∷◌, [], ◌++◌, OnOk};
+ghost use Rattle.std.specs.Prelude.{◌≡◌, IfOk, OnOk};
+ghost use Rattle.cell_stacks.specs.Outcome.{Meets};
+ghost use Rattle.sefl_syntax.specs.Trees.{assign_any};
+ghost use Rattle.sefl_syntax.specs.Views.{code_tree};
+ghost use Rattle.net_check.specs.Network.{network};
+ghost use Rattle.sefl_meaning.specs.Carried.{scene_at};
+ghost use Rattle.sefl_meaning.specs.Runs.{noting, run_code};
+ghost use Rattle.sefl_meaning.specs.Values.{numbers};
+ghost use Rattle.sefl_meaning.specs.View.{carried_of};
 ghost use Rattle.instr_steps.specs.Scenes.{scene_of};
-ghost use Rattle.concrete_run.specs.Passing.{begun_once, progress_of, scene_in};
+ghost use Rattle.code_frames.specs.Steps.{done_by};
+ghost use Rattle.concrete_run.specs.Packets.{RunsAs, given_of, progress_of};
 
-use instr_steps::{Numbers, Scene};
+use code_frames::{Exit, Frame, Machine, Move, answer, next, take_plain};
+use instr_steps::{Numbers, Scene, put, truth_of, width_of};
 use net_check::Net;
-use sefl_meaning::{Decision, State, Turn};
+use sefl_meaning::laws::runs_are_ways;
+use sefl_meaning::{Decision, State};
+use sefl_syntax::{Cond, Instr, Target};
 use sn_tree::Shared;
-use sn_width::{NoMemory, NodeId, Num, Width};
+use sn_width::{NameId, NoMemory, NodeId, Num, StepFault, Steps, Width};
+use std::alloc::Global;
+use std::sync::ledger::Ledger;
 
-/// A net and the numbers of a packet: those of its unknown fields and, behind them, its choices.
-#[derive(Clone, Copy)]
-pub(crate) struct Run<'a> {
-    pub net: &'a Net,
-    pub numbers: &'a [Num],
-    pub unknowns: usize,
-}
-
-impl<'a> Run<'a> {
-    /// Where code of a box runs, in these turns of Fors.
-    pub(crate) fn scene<'b>(&'b self, node: NodeId, turns: &'b Shared<Turn>) -> Scene<'b>
-        ensures scene { scene_of result ≡ scene_in self.now node turns.now }
-    {
-        Scene {
-            net: self.net,
-            node,
-            turns,
-        }
-    }
-
-    /// The numbers, as the values of cells.
-    pub(crate) fn values(&self) -> Numbers<'a>
-        ensures numbers { result.numbers.now ≡ self.now.numbers.now }
-        ensures unknowns { result.unknowns ≡ self.now.unknowns }
-    {
-        Numbers {
-            numbers: self.numbers,
-            unknowns: self.unknowns,
-        }
-    }
-}
-
-/// What a packet carries, what was decided on its way so far, the widths of the choices that were made, and how many
-/// instructions have begun.
+/// The numbers of a packet, what was decided on its way so far, what it carries, and the widths of the choices that were made.
 #[derive(Drop)]
-pub(crate) struct Packet {
+pub(crate) struct Packet<'a> {
+    pub numbers: Numbers<'a>,
     pub decisions: Vec<Decision>,
     pub state: State,
     pub choices: Vec<Width>,
-    pub begun: u64,
 }
 
-impl Packet {
-    /// Notes a decision.
-    pub(crate) fn decide(&mut self, decision: Decision) -> Result<(), NoMemory>
-        ensures decisions { OnOk result (self.new.decisions.items ≡ self.old.decisions.items ++ decision ∷ []) }
-        ensures progress { OnOk result (progress_of self.new ≡ progress_of self.old) }
-    {
-        self.decisions.push(decision)?;
-        Ok(())
+impl<'a> Machine for Packet<'a> {
+    ghost use Rattle.std.specs.Prelude.{ℕ, Bool, List};
+    ghost use Rattle.sefl_meaning.specs.declared.walk.Decision.{Decision};
+    ghost use Rattle.sefl_meaning.specs.Values.{numbers};
+    ghost use Rattle.sefl_meaning.specs.View.{carried_of};
+
+    type Value = Num;
+
+    type Test = bool;
+
+    ghost Truth = { Bool };
+
+    ghost truth = { λ truth. truth };
+
+    ghost values = { λ p. numbers p.numbers.numbers.now p.numbers.unknowns };
+
+    ghost carried = { λ p. carried_of p.state };
+
+    ghost choices = { λ p. p.choices.items };
+
+    ghost Rest = { List Decision × List ℕ × ℕ };
+
+    ghost rest = { λ p. (p.decisions.items, p.numbers.numbers.now, p.numbers.unknowns) };
+
+    ghost IsFit = { λ p test. Unit {0} };
+
+    fn step<L: Ledger>(
+        &mut self,
+        alloc: Global,
+        at: &Scene<'_>,
+        instr: &Instr,
+        steps: &mut Steps<L>,
+    ) -> Result<(), StepFault> {
+        steps.tick();
+        match instr {
+            Instr::AssignAny(target) => choose(
+                alloc,
+                &self.numbers,
+                at,
+                &mut self.state,
+                &mut self.choices,
+                target,
+            ),
+            _ => take_plain(alloc, &self.numbers, at, &mut self.state, instr),
+        }
     }
 
-    /// Counts an instruction that begins.
-    pub(crate) fn begin(&mut self) -> Result<(), NoMemory>
-        ensures decisions { OnOk result (self.new.decisions.items ≡ self.old.decisions.items) }
-        ensures progress { OnOk result (progress_of self.new ≡ begun_once (progress_of self.old)) }
-    {
-        if self.begun == u64::MAX {
-            return Err(NoMemory);
+    fn test<L: Ledger>(
+        &self,
+        alloc: Global,
+        at: &Scene<'_>,
+        test: &Cond,
+        steps: &mut Steps<L>,
+    ) -> Result<bool, StepFault> {
+        steps.tick();
+        truth_of(alloc, &self.numbers, at, &self.state, test)
+    }
+
+    fn turns<L: Ledger>(
+        &self,
+        alloc: Global,
+        node: NodeId,
+        names: &[NameId],
+        steps: &mut Steps<L>,
+    ) -> Result<Vec<(Option<NodeId>, NameId)>, NoMemory> {
+        steps.tick();
+        self.state.scopes.present(alloc, node, names)
+    }
+
+    fn pass<L: Ledger>(&self, steps: &mut Steps<L>) {
+        steps.tick();
+    }
+}
+
+/// Puts the packet's next choice into the top cell.
+fn choose(
+    alloc: Global,
+    o: &Numbers<'_>,
+    at: &Scene<'_>,
+    state: &mut State,
+    choices: &mut Vec<Width>,
+    target: &Target,
+) -> Result<(), StepFault>
+    ensures { Meets (done_by (numbers o.now.numbers.now o.now.unknowns) (scene_of at.now) (assign_any target.now) (carried_of state.old, choices.old.items))
+        result (carried_of state.old, choices.old.items) (carried_of state.new, choices.new.items) }
+{
+    let width = width_of(target);
+    let value = o.choice(width, choices.len());
+    choices.push(width)?;
+    match put(alloc, at, state, target, value) {
+        Ok(()) => Ok(()),
+        Err(fault) => {
+            choices.pop();
+            Err(fault)
         }
-        self.begun += 1;
-        Ok(())
+    }
+}
+
+/// Runs code of a box, whose first instruction has the site.
+pub(crate) fn run_code<'a, L: Ledger>(
+    alloc: Global,
+    net: &Net,
+    node: NodeId,
+    site: u32,
+    code: &'a [Instr],
+    packet: &mut Packet<'_>,
+    steps: &mut Steps<L>,
+) -> Result<Exit<'a>, NoMemory>
+    ensures run { IfOk result (λ exit. RunsAs packet.new exit (noting packet.old.decisions.items
+        (run_code packet.old.numbers.numbers.now packet.old.numbers.unknowns (scene_at (network net.now) node) site (code_tree code.now) (progress_of packet.old)))) }
+    ensures given { OnOk result (given_of packet.new ≡ given_of packet.old) }
+{
+    runs_are_ways();
+    let mut frames = Vec::new(alloc);
+    let turns = Shared::empty();
+    frames.push(Frame::Code { turns, site, code })?;
+    loop {
+        match next(alloc, packet, net, node, &mut frames, steps)? {
+            Move::Ended(exit) => return Ok(exit),
+            Move::Asked { question, test } => {
+                packet.decisions.push(question.decision(test))?;
+                if let Some(exit) = answer::<Packet<'_>>(&question, test, &mut frames)? {
+                    return Ok(exit);
+                }
+            }
+        }
     }
 }

@@ -1,26 +1,26 @@
 //! Walks that are still to come.
 
-ghost use Rattle.std.specs.Prelude.{◌≡◌, suc, [], ◌∷◌, ◌++◌, IfOk};
+ghost use Rattle.std.specs.Prelude.{◌≡◌, suc, [], ◌∷◌, ◌++◌, IfOk, OnOk};
 ghost use Rattle.sefl_syntax.specs.Views.{code_tree};
-ghost use Rattle.net_check.specs.Network.{code_at, network};
+ghost use Rattle.net_check.specs.Network.{Network, code_at, network};
 ghost use Rattle.sefl_meaning.specs.Network.{code_of};
 ghost use Rattle.sefl_meaning.specs.Runs.{noting};
 ghost use Rattle.sefl_meaning.specs.declared.walk.End.TheVariants.{Failed as FailedAt};
 ghost use Rattle.sefl_meaning.specs.View.{carried_of, trail_of};
 ghost use Rattle.sefl_meaning.specs.Walks.{run_port};
-ghost use Rattle.concrete_run.specs.Passing.{progress_of, ran_of};
+ghost use Rattle.concrete_run.specs.Packets.{RunsAs, given_of, progress_of};
 ghost use Rattle.concrete_run.specs.Pending.{stage_crossed, stage_passed, steps_by, steps_next, steps_of, walks_by, walks_next, walks_of};
-ghost use Rattle.concrete_run.specs.declared.packet.Run.{Run as RunOf};
 ghost use Rattle.concrete_run.specs.declared.pending.Stage.TheVariants.{Arriving as ArrivingAt, Leaving as LeavingBy, Copying as CopyingTo};
 
-use crate::frames::run_code;
-use crate::instrs::Exit;
-use crate::packet::{Packet, Run};
+use crate::packet::{Packet, run_code};
+use code_frames::Exit;
+use net_check::Net;
 use net_tables::behind_item;
 use sefl_meaning::{Decision, End, Failure, Place, State, Walk};
 use sefl_syntax::{Instr, Side};
-use sn_width::{NoMemory, NodeId, Site};
+use sn_width::{NoMemory, NodeId, Site, Steps};
 use std::alloc::Global;
+use std::sync::ledger::Ledger;
 
 /// Where a packet is on its way.
 #[derive(Drop)]
@@ -49,7 +49,7 @@ pub(crate) enum Stage<'a> {
 pub(crate) struct Pending<'a> {
     pub hops: u32,
     pub places: Vec<Place>,
-    pub packet: Packet,
+    pub packet: Packet<'a>,
     pub stage: Stage<'a>,
 }
 
@@ -68,13 +68,14 @@ pub(crate) enum Next<'a> {
 }
 
 /// Takes a packet over one port, or takes one copy of it.
-pub(crate) fn advance<'a>(
+pub(crate) fn advance<'a, L: Ledger>(
     alloc: Global,
-    run: &Run<'a>,
+    net: &'a Net,
     pending: Pending<'a>,
+    steps: &mut Steps<L>,
 ) -> Result<Next<'a>, NoMemory>
-    ensures walks { IfOk result (λ next. walks_next run.now next ≡ walks_of run.now pending.entry) }
-    ensures steps { IfOk result (λ next. suc (steps_next run.now next) ≡ steps_of run.now pending.entry) }
+    ensures walks { IfOk result (λ next. walks_next (network net.now) next ≡ walks_of (network net.now) pending.entry) }
+    ensures work { IfOk result (λ next. suc (steps_next (network net.now) next) ≡ steps_of (network net.now) pending.entry) }
 {
     let Pending {
         hops,
@@ -85,11 +86,11 @@ pub(crate) fn advance<'a>(
     match stage {
         Stage::Ended(end) => Ok(Next::Ended(ended(places, packet, end))),
         Stage::Arriving { node, port } => {
-            let moved = arrive(alloc, run, hops, places, packet, node, port)?;
+            let moved = arrive(alloc, net, hops, places, packet, node, port, steps)?;
             Ok(Next::Moved(moved))
         }
         Stage::Leaving { node, port } => {
-            let moved = leave(alloc, run, hops, places, packet, node, port)?;
+            let moved = leave(alloc, net, hops, places, packet, node, port, steps)?;
             Ok(Next::Moved(moved))
         }
         Stage::Copying {
@@ -101,14 +102,14 @@ pub(crate) fn advance<'a>(
 }
 
 /// The walk that has ended.
-fn ended(places: Vec<Place>, packet: Packet, end: End) -> Walk
-    ensures { trail_of result ≡ record { decisions = packet.decisions.items; places = places.items; end' = end; state = carried_of packet.state } }
+fn ended(places: Vec<Place>, packet: Packet<'_>, end: End) -> Walk
+    ensures { trail_of result ≡ record { decisions = packet.entry.decisions.items; places = places.items; end' = end; state = carried_of packet.entry.state } }
 {
     let Packet {
+        numbers: _,
         decisions,
         state,
         choices: _,
-        begun: _,
     } = packet;
     Walk {
         decisions,
@@ -119,17 +120,18 @@ fn ended(places: Vec<Place>, packet: Packet, end: End) -> Walk
 }
 
 /// Enters an input port, where a hop is left.
-fn arrive<'a>(
+fn arrive<'a, L: Ledger>(
     alloc: Global,
-    run: &Run<'a>,
+    net: &'a Net,
     hops: u32,
     places: Vec<Place>,
-    packet: Packet,
+    packet: Packet<'a>,
     node: NodeId,
     port: u32,
+    steps: &mut Steps<L>,
 ) -> Result<Pending<'a>, NoMemory>
-    ensures walks { IfOk result (λ moved. walks_of run.now moved ≡ walks_by run.now (ArrivingAt node port) hops places.items packet) }
-    ensures steps { IfOk result (λ moved. suc (steps_of run.now moved) ≡ steps_by run.now (ArrivingAt node port) hops packet) }
+    ensures walks { IfOk result (λ moved. walks_of (network net.now) moved ≡ walks_by (network net.now) (ArrivingAt node port) hops places.items packet.entry) }
+    ensures work { IfOk result (λ moved. suc (steps_of (network net.now) moved) ≡ steps_by (network net.now) (ArrivingAt node port) hops packet.entry) }
 {
     let mut places = places;
     let mut packet = packet;
@@ -144,7 +146,7 @@ fn arrive<'a>(
             stage,
         });
     }
-    let exit = run_port(alloc, run, node, side, port, &mut packet)?;
+    let exit = run_port(alloc, net, node, side, port, &mut packet, steps)?;
     let stage = passed(node, exit);
     Ok(Pending {
         hops: hops - 1,
@@ -155,24 +157,25 @@ fn arrive<'a>(
 }
 
 /// Leaves by an output port.
-fn leave<'a>(
+fn leave<'a, L: Ledger>(
     alloc: Global,
-    run: &Run<'a>,
+    net: &'a Net,
     hops: u32,
     places: Vec<Place>,
-    packet: Packet,
+    packet: Packet<'a>,
     node: NodeId,
     port: u32,
+    steps: &mut Steps<L>,
 ) -> Result<Pending<'a>, NoMemory>
-    ensures walks { IfOk result (λ moved. walks_of run.now moved ≡ walks_by run.now (LeavingBy node port) hops places.items packet) }
-    ensures steps { IfOk result (λ moved. suc (steps_of run.now moved) ≡ steps_by run.now (LeavingBy node port) hops packet) }
+    ensures walks { IfOk result (λ moved. walks_of (network net.now) moved ≡ walks_by (network net.now) (LeavingBy node port) hops places.items packet.entry) }
+    ensures work { IfOk result (λ moved. suc (steps_of (network net.now) moved) ≡ steps_by (network net.now) (LeavingBy node port) hops packet.entry) }
 {
     let mut places = places;
     let mut packet = packet;
     let side = Side::Outward;
     places.push(Place { node, side, port })?;
-    let exit = run_port(alloc, run, node, side, port, &mut packet)?;
-    let stage = crossed(run.net.link(node, port), exit);
+    let exit = run_port(alloc, net, node, side, port, &mut packet, steps)?;
+    let stage = crossed(net.link(node, port), exit);
     Ok(Pending {
         hops,
         places,
@@ -186,13 +189,13 @@ fn copy<'a>(
     alloc: Global,
     hops: u32,
     places: Vec<Place>,
-    packet: Packet,
+    packet: Packet<'a>,
     node: NodeId,
     number: u32,
     ports: &'a [u32],
 ) -> Result<Next<'a>, NoMemory>
-    ensures walks { IfOk result (λ next. (run : RunOf) → walks_next run next ≡ walks_by run (CopyingTo node number ports.entry) hops places.items packet) }
-    ensures steps { IfOk result (λ next. (run : RunOf) → suc (steps_next run next) ≡ steps_by run (CopyingTo node number ports.entry) hops packet) }
+    ensures walks { IfOk result (λ next. (net : Network) → walks_next net next ≡ walks_by net (CopyingTo node number ports.entry) hops places.items packet.entry) }
+    ensures work { IfOk result (λ next. (net : Network) → suc (steps_next net next) ≡ steps_by net (CopyingTo node number ports.entry) hops packet.entry) }
 {
     let [port, rest @ ..] = ports else {
         return Ok(Next::Gone);
@@ -218,7 +221,8 @@ fn copy<'a>(
 }
 
 /// The same packet, with one decision more.
-fn fork(alloc: Global, packet: &Packet, decision: Decision) -> Result<Packet, NoMemory>
+fn fork<'a>(alloc: Global, packet: &Packet<'a>, decision: Decision) -> Result<Packet<'a>, NoMemory>
+    ensures given { IfOk result (λ copy. given_of copy ≡ given_of packet.now) }
     ensures decisions { IfOk result (λ copy. copy.decisions.items ≡ packet.now.decisions.items ++ decision ∷ []) }
     ensures progress { IfOk result (λ copy. progress_of copy ≡ progress_of packet.now) }
 {
@@ -227,10 +231,10 @@ fn fork(alloc: Global, packet: &Packet, decision: Decision) -> Result<Packet, No
     let layers = packet.state.layers.fork()?;
     let scopes = packet.state.scopes.fork()?;
     Ok(Packet {
+        numbers: packet.numbers,
         decisions,
         state: State { layers, scopes },
         choices: copied(alloc, &packet.choices)?,
-        begun: packet.begun,
     })
 }
 
@@ -243,47 +247,43 @@ fn copied<T: Copy>(alloc: Global, items: &[T]) -> Result<Vec<T>, NoMemory>
 }
 
 /// Runs the code of a port.
-fn run_port<'a>(
+fn run_port<'a, L: Ledger>(
     alloc: Global,
-    run: &Run<'a>,
+    net: &'a Net,
     node: NodeId,
     side: Side,
     port: u32,
-    packet: &mut Packet,
+    packet: &mut Packet<'_>,
+    steps: &mut Steps<L>,
 ) -> Result<Exit<'a>, NoMemory>
-    ensures { IfOk result (λ exit. ran_of packet.new exit
-        ≡ noting packet.old.decisions.items (run_port (network run.now.net.now) run.now.numbers.now run.now.unknowns node side port (progress_of packet.old))) }
+    ensures run { IfOk result (λ exit. RunsAs packet.new exit (noting packet.old.decisions.items
+        (run_port (network net.now) packet.old.numbers.numbers.now packet.old.numbers.unknowns node side port (progress_of packet.old)))) }
+    ensures given { OnOk result (given_of packet.new ≡ given_of packet.old) }
 {
-    let site = code_site(run, node, side, port);
+    let site = code_site(net, node, side, port);
     let first = behind_item(site)?;
-    run_code(
-        alloc,
-        run,
-        node,
-        first,
-        code_of(run, node, side, port),
-        packet,
-    )
+    let code = code_of(net, node, side, port);
+    run_code(alloc, net, node, first, code, packet, steps)
 }
 
 /// The site of a port's code; 0 where it has none.
-fn code_site(run: &Run<'_>, node: NodeId, side: Side, port: u32) -> u32
-    ensures { result ≡ (code_of (network run.now.net.now) node side port).0 }
+fn code_site(net: &Net, node: NodeId, side: Side, port: u32) -> u32
+    ensures { result ≡ (code_of (network net.now) node side port).0 }
 {
-    match run.net.code_site(node, side, port) {
+    match net.code_site(node, side, port) {
         None => 0,
         Some(site) => site.0,
     }
 }
 
 /// The code of a port; none where there is no such node.
-fn code_of<'a>(run: &Run<'a>, node: NodeId, side: Side, port: u32) -> &'a [Instr]
-    ensures { code_tree result.now ≡ code_at (network run.now.net.now) node side port }
+fn code_of<'a>(net: &'a Net, node: NodeId, side: Side, port: u32) -> &'a [Instr]
+    ensures { code_tree result.now ≡ code_at (network net.now) node side port }
 {
-    if node.0 >= run.net.node_count() {
+    if node.0 >= net.node_count() {
         return &[];
     }
-    run.net.code(node, side, port)
+    net.code(node, side, port)
 }
 
 fn failed_at(failure: Failure, site: u32) -> End

@@ -1,7 +1,7 @@
 //! The walks of a packet.
 
 ghost use Rattle.std.specs.Prelude.{◌≡◌, ◌↔◌, ◌+◌, ◌<◌, ◌∷◌, ◌++◌, suc, List, reverse, IsTrue, IfOk, OnOk};
-ghost use Rattle.net_check.specs.Network.{entry, network};
+ghost use Rattle.net_check.specs.Network.{entry, network, unknown_count};
 ghost use Rattle.net_check.specs.Sound.{AreOfOneJob};
 ghost use Rattle.sefl_meaning.specs.View.{carried_of};
 ghost use Rattle.sefl_meaning.specs.Walks.{Trail};
@@ -9,12 +9,15 @@ ghost use Rattle.concrete_run.specs.Answers.{AllAnswer, GatherAnswer, OneAnswer,
 ghost use Rattle.concrete_run.specs.Pending.{BeginsWith, Sought, steps_of, steps_of_all, walk_found, walks_of, walks_of_all};
 
 use crate::injecting::{StartFault, start};
-use crate::packet::{Packet, Run};
+use crate::packet::Packet;
 use crate::pending::{Next, Pending, Stage, advance};
+use instr_steps::Numbers;
 use net_check::{Injection, Net};
 use sefl_meaning::{Decision, State, Walk};
-use sn_width::{NoMemory, Num};
+use sn_width::{NoMemory, Num, Steps};
 use std::alloc::{AllocFailed, Global};
+use std::marker::Brand;
+use std::sync::ledger::{Blank, Ledger};
 
 /// Why there are no walks to answer.
 #[derive(Clone, Copy, PartialEq, Eq)]
@@ -61,12 +64,8 @@ pub fn walk_all(
     ensures { AllAnswer (network net.now) (entry injection.now) values.now hops limit result }
 {
     let state = started(alloc, net, injection, values)?;
-    let run = Run {
-        net,
-        numbers: values,
-        unknowns: injection.unknowns(),
-    };
-    gather(alloc, &run, at_start(alloc, injection, state, hops), limit)
+    let pending = at_start(alloc, injection, values, state, hops);
+    gather::<Brand>(alloc, net, pending, limit, Blank::new(1))
 }
 
 /// The walk of a packet that has these decisions; None exactly where no walk has them.
@@ -82,17 +81,8 @@ pub fn walk_one(
     ensures { OneAnswer (network net.now) (entry injection.now) values.now hops decisions.now result }
 {
     let state = started(alloc, net, injection, values)?;
-    let run = Run {
-        net,
-        numbers: values,
-        unknowns: injection.unknowns(),
-    };
-    let found = search(
-        alloc,
-        &run,
-        at_start(alloc, injection, state, hops),
-        decisions,
-    )?;
+    let pending = at_start(alloc, injection, values, state, hops);
+    let found = search::<Brand>(alloc, net, pending, decisions, Blank::new(1))?;
     Ok(found)
 }
 
@@ -114,37 +104,51 @@ fn started(
 }
 
 /// The packet before the injection's port.
-fn at_start<'a>(alloc: Global, injection: &Injection, state: State, hops: u32) -> Pending<'a>
-    ensures { IsAtStart (entry injection.now) hops (carried_of state) result }
+fn at_start<'a>(
+    alloc: Global,
+    injection: &Injection,
+    values: &'a [Num],
+    state: State,
+    hops: u32,
+) -> Pending<'a>
+    ensures { IsAtStart (entry injection.now) (values.now, unknown_count (entry injection.now)) hops (carried_of state) result }
 {
     let (node, port) = injection.place();
     Pending {
         hops,
         places: Vec::new(alloc),
         packet: Packet {
+            numbers: Numbers {
+                numbers: values,
+                unknowns: injection.unknowns(),
+            },
             decisions: Vec::new(alloc),
             state,
             choices: Vec::new(alloc),
-            begun: 0,
         },
         stage: Stage::Arriving { node, port },
     }
 }
 
 /// All walks of what is pending, in their order, where they are no more than the limit.
-fn gather<'a>(
+fn gather<'a, L: Ledger>(
     alloc: Global,
-    run: &Run<'a>,
+    net: &'a Net,
     pending: Pending<'a>,
     limit: u32,
+    blank: Blank,
 ) -> Result<Vec<Walk>, WalkFault>
-    ensures { GatherAnswer limit (walks_of run.now pending.entry) result }
+    requires name { blank.name ≡ L.name }
+    requires parts { blank.parts ≡ L.parts }
+    requires some { 0 < blank.parts }
+    ensures { GatherAnswer limit (walks_of (network net.now) pending.entry) result }
 {
+    let mut steps = Steps::<L>::new(blank);
     let mut walks = Vec::new(alloc);
     let mut work = Vec::new(alloc);
     work.push(pending)?;
     while let Some(next) = work.pop() {
-        if let Some(walk) = take_on(alloc, run, next, &mut work)? {
+        if let Some(walk) = take_on(alloc, net, next, &mut work, &mut steps)? {
             if walks.len() >= limit as usize {
                 return Err(WalkFault::TooMany {
                     count: u64::from(limit) + 1,
@@ -157,18 +161,19 @@ fn gather<'a>(
 }
 
 /// Puts what comes of a packet on top of the work, or tells the walk that has ended.
-fn take_on<'a>(
+fn take_on<'a, L: Ledger>(
     alloc: Global,
-    run: &Run<'a>,
+    net: &'a Net,
     pending: Pending<'a>,
     work: &mut Vec<Pending<'a>>,
+    steps: &mut Steps<L>,
 ) -> Result<Option<Walk>, NoMemory>
-    ensures walks { IfOk result (λ ended. walk_found ended ++ walks_of_all run.now (reverse work.new.items)
-        ≡ walks_of run.now pending.entry ++ walks_of_all run.now (reverse work.old.items)) }
-    ensures steps { OnOk result (suc (steps_of_all run.now (reverse work.new.items))
-        ≡ steps_of run.now pending.entry + steps_of_all run.now (reverse work.old.items)) }
+    ensures walks { IfOk result (λ ended. walk_found ended ++ walks_of_all (network net.now) (reverse work.new.items)
+        ≡ walks_of (network net.now) pending.entry ++ walks_of_all (network net.now) (reverse work.old.items)) }
+    ensures work { OnOk result (suc (steps_of_all (network net.now) (reverse work.new.items))
+        ≡ steps_of (network net.now) pending.entry + steps_of_all (network net.now) (reverse work.old.items)) }
 {
-    match advance(alloc, run, pending)? {
+    match advance(alloc, net, pending, steps)? {
         Next::Ended(walk) => Ok(Some(walk)),
         Next::Moved(moved) => {
             work.push(moved)?;
@@ -184,18 +189,23 @@ fn take_on<'a>(
 }
 
 /// The walk of what is pending that has these decisions. What cannot lead to it is left out.
-fn search<'a>(
+fn search<'a, L: Ledger>(
     alloc: Global,
-    run: &Run<'a>,
+    net: &'a Net,
     pending: Pending<'a>,
     decisions: &[Decision],
+    blank: Blank,
 ) -> Result<Option<Walk>, NoMemory>
-    ensures { SearchAnswer decisions.now (walks_of run.now pending.entry) result }
+    requires name { blank.name ≡ L.name }
+    requires parts { blank.parts ≡ L.parts }
+    requires some { 0 < blank.parts }
+    ensures { SearchAnswer decisions.now (walks_of (network net.now) pending.entry) result }
 {
+    let mut steps = Steps::<L>::new(blank);
     let mut work = Vec::new(alloc);
     work.push(pending)?;
     while let Some(next) = work.pop() {
-        if let Some(walk) = seek(alloc, run, next, decisions, &mut work)? {
+        if let Some(walk) = seek(alloc, net, next, decisions, &mut work, &mut steps)? {
             return Ok(Some(walk));
         }
     }
@@ -203,22 +213,23 @@ fn search<'a>(
 }
 
 /// Takes a packet on where it may come to these decisions; the walk where it has ended with them.
-fn seek<'a>(
+fn seek<'a, L: Ledger>(
     alloc: Global,
-    run: &Run<'a>,
+    net: &'a Net,
     pending: Pending<'a>,
     decisions: &[Decision],
     work: &mut Vec<Pending<'a>>,
+    steps: &mut Steps<L>,
 ) -> Result<Option<Walk>, NoMemory>
-    ensures sought { IfOk result (λ found. (all : List Trail) → Sought run.now decisions.now (pending.entry ∷ reverse work.old.items) all
-        → SeekAnswer run.now decisions.now (reverse work.new.items) all found) }
-    ensures steps { OnOk result (steps_of_all run.now (reverse work.new.items)
-        < steps_of run.now pending.entry + steps_of_all run.now (reverse work.old.items)) }
+    ensures sought { IfOk result (λ found. (all : List Trail) → Sought (network net.now) decisions.now (pending.entry ∷ reverse work.old.items) all
+        → SeekAnswer (network net.now) decisions.now (reverse work.new.items) all found) }
+    ensures work { OnOk result (steps_of_all (network net.now) (reverse work.new.items)
+        < steps_of (network net.now) pending.entry + steps_of_all (network net.now) (reverse work.old.items)) }
 {
     if !leads_to(&pending.packet.decisions, decisions) {
         return Ok(None);
     }
-    let Some(walk) = take_on(alloc, run, pending, work)? else {
+    let Some(walk) = take_on(alloc, net, pending, work, steps)? else {
         return Ok(None);
     };
     if are_same(&walk.decisions, decisions) {

@@ -1,3 +1,4 @@
 pub mod Around
 pub mod Ascending
+pub mod Owned
 pub mod Rotations

@@ -32,3 +32,7 @@ IsHeightOver l r h = (max l r ≤ h) × (h ≤ max l r + 1) × (DifferByAtMost 1
 -- the height h is at most one above n
 abbrev pub IsUpToOneMore : ℕ → ℕ → Type 0
 IsUpToOneMore n h = (n ≤ h) × (h ≤ n + 1)
+
+-- the two nodes are seen as the same
+abbrev pub IsSameNode : {K V : Type 0} → Node K V → Node K V → Type 0
+IsSameNode n m = (m.left ≡ n.left) × (m.key ≡ n.key) × (m.value.value ≡ n.value.value) × (m.right ≡ n.right) × (m.height ≡ n.height)

@@ -1,5 +1,5 @@
 //! A height-balanced search tree whose copies share their nodes.
-ghost use Rattle.std.specs.Prelude.{◌≡◌, [], ◌++◌, ◌+◌, max, map, IfOk, OnOk, IsTrue, ◌↔◌, option_copied};
+ghost use Rattle.std.specs.Prelude.{◌≡◌, [], ◌++◌, ◌+◌, max, map, IfOk, OnOk, OnErr, is_some, IsTrue, ◌↔◌, option_copied};
 ghost use Rattle.std.specs.Option.{option_map};
 ghost use Rattle.sn_tree.specs.Pairs.{IsAscending, value_at, next_after, last_before, pairs_with, pairs_without, pair_of};
 ghost use Rattle.sn_tree.specs.Nodes.{DifferByAtMost, IsUpToOneMore};
@@ -10,7 +10,7 @@ mod balance;
 
 use crate::memory::NoMemory;
 use balance::{balance, join};
-use std::alloc::Global;
+use std::alloc::{AllocError, Global};
 use std::cmp::Ordering;
 use std::marker::Model;
 use std::rc::Rc;
@@ -30,6 +30,26 @@ struct Node<K: Ord + Copy, V: Drop> {
     value: Rc<V>,
     right: Branch<K, V>,
     height: u8,
+}
+
+impl<K: Ord + Copy, V: Drop> Clone for Node<K, V> {
+    ghost use Rattle.sn_tree.specs.Nodes.{IsSameNode};
+
+    ghost is_clone = { IsSameNode };
+
+    fn clone(&self) -> Result<Node<K, V>, AllocError> {
+        let (Ok(left), Ok(right)) = (self.left.fork(), self.right.fork()) else {
+            return Err(AllocError);
+        };
+        let value = self.value.clone()?;
+        Ok(Node {
+            left,
+            key: self.key,
+            value,
+            right,
+            height: self.height,
+        })
+    }
 }
 
 impl<K: Ord + Copy, V: Drop> Model for Branch<K, V> {
@@ -196,6 +216,33 @@ impl<K: Ord + Copy, V: Drop> Branch<K, V> {
                     }
                 }
             }
+        }
+    }
+
+    /// Puts a value in place of that at a key that is there: in place where this tree alone owns the
+    /// node. At an `Err` nothing has changed.
+    pub fn replace(&mut self, alloc: Global, key: K, value: V) -> Result<(), NoMemory>
+        requires present { IsTrue (is_some (value_at K.cmp key self.old.0)) }
+        ensures pairs { OnOk result (self.new.0 ≡ pairs_with K.cmp key value self.old.0) }
+        ensures same { OnErr result (self.new.0 ≡ self.old.0) }
+        ensures height { self.new.1 ≡ self.old.1 }
+    {
+        let Some(held) = &mut self.node else {
+            unreachable!()
+        };
+        let node = Rc::make_mut(held)?;
+        match key.cmp(&node.key) {
+            Ordering::Less => node.left.replace(alloc, key, value),
+            Ordering::Equal => {
+                if let Some(place) = Rc::get_mut(&mut node.value) {
+                    *place = value;
+                } else {
+                    node.value = Rc::new(alloc, value)?;
+                }
+                node.key = key;
+                Ok(())
+            }
+            Ordering::Greater => node.right.replace(alloc, key, value),
         }
     }
 

@@ -1,5 +1,5 @@
 //! A map whose copies share their nodes.
-ghost use Rattle.std.specs.Prelude.{◌≡◌, [], IfOk, option_copied};
+ghost use Rattle.std.specs.Prelude.{◌≡◌, [], IfOk, OnOk, OnErr, option_copied};
 ghost use Rattle.std.specs.Option.{option_map};
 ghost use Rattle.std.specs.Iterator.{YieldsFirstBy, item_count};
 ghost use Rattle.sn_tree.specs.Pairs.{IsAscending, value_at, next_after, last_before, pairs_with, pairs_without, pair_of};
@@ -62,6 +62,21 @@ impl<K: Ord + Copy, V: Drop> Tree<K, V> {
         let value = Rc::new(alloc, value)?;
         let root = self.root.with(alloc, key, &value)?;
         Ok(Tree { root })
+    }
+
+    /// Puts this value at the key, in place of what was there: in place, where no other map has the
+    /// nodes on the way to it. At an `Err` nothing has changed.
+    pub fn set(&mut self, alloc: Global, key: K, value: V) -> Result<(), NoMemory>
+        ensures put { OnOk result (self.new ≡ pairs_with K.cmp key value self.old) }
+        ensures same { OnErr result (self.new ≡ self.old) }
+    {
+        if self.root.get(&key).is_some() {
+            return self.root.replace(alloc, key, value);
+        }
+        let value = Rc::new(alloc, value)?;
+        let root = self.root.with(alloc, key, &value)?;
+        self.root = root;
+        Ok(())
     }
 
     /// The map with nothing at the key: the same map, where it has no such key.

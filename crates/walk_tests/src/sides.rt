@@ -1,9 +1,9 @@
 //! Rows of the two sides of a test at the ends of a width.
 
 use crate::cells::width_of;
-use thin_paths::sides;
 use sn_width::{Num, Rel};
 use std::process::Abort;
+use thin_paths::sides;
 
 /// The least values of the two sides of the test against the bound, at as many bits.
 fn assert_sides(rt: &impl Abort, bits: u8, rel: Rel, bound: Num, wanted: Option<(Num, Num)>) {

@@ -12,10 +12,10 @@ use Rattle.cell_stacks.specs.declared.cell.Cell.{Cell}
 use Rattle.cell_stacks.specs.Cells.{lent_cell, lent_stack}
 use Rattle.metadata_scopes.specs.Scopes.{lent_meta}
 use Rattle.net_check.specs.Network.{Network}
-use Rattle.walk_text.specs.Names.{meta_name}
+use Rattle.run_text.specs.Names.{meta_name}
 use Rattle.sefl_meaning.specs.Fields.{Fields}
-use Rattle.walk_text.specs.Held.{held_head, held_meta}
-use Rattle.walk_text.specs.Forms.{given_by, cell_data, cells_data, head_data, meta_data, heads_data, metas_data, tags_data, fields_data, owner_data, address_data, list, count}
+use Rattle.run_text.specs.Held.{held_head, held_meta}
+use Rattle.run_text.specs.Forms.{given_by, cell_data, cells_data, head_data, meta_data, heads_data, metas_data, tags_data, fields_data, owner_data, address_data, list, count}
 
 module _ {V : Type 0} (given : V → List Data) where
   abbrev lent_given : Bor V → List Data

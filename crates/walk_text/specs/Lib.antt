@@ -1,4 +1,1 @@
-pub mod Names
-pub mod Held
-pub mod Forms
 pub mod Walks

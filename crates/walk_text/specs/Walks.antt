@@ -1,15 +1,11 @@
 -- The text of walks: compact JSON, its keys ascending, and a line feed.
-use Rattle.std.specs.Prelude.{ℕ, List, [], ◌∷◌, ◌++◌, map, codes}
+use Rattle.std.specs.Prelude.{List, [], ◌∷◌, ◌++◌, ℕ, map, codes}
 use Rattle.serde_json.specs.Data.{Data, object, no_members, member}
 use Rattle.serde_json.specs.Written.{compact_text}
 use Rattle.net_check.specs.Network.{Network}
 use Rattle.sefl_meaning.specs.Walks.{Trail}
-use Rattle.walk_text.specs.Forms.{list, count, value_data, decisions_data, places_data, end_data, fields_data}
 use Rattle.sefl_meaning.specs.Fields.{fields_of}
-
--- what a number gives in the list of a set cell
-abbrev pub number_parts : ℕ → List Data
-number_parts value = value_data value ∷ []
+use Rattle.run_text.specs.Forms.{list, count, number_parts, decisions_data, places_data, end_data, fields_data}
 
 -- a walk: what was decided, how it ended, what the packet carries then, and where it was
 unfoldable pub walk_data : Network → Trail → Data

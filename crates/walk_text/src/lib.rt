@@ -1,13 +1,7 @@
-//! Walks as JSON, and the forms of their parts, which other reports share.
+//! Walks as JSON.
 #![tactic(auto)]
 
-mod cells;
-mod fields;
-mod names;
-mod parts;
+mod state;
 mod walks;
 
-pub use cells::{CellValue, cells_json};
-pub use fields::{fields_json, state_json};
-pub use parts::{decisions_json, end_json, places_json, value_json};
 pub use walks::walks_text;

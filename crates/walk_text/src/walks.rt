@@ -1,61 +1,81 @@
 //! The text of walks.
 
 ghost use Rattle.std.specs.Prelude.{◌≡◌, string_bytes, map, IfOk};
-ghost use Rattle.serde_json.specs.View.{view};
 ghost use Rattle.net_check.specs.Network.{network};
 ghost use Rattle.sefl_meaning.specs.View.{trail_of};
+ghost use Rattle.compact_json.specs.Tokens.{Gains};
 ghost use Rattle.walk_text.specs.Walks.{walk_data, walk_list, walks_data, walks_text};
 
-use crate::fields::state_json;
-use crate::parts::{decisions_json, end_json, places_json};
+use crate::state::write_state;
+use compact_json::JsonText;
+use compact_json::laws::objects_are_written;
 use net_check::Net;
+use run_text::{write_decisions, write_end, write_places};
 use sefl_meaning::Walk;
-use serde_json::{Map, Value, put};
 use sn_width::NoMemory;
 use std::alloc::Global;
 
+/// The room that a text has at the start, in bytes.
+const ROOM: usize = 1024;
+
 #[tactic(auto, unfolding(crate::specs::Walks::walk_data))]
-fn walk_json(alloc: Global, net: &Net, walk: &Walk) -> Result<Value, NoMemory>
-    ensures { IfOk result (λ json. view json ≡ walk_data (network net.now) (trail_of walk.now)) }
+fn write_walk(alloc: Global, out: &mut JsonText, net: &Net, walk: &Walk) -> Result<(), NoMemory>
+    ensures { Gains (walk_data (network net.now) (trail_of walk.now)) result out.old out.new }
 {
-    let mut map = Map::new(alloc);
-    let decisions = decisions_json(alloc, &walk.decisions)?;
-    put(&mut map, alloc, "decisions", decisions)?;
-    put(&mut map, alloc, "end", end_json(alloc, &walk.end)?)?;
-    let fields = state_json(alloc, net, &walk.state)?;
-    put(&mut map, alloc, "fields", fields)?;
-    let places = places_json(alloc, net, &walk.places)?;
-    put(&mut map, alloc, "places", places)?;
-    Ok(Value::Object(map))
+    objects_are_written();
+    out.begin_object()?;
+    out.key("decisions")?;
+    write_decisions(out, &walk.decisions)?;
+    out.key("end")?;
+    write_end(out, &walk.end)?;
+    out.key("fields")?;
+    write_state(alloc, out, net, &walk.state)?;
+    out.key("places")?;
+    write_places(alloc, out, net, &walk.places)?;
+    out.end_object()?;
+    Ok(())
 }
 
 #[tactic(auto, unfolding(crate::specs::Walks::walk_list))]
-fn walk_list(alloc: Global, net: &Net, walks: &[Walk]) -> Result<Value, NoMemory>
-    ensures { IfOk result (λ json. view json ≡ walk_list (network net.now) (map trail_of walks.now)) }
+fn write_walk_list(
+    alloc: Global,
+    out: &mut JsonText,
+    net: &Net,
+    walks: &[Walk],
+) -> Result<(), NoMemory>
+    ensures { Gains (walk_list (network net.now) (map trail_of walks.now)) result out.old out.new }
 {
-    let mut items = Vec::new(alloc);
+    out.begin_list()?;
     for walk in walks {
-        items.push(walk_json(alloc, net, walk)?)?;
+        write_walk(alloc, out, net, walk)?;
     }
-    Ok(Value::Array(items))
+    out.end_list()?;
+    Ok(())
 }
 
 #[tactic(auto, unfolding(crate::specs::Walks::walks_data))]
-fn walks_json(alloc: Global, net: &Net, walks: &[Walk]) -> Result<Value, NoMemory>
-    ensures { IfOk result (λ json. view json ≡ walks_data (network net.now) (map trail_of walks.now)) }
+fn write_walks(alloc: Global, out: &mut JsonText, net: &Net, walks: &[Walk]) -> Result<(), NoMemory>
+    ensures { Gains (walks_data (network net.now) (map trail_of walks.now)) result out.old out.new }
 {
-    let mut map = Map::new(alloc);
-    put(&mut map, alloc, "symnet", Value::from(1u32))?;
-    put(&mut map, alloc, "walks", walk_list(alloc, net, walks)?)?;
-    Ok(Value::Object(map))
+    objects_are_written();
+    out.begin_object()?;
+    out.key("symnet")?;
+    out.count(1)?;
+    out.key("walks")?;
+    write_walk_list(alloc, out, net, walks)?;
+    out.end_object()?;
+    Ok(())
 }
 
 /// The walks as one line of JSON, keys ascending, with a line feed at its end. An id that is none of
 /// the net's, which no walk of an accepted net has, is shown with an empty name.
-#[tactic(auto, using(crate::proofs::NoFloats::walks_have_no_float), unfolding(crate::specs::Walks::walks_text))]
+#[tactic(auto, unfolding(crate::specs::Walks::walks_text))]
 pub fn walks_text(alloc: Global, net: &Net, walks: &[Walk]) -> Result<String, NoMemory>
     ensures { IfOk result (λ text. string_bytes text ≡ walks_text (network net.now) (map trail_of walks.now)) }
 {
-    let text = walks_json(alloc, net, walks)?.to_string(alloc)?;
-    Ok(format!(in alloc; "{text}\n")?)
+    let mut out = JsonText::with_capacity(alloc, ROOM)?;
+    write_walks(alloc, &mut out, net, walks)?;
+    let mut text = out.into_text();
+    text.push('\n')?;
+    Ok(text)
 }

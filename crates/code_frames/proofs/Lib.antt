@@ -1,0 +1,5 @@
+pub mod Going
+pub mod Counting
+pub mod Framing
+pub mod Arms
+pub mod Weighing

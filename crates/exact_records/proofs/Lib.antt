@@ -1,0 +1,14 @@
+pub mod Lists
+pub mod Begins
+pub mod Ordered
+pub mod Begun
+pub mod Arriving
+pub mod Judging
+pub mod Steps
+pub mod Shown
+pub mod Continuing
+pub mod Cutting
+pub mod Standing
+pub mod Ending
+pub mod Packets
+pub mod Whole

@@ -1,0 +1,10 @@
+pub mod Ways
+pub mod Splitting
+pub mod Taking
+pub mod Spending
+pub mod Counting
+pub mod Steps
+pub mod Endings
+pub mod Leaving
+pub mod Guiding
+pub mod Gathering

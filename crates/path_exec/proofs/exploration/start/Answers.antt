@@ -1,0 +1,66 @@
+use Rattle.std.proofs.Common.{rules, arith, refl, ◌∷◌, [], None}
+use Rattle.exact_records.specs.Spots.{first_spot, to_decide}
+use Rattle.path_exec.proofs.Endings.{begun_runs, begun_works, made_own, runs_early, runs_made, runs_on, runs_stopped}
+use Rattle.path_exec.proofs.exploration.start.Goals as goal
+
+pub take-requires : goal.take-requires
+take-requires g c =
+    let x = g.E.Engine.views c.args.engine.now in
+    c.requires.takes c.in-Some.record (made_own x _ c.in-Some.record c.in_ok-record.ensures.own c.in-Some.is)
+
+pub returns-in_err-record-clause-begun : goal.returns-in_err-record-clause-begun
+returns-in_err-record-clause-begun g c =
+    let x = g.E.Engine.views c.args.engine.now in
+    let below = c.steps_keep_what_stands.ensures x.start in
+    let exact = c.records_that_stand_are_exact.ensures x.start c.requires.splits in
+    let m = g.K.Receiver.seen c.args.out.now in
+    let k = runs_early x exact c.args.limit 0 m m _ c.args.steps.now c.args.steps.now (begun_runs x below c.args.limit m c.args.works.now.items c.args.steps.now c.requires.some c.requires.empty c.requires.stands) (λ items k. k) in
+    search rules
+
+pub returns-in_default-clause-begun : goal.returns-in_default-clause-begun
+returns-in_default-clause-begun g c =
+    let x = g.E.Engine.views c.args.engine.now in
+    let below = c.steps_keep_what_stands.ensures x.start in
+    let exact = c.records_that_stand_are_exact.ensures x.start c.requires.splits in
+    let m = g.K.Receiver.seen c.args.out.now in
+    let h = begun_runs x below c.args.limit m c.args.works.now.items c.args.steps.now c.requires.some c.requires.empty c.requires.stands in (
+      omega arith,
+      runs_on x exact c.args.limit 0 m ((first_spot x.start, to_decide None) ∷ []) c.args.works.now.items c.begin.new.works.items _ c.args.steps.now c.args.steps.now c.begin.new.steps
+          c.in_default.is c.requires.some h c.in_ok-record.ensures,
+      c.in_ok-record.ensures.works (begun_works x c.args.works.now.items c.requires.empty),
+    )
+
+pub returns-in-More-clause-begun : goal.returns-in-More-clause-begun
+returns-in-More-clause-begun g c =
+    let x = g.E.Engine.views c.args.engine.now in
+    let below = c.steps_keep_what_stands.ensures x.start in
+    let exact = c.records_that_stand_are_exact.ensures x.start c.requires.splits in
+    let m = g.K.Receiver.seen c.args.out.now in
+    let n = g.K.Receiver.seen c.take.new.self in
+    let h = begun_runs x below c.args.limit m c.args.works.now.items c.args.steps.now c.requires.some c.requires.empty c.requires.stands in (
+      let s = c.requires.some in omega (arith, s),
+      runs_made x exact c.args.limit 0 1 m n ((first_spot x.start, to_decide None) ∷ []) c.args.works.now.items c.begin.new.works.items _ c.in-Some.record c.args.steps.now c.args.steps.now
+          c.begin.new.steps c.in-Some.is c.requires.some h c.in_ok-record.ensures c.in-More.ensures.took refl,
+      c.in_ok-record.ensures.works (begun_works x c.args.works.now.items c.requires.empty),
+    )
+
+pub returns-in-Stop-clause-begun : goal.returns-in-Stop-clause-begun
+returns-in-Stop-clause-begun g c =
+    let x = g.E.Engine.views c.args.engine.now in
+    let below = c.steps_keep_what_stands.ensures x.start in
+    let exact = c.records_that_stand_are_exact.ensures x.start c.requires.splits in
+    let m = g.K.Receiver.seen c.args.out.now in
+    let n = g.K.Receiver.seen c.take.new.self in
+    let h = begun_runs x below c.args.limit m c.args.works.now.items c.args.steps.now c.requires.some c.requires.empty c.requires.stands in
+    let took = c.in-Stop.ensures.took in
+    runs_stopped x exact c.args.limit 0 m.stops m n ((first_spot x.start, to_decide None) ∷ []) c.args.works.now.items c.begin.new.works.items _ c.in-Some.record c.args.steps.now c.args.steps.now
+    c.begin.new.steps c.in-Some.is c.requires.some h c.in_ok-record.ensures took.1 took.0
+
+pub returns-in-NoMemory-clause-begun : goal.returns-in-NoMemory-clause-begun
+returns-in-NoMemory-clause-begun g c =
+    let x = g.E.Engine.views c.args.engine.now in
+    let below = c.steps_keep_what_stands.ensures x.start in
+    let exact = c.records_that_stand_are_exact.ensures x.start c.requires.splits in
+    let m = g.K.Receiver.seen c.args.out.now in
+    runs_early x exact c.args.limit 0 m (g.K.Receiver.seen c.take.new.self) _ c.args.steps.now c.args.steps.now
+    (begun_runs x below c.args.limit m c.args.works.now.items c.args.steps.now c.requires.some c.requires.empty c.requires.stands) c.in-NoMemory.ensures.took

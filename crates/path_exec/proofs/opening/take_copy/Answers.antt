@@ -1,0 +1,51 @@
+use Rattle.std.proofs.Common.{rules, ap, subst, sym, ◌≡◌}
+use Rattle.std.proofs.lemmas.Result.{IfOk-weaker}
+use Rattle.exact_records.specs.Spots.{IsKnown, condition_at}
+use Rattle.path_exec.specs.Here.{behind_last, spot_at}
+use Rattle.path_exec.proofs.Taking.{offered_next, placed_next, there_next}
+use Rattle.path_exec.proofs.Steps.{copy_opened, copy_stays, keeps_open}
+use Rattle.path_exec.proofs.opening.take_copy.Goals as goal
+
+pub take-requires : goal.take-requires
+take-requires g c = offered_next (g.E.Engine.views c.args.engine.now) c.args.work c.requires.work c.offer_at-decision.result c.offer_at-decision.ensures
+
+pub put_back-requires : goal.put_back-requires
+put_back-requires g c = c.requires.work.left
+
+pub go_on-requires-clause-at : goal.go_on-requires-clause-at
+go_on-requires-clause-at g c =
+    let x = g.E.Engine.views c.args.engine.now in
+    let below = c.steps_keep_what_stands.ensures x.start in
+    let stay = c.verdicts_stay.ensures x.start in
+    let exact = c.records_that_stand_are_exact.ensures x.start c.requires.splits in
+    let h = c.requires.work in
+    let e = placed_next x c.args.work h c.in_ok-place.place
+    (there_next x c.args.work h c.offer_at-decision.result (λ begun a. spot_at begun (x.place_at c.in_ok-place.place) ≡ a) c.offer_at-decision.ensures c.in_ok-place.ensures) in
+    (copy_opened x below stay exact c.args.work c.in_ok-place.place h c.requires.fork c.requires.pending e).at
+
+pub go_on-requires-clause-known : goal.go_on-requires-clause-known
+go_on-requires-clause-known g c =
+    let x = g.E.Engine.views c.args.engine.now in
+    let below = c.steps_keep_what_stands.ensures x.start in
+    let stay = c.verdicts_stay.ensures x.start in
+    let exact = c.records_that_stand_are_exact.ensures x.start c.requires.splits in
+    let h = c.requires.work in
+    let e = placed_next x c.args.work h c.in_ok-place.place
+    (there_next x c.args.work h c.offer_at-decision.result (λ begun a. spot_at begun (x.place_at c.in_ok-place.place) ≡ a) c.offer_at-decision.ensures c.in_ok-place.ensures) in
+    let same : c.in_ok-finding.finding.value ≡ c.args.work.finding.value = search rules in
+    subst (λ v. IsKnown (condition_at x.start (behind_last x.start (x.place_at c.in_ok-place.place))) (x.verdict_of v)) (sym same)
+    (copy_opened x below stay exact c.args.work c.in_ok-place.place h c.requires.fork c.requires.pending e).known
+
+pub returns : goal.returns
+returns g c =
+    let x = g.E.Engine.views c.args.engine.now in
+    let below = c.steps_keep_what_stands.ensures x.start in
+    let stay = c.verdicts_stay.ensures x.start in
+    let exact = c.records_that_stand_are_exact.ensures x.start c.requires.splits in
+    let h = c.requires.work in
+    let e = placed_next x c.args.work h c.in_ok-place.place
+    (there_next x c.args.work h c.offer_at-decision.result (λ begun a. spot_at begun (x.place_at c.in_ok-place.place) ≡ a) c.offer_at-decision.ensures c.in_ok-place.ensures) in
+    let same : c.in_ok-finding.finding.value ≡ c.args.work.finding.value = search rules in
+    let v = x.verdict_of c.in_ok-finding.finding.value in
+    IfOk-weaker c.go_on.result _ _ (λ made k. keeps_open x below stay exact c.args.work c.in_ok-place.place v c.args.works.now.items c.put_back.new.works.items c.go_on.new.works.items made
+    c.args.steps.now c.go_on.new.steps h e (copy_stays x below stay exact c.args.work h c.requires.fork v (ap x.verdict_of same)) c.in_ok-put_back.ensures k) c.go_on.ensures

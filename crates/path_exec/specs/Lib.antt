@@ -1,0 +1,12 @@
+pub mod Here
+pub mod Views
+pub mod Offers
+pub mod Moves
+pub mod Trials
+pub mod Works
+pub mod Paying
+pub mod Keeping
+pub mod Receiving
+pub mod Ending
+pub mod Following
+pub mod Visiting

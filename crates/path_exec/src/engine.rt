@@ -1,0 +1,156 @@
+//! What an exploration stands on: places of a run, and the decision of their conditions.
+
+ghost use Rattle.std.specs.Prelude.{◌≡◌, ◌↔◌, ◌++◌, ◌∷◌, [], ℕ, Some, None, IfOk, IsTrue, length};
+ghost use Rattle.exact_records.specs.Records.{pruned, unexplored};
+ghost use Rattle.exact_records.specs.Spots.{Spot, condition_at, filled_verdict, first_spot, IsKnown};
+ghost use Rattle.path_exec.specs.Here.{EndsWith, spot_at};
+ghost use Rattle.path_exec.specs.Views.{Views, IsMade};
+ghost use Rattle.path_exec.specs.Offers.{IsOffered, next_spot};
+ghost use Rattle.path_exec.specs.Moves.{Moves};
+ghost use Rattle.path_exec.specs.Trials.{IsPathOf, IsTrial};
+
+use refutation_check::Refutation;
+use sefl_meaning::{Decision, Place};
+use sn_width::{NoMemory, Steps};
+use std::alloc::Global;
+use std::sync::ledger::Ledger;
+
+/// The instruction that waits for a decision.
+#[derive(Clone, Copy)]
+pub enum Offer {
+    /// It takes Then or Else.
+    If,
+    /// It takes Pass or Broken.
+    Constrain,
+    /// It takes Copy, by a number below that of its copies.
+    Fork { copies: u32 },
+}
+
+/// Where the next decision is taken, or the run is over.
+#[derive(Drop)]
+pub enum Next<O: Drop, N: Drop> {
+    AtEnd { over: O },
+    AtNode { node: N, offer: Offer },
+}
+
+/// How far a run came.
+#[derive(Drop)]
+pub enum Moved<P: Drop, O: Drop, N: Drop> {
+    /// It arrived at a port, and has not begun its code.
+    Arrived { place: P },
+    Stopped { next: Next<O, N> },
+}
+
+/// A place whose condition was decided.
+#[derive(Drop)]
+pub enum Tried<P: Drop, D: Drop> {
+    /// It is not refuted.
+    Open { place: P, finding: D },
+    Refuted { refutation: Refutation },
+}
+
+/// Places of the runs of a net, and the decision of their conditions.
+pub trait Engine {
+    /// Where a run goes on.
+    type Place: Drop;
+
+    /// Where it is over.
+    type Over: Drop;
+
+    /// Where it waits for a decision.
+    type Node: Drop;
+
+    /// What was found of a condition that is not refuted.
+    type Finding: Drop;
+
+    /// What is written out.
+    type Record: Drop;
+
+    /// What all these are seen as.
+    ghost views: { Self → Views Self.Place Self.Over Self.Node Self.Finding Self.Record };
+
+    /// The place before the injection's port.
+    fn begin(&self, alloc: Global) -> Result<Self::Place, NoMemory>
+        ensures { IfOk result (λ place. spot_at 0 ((views self.now).place_at place) ≡ first_spot (views self.now).start) };
+
+    /// The same, with the decision of the injection's condition.
+    fn try_begin(&self, alloc: Global) -> Result<Tried<Self::Place, Self::Finding>, NoMemory>
+        ensures { IfOk result (IsTrial (views self.now) 0 (first_spot (views self.now).start)) };
+
+    /// The same place.
+    fn fork(&self, place: &Self::Place) -> Result<Self::Place, NoMemory>
+        ensures stands { IfOk result (λ copy. (views self.now).place_at copy ≡ (views self.now).place_at place.now) }
+        ensures carries { IfOk result (λ copy. (views self.now).carried_at copy ≡ (views self.now).carried_at place.now) };
+
+    /// Whether the last port that it arrived at is this one.
+    fn stands_at(&self, place: &Self::Place, port: Place) -> bool
+        ensures { IsTrue result ↔ EndsWith ((views self.now).place_at place.now).places port };
+
+    /// Runs on to the next port, the next decision or the end.
+    fn onward<L: Ledger>(
+        &self,
+        alloc: Global,
+        place: Self::Place,
+        steps: &mut Steps<L>,
+    ) -> Result<Moved<Self::Place, Self::Over, Self::Node>, NoMemory>
+        ensures { IfOk result (Moves (views self.now) ((views self.now).place_at place) steps.old steps.new) };
+
+    /// The place behind a decision.
+    fn take(
+        &self,
+        alloc: Global,
+        node: &Self::Node,
+        decision: Decision,
+    ) -> Result<Self::Place, NoMemory>
+        requires { IsOffered ((views self.now).node_at node.now) decision }
+        ensures { IfOk result (λ place. (begun : ℕ) (c : Spot) → next_spot (spot_at begun ((views self.now).node_at node.now)) decision ≡ Some c
+            → spot_at begun ((views self.now).place_at place) ≡ c) };
+
+    /// The same, with the decision of the condition there. Before the decision this was found, of the condition without its last
+    /// formula.
+    fn try_take(
+        &self,
+        alloc: Global,
+        node: &Self::Node,
+        decision: Decision,
+        before: &Self::Finding,
+    ) -> Result<Tried<Self::Place, Self::Finding>, NoMemory>
+        requires offered { IsOffered ((views self.now).node_at node.now) decision }
+        requires known { IsKnown (condition_at (views self.now).start (spot_at 0 ((views self.now).node_at node.now))) ((views self.now).verdict_of before.now) }
+        ensures { IfOk result (λ tried. (begun : ℕ) (c : Spot) → next_spot (spot_at begun ((views self.now).node_at node.now)) decision ≡ Some c
+            → IsTrial (views self.now) begun c tried) };
+
+    /// The record of a path that is over, where this was found of its condition.
+    fn path(
+        &self,
+        alloc: Global,
+        over: Self::Over,
+        finding: &Self::Finding,
+    ) -> Result<Self::Record, NoMemory>
+        ensures { IfOk result (λ made. (begun : ℕ) → IsPathOf (views self.now) (spot_at begun ((views self.now).over_at over)) ((views self.now).verdict_of finding.now) made) };
+
+    /// The record of a refuted injection.
+    fn refuted(&self, alloc: Global, refutation: Refutation) -> Result<Self::Record, NoMemory>
+        ensures { IfOk result (IsMade (views self.now) (pruned [] None refutation)) };
+
+    /// The record of a refuted side, where this was found before its decision.
+    fn pruned(
+        &self,
+        alloc: Global,
+        node: &Self::Node,
+        decision: Decision,
+        before: &Self::Finding,
+        refutation: Refutation,
+    ) -> Result<Self::Record, NoMemory>
+        ensures { IfOk result (IsMade (views self.now) (pruned (((views self.now).node_at node.now).decisions ++ decision ∷ [])
+            (Some (filled_verdict (length ((views self.now).node_at node.now).widths) ((views self.now).verdict_of before.now))) refutation)) };
+
+    /// The record of a decision that is not tried.
+    fn unexplored(
+        &self,
+        alloc: Global,
+        node: &Self::Node,
+        decision: Decision,
+    ) -> Result<Self::Record, NoMemory>
+        ensures { IfOk result (IsMade (views self.now) (unexplored (((views self.now).node_at node.now).decisions ++ decision ∷ []))) };
+}

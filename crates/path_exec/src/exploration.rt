@@ -1,0 +1,199 @@
+//! The exploration.
+
+ghost use Rattle.std.specs.Prelude.{◌≡◌, ◌<◌, ◌≤◌, ◌∷◌, [], ℕ, None, IfOk};
+ghost use Rattle.sefl_meaning.specs.Routes.{Splits};
+ghost use Rattle.exact_records.specs.Spots.{first_spot, to_decide};
+ghost use Rattle.path_exec.specs.Works.{all_tasks, AreWorks};
+ghost use Rattle.path_exec.specs.Receiving.{IsSame, TakesOwn};
+ghost use Rattle.path_exec.specs.Keeping.{Keeps, Leaves, Runs};
+ghost use Rattle.path_exec.specs.Ending.{BegunAs, Explored, LeftAs, RanAs};
+
+use crate::engine::{Engine, Tried};
+use crate::opening::{Work, go_on, offer_at, put_back, take_next};
+use crate::receiver::{Receiver, Took};
+use exact_records::laws::{records_that_stand_are_exact, steps_keep_what_stands, verdicts_stay};
+use sn_width::{NoMemory, Steps};
+use std::alloc::Global;
+use std::rc::Rc;
+use std::sync::ledger::Ledger;
+
+/// How an exploration ends.
+#[derive(Clone, Copy)]
+pub enum Ended {
+    /// Nothing is left out.
+    Whole,
+    /// The limit was met, and what is left was named.
+    Partial,
+    /// The receiver stopped.
+    Stopped,
+}
+
+/// How the exploration below the limit ends.
+#[derive(Clone, Copy)]
+pub(crate) enum Ran {
+    /// Nothing is left.
+    Over,
+    /// The limit was met.
+    Met,
+    Interrupted,
+}
+
+/// Decides the injection's condition, and goes on where it is not refuted.
+fn begin<E: Engine, L: Ledger>(
+    alloc: Global,
+    engine: &E,
+    works: &mut Vec<Work<E::Node, E::Finding>>,
+    steps: &mut Steps<L>,
+) -> Result<Option<E::Record>, NoMemory>
+    requires splits { Splits (E.views engine.now).start.tree }
+    ensures { IfOk result (λ made. Keeps (E.views engine.now) ((first_spot (E.views engine.now).start, to_decide None) ∷ [])
+        works.old.items works.new.items made steps.old steps.new) }
+{
+    steps_keep_what_stands();
+    verdicts_stay();
+    records_that_stand_are_exact();
+    let tried = engine.try_begin(alloc)?;
+    match tried {
+        Tried::Refuted { refutation } => {
+            let record = engine.refuted(alloc, refutation)?;
+            Ok(Some(record))
+        }
+        Tried::Open { place, finding } => {
+            let finding = Rc::new(alloc, finding)?;
+            go_on(alloc, engine, place, finding, works, steps)
+        }
+    }
+}
+
+/// Takes the first step, and hands over its record, if it makes one: how many were handed over; None where the receiver stopped.
+fn start<E: Engine, K: Receiver<Item = E::Record>, L: Ledger>(
+    alloc: Global,
+    engine: &E,
+    limit: u32,
+    works: &mut Vec<Work<E::Node, E::Finding>>,
+    out: &mut K,
+    steps: &mut Steps<L>,
+) -> Result<Option<u32>, NoMemory>
+    requires some { 0 < limit }
+    requires splits { Splits (E.views engine.now).start.tree }
+    requires empty { works.old.items ≡ [] }
+    requires stands { (K.seen out.old).StandsFor [] }
+    requires takes { TakesOwn (E.views engine.now) (K.seen out.old) }
+    ensures same { IsSame (K.seen out.old) (K.seen out.new) }
+    ensures begun { BegunAs (E.views engine.now) limit (K.seen out.old).stops (K.seen out.new) works.new.items steps.old steps.new result }
+{
+    steps_keep_what_stands();
+    records_that_stand_are_exact();
+    let Some(record) = begin(alloc, engine, works, steps)? else {
+        return Ok(Some(0));
+    };
+    match out.take(record) {
+        Took::More => Ok(Some(1)),
+        Took::Stop => Ok(None),
+        Took::NoMemory => Err(NoMemory),
+    }
+}
+
+/// Explores below the limit, where so many records were handed over.
+fn run<E: Engine, K: Receiver<Item = E::Record>, L: Ledger>(
+    alloc: Global,
+    engine: &E,
+    limit: u32,
+    first: u32,
+    works: &mut Vec<Work<E::Node, E::Finding>>,
+    out: &mut K,
+    steps: &mut Steps<L>,
+) -> Result<Ran, NoMemory>
+    requires splits { Splits (E.views engine.now).start.tree }
+    requires within { first ≤ limit }
+    requires works { AreWorks (E.views engine.now) works.old.items }
+    requires takes { TakesOwn (E.views engine.now) (K.seen out.old) }
+    requires runs { (before : ℕ) × Runs (E.views engine.now) limit first (K.seen out.old) (all_tasks (E.views engine.now) works.old.items) before steps.old }
+    ensures same { IsSame (K.seen out.old) (K.seen out.new) }
+    ensures ran { (before : ℕ) → Runs (E.views engine.now) limit first (K.seen out.old) (all_tasks (E.views engine.now) works.old.items) before steps.old
+        → RanAs (E.views engine.now) limit (K.seen out.old).stops (K.seen out.new) works.new.items before steps.new result }
+{
+    records_that_stand_are_exact();
+    let mut count = first;
+    while count < limit {
+        let Some(next) = works.pop() else {
+            return Ok(Ran::Over);
+        };
+        let Some(record) = take_next(alloc, engine, next, works, steps)? else {
+            continue;
+        };
+        match out.take(record) {
+            Took::More => count += 1,
+            Took::Stop => return Ok(Ran::Interrupted),
+            Took::NoMemory => return Err(NoMemory),
+        }
+    }
+    Ok(Ran::Met)
+}
+
+/// Names what is left, a record for each decision that is not tried.
+fn leave<E: Engine, K: Receiver<Item = E::Record>>(
+    alloc: Global,
+    engine: &E,
+    limit: u32,
+    works: &mut Vec<Work<E::Node, E::Finding>>,
+    out: &mut K,
+) -> Result<Ended, NoMemory>
+    requires splits { Splits (E.views engine.now).start.tree }
+    requires works { AreWorks (E.views engine.now) works.old.items }
+    requires takes { TakesOwn (E.views engine.now) (K.seen out.old) }
+    ensures same { IsSame (K.seen out.old) (K.seen out.new) }
+    ensures left { (before after : ℕ) → Leaves (E.views engine.now) limit (K.seen out.old) (all_tasks (E.views engine.now) works.old.items) before after
+        → LeftAs (E.views engine.now) limit (K.seen out.old).stops (K.seen out.new) before after result }
+{
+    steps_keep_what_stands();
+    records_that_stand_are_exact();
+    while let Some(next) = works.pop() {
+        let decision = offer_at(next.offer, next.taken);
+        let record = engine.unexplored(alloc, &next.node, decision)?;
+        put_back(next, works)?;
+        match out.take(record) {
+            Took::More => {}
+            Took::Stop => return Ok(Ended::Stopped),
+            Took::NoMemory => return Err(NoMemory),
+        }
+    }
+    Ok(Ended::Partial)
+}
+
+/// Explores, and hands over each record as it is found: at most `limit` of paths and refuted sides, in the order of their
+/// decisions, and then one for each decision that is left.
+///
+/// For want of memory, and where the receiver answers it, what was handed over is exact so far.
+pub fn explore_into<E: Engine, K: Receiver<Item = E::Record>, L: Ledger>(
+    alloc: Global,
+    engine: &E,
+    limit: u32,
+    out: &mut K,
+    steps: &mut Steps<L>,
+) -> Result<Ended, NoMemory>
+    requires some { 0 < limit }
+    requires splits { Splits (E.views engine.now).start.tree }
+    requires stands { (K.seen out.old).StandsFor [] }
+    requires takes { TakesOwn (E.views engine.now) (K.seen out.old) }
+    ensures same { IsSame (K.seen out.old) (K.seen out.new) }
+    ensures explored { Explored (E.views engine.now) limit (K.seen out.old).stops (K.seen out.new) steps.old steps.new result }
+{
+    steps_keep_what_stands();
+    records_that_stand_are_exact();
+    let mut works = Vec::new(alloc);
+    let Some(count) = start(alloc, engine, limit, &mut works, out, steps)? else {
+        return Ok(Ended::Stopped);
+    };
+    let ran = run(alloc, engine, limit, count, &mut works, out, steps)?;
+    match ran {
+        Ran::Over => Ok(Ended::Whole),
+        Ran::Interrupted => Ok(Ended::Stopped),
+        Ran::Met => {
+            if works.is_empty() {
+                return Ok(Ended::Whole);
+            }
+            leave(alloc, engine, limit, &mut works, out)
+        }
+    }
+}

@@ -1,0 +1,17 @@
+//! The exploration of a net from an injection: records in the order of their decisions, handed over as they are found.
+#![tactic(auto)]
+
+pub mod engine;
+mod exploration;
+mod guided;
+mod kept;
+mod opening;
+mod receiver;
+mod running;
+mod visits;
+
+pub use exploration::{Ended, explore_into};
+pub use guided::{FollowFault, follow};
+pub use kept::{Kept, explore};
+pub use receiver::{Receiver, Took};
+pub use visits::arrivals;

@@ -1,0 +1,8 @@
+use Rattle.record_text.proofs.verdicts.write_undecided.Goals as goal
+
+pub returns : goal.returns
+returns c =
+    let w = c.objects_are_written.ensures in
+    w.opened _ _ _ _ c.in_ok-begin_object.ensures
+    (w.member _ _ _ _ _ _ _ c.in_ok-key.ensures c.in_ok-write_cause.ensures
+    (w.closed _ _ c.in_ok-end_object.ensures))

@@ -1,0 +1,11 @@
+//! Records and reports as texts.
+#![tactic(auto)]
+
+pub mod laws;
+mod records;
+mod refutations;
+mod report;
+mod verdicts;
+
+pub use records::record_text;
+pub use report::{Report, head_text, report_text, tail_text};

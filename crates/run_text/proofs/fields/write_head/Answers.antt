@@ -1,0 +1,11 @@
+use Rattle.std.proofs.Common.{rules}
+use Rattle.compact_json.specs.Tokens.{Adds}
+use Rattle.run_text.specs.Forms.{head_data, address_data}
+use Rattle.run_text.proofs.fields.write_head.Goals as goal
+
+pub returns : goal.returns
+unfolding head_data
+returns g c =
+    let w = c.lists_are_written.ensures in
+    let address : Adds (address_data c.args.address) c.begin_list.new.self c.integer.new.self = search rules in
+    w.opened _ _ _ _ c.in_ok-begin_list.ensures (w.item _ _ _ _ _ address (w.item _ _ _ _ _ c.in_ok-write_cells.ensures (w.closed _ _ c.in_ok-end_list.ensures)))

@@ -1,0 +1,15 @@
+//! What reports of one packet and of all packets have in common, written as compact JSON: decisions, places, ends, and
+//! what a packet carries.
+#![tactic(auto)]
+
+mod cells;
+mod ends;
+mod fields;
+mod names;
+mod parts;
+mod terms;
+
+pub use cells::{CellValue, write_cells};
+pub use ends::write_end;
+pub use fields::write_fields;
+pub use parts::{write_decisions, write_places, write_value, write_values};

@@ -1,0 +1,102 @@
+-- Symbolic states.
+use Rattle.std.specs.Prelude.{ℕ, ◌≤◌, Bool, true, false, List, [], ◌∷◌, ◌++◌, drop, length, take}
+use Rattle.sn_width.specs.declared.ids.NodeId.{NodeId}
+use Rattle.sn_ranges.specs.Ranges.{RangeSet}
+use Rattle.lin_term.specs.Terms.{LinearTerm, value_at}
+use Rattle.path_formula.specs.declared.formula.Formula.{Formula}
+use Rattle.path_cond.specs.Conditions.{Condition, Entry}
+use Rattle.interval_solver.specs.Domains.{AreDomainsOf, with_width}
+use Rattle.sefl_meaning.specs.declared.walk.Decision.{Decision}
+use Rattle.sefl_meaning.specs.declared.walk.Decision.TheVariants.{Then, Else, Pass, Broken, Copy}
+use Rattle.sefl_meaning.specs.declared.walk.Place.{Place}
+use Rattle.sefl_meaning.specs.declared.walk.Turn.{Turn}
+use Rattle.sefl_meaning.specs.Network.{Network}
+use Rattle.sefl_meaning.specs.Carried.{Carried, Scene, carried_valued}
+use Rattle.sefl_meaning.specs.Valued.{CarriedFits}
+use Rattle.term_values.specs.Fits.{typed_fits}
+
+-- what is carried, the condition that was met so far, the decisions and the ports arrived at, the newest first, and how many
+-- of the symbols, the first ones, are unknown fields
+pub record Symbolic : Type 0 where
+  pub carried : Carried LinearTerm
+  pub condition : Condition
+  pub decisions : List Decision
+  pub places : List Place
+  pub unknowns : ℕ
+
+-- the carried terms are over the symbols of the condition, at their widths; the domains are those of the condition; and each
+-- unknown field is a symbol
+pub record IsSound (carried : Carried LinearTerm) (condition : Condition) (sets : List RangeSet) (unknowns : ℕ) : Type 0 where
+  pub fits : CarriedFits (typed_fits condition.widths) carried
+  pub domains : AreDomainsOf condition sets
+  pub known : unknowns ≤ length condition.widths
+
+-- the node of the port that was arrived at last
+abbrev pub node_of : List Place → NodeId
+node_of [] = record { 0 = 0 }
+node_of (place ∷ places) = place.node
+
+-- where the code runs that the state has come to, in these turns, the innermost first
+abbrev pub scene_in : Network → List Turn → Symbolic → Scene
+scene_in net turns s = record { net = net; node = node_of s.places; turns = turns }
+
+-- the carried numbers, at these values of the symbols
+abbrev pub numbers_in : List ℕ → Symbolic → Carried ℕ
+numbers_in v s = carried_valued (λ t. value_at t v) s.carried
+
+-- the widths of the choices so far
+abbrev pub choices_of : Symbolic → List ℕ
+choices_of s = drop s.unknowns s.condition.widths
+
+-- with these terms
+abbrev pub with_carried : Symbolic → Carried LinearTerm → Symbolic
+with_carried s carried = record s { carried = carried }
+
+-- with these terms, and one symbol more, of this width
+abbrev pub with_symbol : Symbolic → ℕ → Carried LinearTerm → Symbolic
+with_symbol s width carried = record s { carried = carried; condition = with_width s.condition width }
+
+-- with more formulas, each with the truth that it must have
+abbrev pub with_entries : Symbolic → List Entry → Symbolic
+with_entries s more = record s { condition = record { widths = s.condition.widths; entries = s.condition.entries ++ more } }
+
+-- with one decision more
+abbrev pub with_decision : Symbolic → Decision → Symbolic
+with_decision s decision = record s { decisions = decision ∷ s.decisions }
+
+-- with one port more that was arrived at
+abbrev pub with_place : Symbolic → Place → Symbolic
+with_place s place = record s { places = place ∷ s.places }
+
+-- the truth that a decision gives to its formula
+abbrev pub polarity : Decision → Bool
+polarity Then = true
+polarity Else = false
+polarity Pass = true
+polarity Broken = false
+polarity (Copy number) = true
+
+-- a decision on a formula
+abbrev pub decided : Symbolic → Formula → Decision → Symbolic
+decided s formula decision = with_decision (with_entries s ((formula, polarity decision) ∷ [])) decision
+
+-- what no instruction changes: the unknown fields with their widths, the formulas, the decisions and the places
+pub record Rest : Type 0 where
+  pub unknowns : ℕ
+  pub fields : List ℕ
+  pub entries : List Entry
+  pub decisions : List Decision
+  pub places : List Place
+
+abbrev pub rest_of : Symbolic → Rest
+rest_of s = record {
+  unknowns = s.unknowns;
+  fields = take s.unknowns s.condition.widths;
+  entries = s.condition.entries;
+  decisions = s.decisions;
+  places = s.places;
+}
+
+-- what is carried, and the widths of the choices
+abbrev pub held_of : Symbolic → Carried LinearTerm × List ℕ
+held_of s = (s.carried, choices_of s)
