@@ -1,10 +1,5 @@
-pub mod ReportLemmas
-pub mod ExactLemmas
-pub mod WriteLemmas
-pub mod OutcomeLemmas
-pub mod ThinLemmas
-pub mod OpenLemmas
-pub mod EndLemmas
+pub mod ToldLemmas
+pub mod ProgramLemmas
+pub mod CaseLemmas
+pub mod OwnLemmas
 pub mod WalkLemmas
-pub mod RunLemmas
-pub mod BackLemmas

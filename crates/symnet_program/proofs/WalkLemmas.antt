@@ -1,202 +1,121 @@
--- What `walk` comes to with a packet's file is one thing.
-use Rattle.std.proofs.Common.{◌≡◌, refl, sym, ap, subst, ◌∙◌, ℕ, zero, suc, ◌<◌, ◌≤◌, List, [], ◌∷◌, length, Option, None, Some, arith}
-use Rattle.std.proofs.lemmas.Option.{none-some, same_Some}
-use Rattle.std.specs.List.{AllByRecursion}
-use Rattle.sefl_syntax.specs.Trees.{CondTree, JobTree}
+-- What `walk` tells in a world of a job without tables that breaks no rule.
+use Rattle.std.proofs.Common.{◌≡◌, ◌⊎◌, inl, inr, refl, sym, ap, subst, ◌∙◌, ℕ, ◌<◌, ◌≤◌, List, [], ◌∷◌, length, None, Some}
+use Rattle.std.proofs.lemmas.Bool.{true≢false}
+use Rattle.std.proofs.lemmas.Option.{same_Some}
+use Rattle.std.specs.Option.{ForSome}
+use Rattle.std.specs.Prelude.{IsSomeAnd}
 use Rattle.net_check.specs.Network.{Network, Entry}
-use Rattle.net_check.specs.Sound.{IsEntryOf, IsNetOf}
-use Rattle.net_tables.specs.Places.{node_position}
 use Rattle.packet_file.specs.Packet.{packet_of}
-use Rattle.sefl_meaning.specs.Carried.{Carried, scene_at}
-use Rattle.sefl_meaning.specs.Injected.{FitWidths, IsTrueIn, Starts, unknown_count, unknown_widths, walks_from}
-use Rattle.sefl_meaning.specs.Values.{numbers}
-use Rattle.sefl_meaning.specs.Walks.{Trail}
-use Rattle.concrete_run.specs.Answers.{Walked}
-use Rattle.concrete_run.specs.Starting.{IsFirstOther, IsFirstTooWide, IsStartFault}
-use Rattle.concrete_run.specs.declared.injecting.StartFault.{StartFault}
-use Rattle.concrete_run.specs.declared.injecting.StartFault.TheVariants.{Short, ValueTooWide, WhereFalse, NoMemory}
-use Rattle.symnet_program.specs.Outcome.{file_limit}
-use Rattle.symnet_program.specs.Walking.{HasNumbers, HasTooMany, IsNoStart, IsShort, IsWalking, IsWalksText, Walking, hops, no_numbers, no_packet, no_start, long_packet, start_kind, status_of_walking, too_many, walk_limit, walked}
-use Rattle.symnet_program.specs.declared.status.Status.TheVariants.{BadPacket}
+use Rattle.run_answers.specs.Files.{LoadFails}
+use Rattle.run_answers.specs.Jobs.{HasFilled, ListsFound, first_bad}
+use Rattle.run_answers.specs.Outside.{World, world}
+use Rattle.run_answers.specs.Inputs.{Given, a_job, a_file, a_net, some_bytes, AllOpen, Opens, IsSettled}
+use Rattle.run_answers.specs.Runs.{Outcome}
+use Rattle.run_answers.specs.declared.limits.TheConstants.{FILE_LIMIT, HOPS, LIMIT}
+use Rattle.run_answers.specs.declared.fault.InputFault.{InputFault}
+use Rattle.run_answers.specs.declared.fault.InputFault.TheVariants as input
+use Rattle.walk_command.specs.Walks.{WalksOf}
+use Rattle.symnet_program.specs.Commands.{inputs, work}
+use Rattle.symnet_program.specs.Program.{IsCaused}
+use Rattle.symnet_program.specs.Status.{IsStopped, MayBeBad, MayStop, input_status, outcome_status}
+use Rattle.symnet_program.specs.Told.{TellsNet}
+use Rattle.symnet_program.specs.Words.{walk}
+use Rattle.symnet_program.specs.declared.status.Status.{Status}
+use Rattle.symnet_program.specs.declared.status.Status.TheVariants.{NoMemory, NoFile, ReadFault, WriteFault, TooBig, BadPattern}
+use Rattle.symnet_program.proofs.CaseLemmas.{JobCase, case_of, has_bad, has_tables, breaks_rule, is_taken, job_in, sound_or_refused}
+use Rattle.symnet_program.proofs.OwnLemmas.{own_told}
+use Rattle.symnet_program.proofs.ProgramLemmas.{Decides, exact_of}
 
--- ---- one net and one injection
+stop_or_bad : (p : World) (status : Status) → MayStop p status → MayBeBad status
+stop_or_bad p NoMemory h = inl tt
+stop_or_bad p (ReadFault name) h = inl tt
+stop_or_bad p WriteFault h = inl tt
+stop_or_bad p (BadPattern site) h = inr (site, refl)
+stop_or_bad p status h = absurd h
 
--- a job is accepted as one net, where it is known what its patterns find
-pub same_net : (j : JobTree) (a b : Network) → IsNetOf j a → IsNetOf j b → a.found ≡ b.found → a ≡ b
-same_net j a b of_a of_b found = λ k. record {
-  own = (of_a.own ∙ sym of_b.own) k;
-  names = (of_a.names ∙ sym of_b.names) k;
-  found = found k;
-}
+module _ (job packet : List ℕ) (p : World) (status : Status) (net : Network) (i : Entry)
+    (caused : IsCaused (world p) tt tt (Some (walk job packet)) status) (is : TellsNet p job net i) where
+  -- the file has the job, and no pattern is bad; or the status tells why not
+  abbrev IsGood : Type 0
+  IsGood = HasFilled (Some p.at) job is.tree × ForSome p.is_bad (λ b. first_bad b is.tree ≡ None)
 
--- and as one injection
-pub same_entry : (j : JobTree) (a b : Entry) → IsEntryOf j a → IsEntryOf j b → a ≡ b
-same_entry j a b of_a of_b =
-    let own : a.own ≡ b.own = of_a.own ∙ sym of_b.own in
-    let node : a.node.0 ≡ b.node.0 =
-    same_Some a.node.0 b.node.0 (sym of_a.node ∙ (ap (λ o. node_position j.net o.node) own ∙ of_b.node)) in
-    λ k. record { own = own k; node = record { 0 = node k } }
+  good_or : JobCase p job (a_file FILE_LIMIT packet ∷ []) (work (walk job packet)) is.tree status ⊎ IsStopped status → IsGood ⊎ MayBeBad status
+  good_or (inr h) = inr (inl h)
+  good_or (inl (has_tables tables told)) = absurd (true≢false (sym is.filled ∙ tables))
+  good_or (inl (breaks_rule site kind filled breaks told)) = absurd (sound_or_refused is.tree site kind is.sound breaks)
+  good_or (inl (has_bad site filled refuses told)) = inr (inr (site, told))
+  good_or (inl (is_taken own o has taken behind)) = inl (has, taken.4)
 
--- ---- one start
+  good : IsGood ⊎ MayBeBad status
+  good =
+      good_or (job_in p job (a_file FILE_LIMIT packet ∷ []) (work (walk job packet)) status is.bytes is.file is.tree is.short is.text
+      (case_of p (walk job packet) status caused))
 
-fits_length : (ws v : List ℕ) → FitWidths ws v → length ws ≤ length v
-fits_length [] v fits = omega arith
-fits_length (w ∷ ws) [] fits = absurd fits
-fits_length (w ∷ ws) (n ∷ v) fits = let shorter : length ws ≤ length v = fits_length ws v fits.1 in omega (arith, shorter)
+  -- what is due of such a job, the run told, unless it was stopped or a pattern is bad
+  due : (told : Status) → (IsGood → (status ≡ told) ⊎ MayStop p status) → IsGood ⊎ MayBeBad status → (status ≡ told) ⊎ MayBeBad status
+  due told by (inr h) = inr h
+  due told by (inl h) = told_or (by h)
+    where
+      told_or : (status ≡ told) ⊎ MayStop p status → (status ≡ told) ⊎ MayBeBad status
+      told_or (inl h) = inl h
+      told_or (inr h) = inr (stop_or_bad p status h)
 
-none_too_wide : (ws v : List ℕ) (index : ℕ) → FitWidths ws v → IsFirstTooWide ws v index → ⊥
-none_too_wide [] v index fits first = absurd first
-none_too_wide (w ∷ ws) [] index fits first = absurd first
-none_too_wide (w ∷ ws) (n ∷ v) zero fits first = first fits.0
-none_too_wide (w ∷ ws) (n ∷ v) (suc index) fits first = none_too_wide ws v index fits.1 first.1
+  opens : IsGood → Opens (world p) tt (a_job job) (a_net net i is.tree.asks) tt
+  opens (has, good) = (
+    is.tree,
+    has,
+    net,
+    i,
+    (is.sound, is.of_net, is.of_entry, (λ finds told. subst (ListsFound is.tree net) (same_Some is.finds finds (sym is.told ∙ told)) is.lists), good),
+    refl,
+  )
 
-none_other : (Holds : CondTree → Type 0) (tests : List CondTree) (index : ℕ) → AllByRecursion Holds tests → IsFirstOther Holds tests index → ⊥
-none_other Holds [] index holds first = absurd first
-none_other Holds (test ∷ tests) zero holds first = first holds.0
-none_other Holds (test ∷ tests) (suc index) holds first = none_other Holds tests index holds.1 first.1
+  -- the packet's file is refused
+  module _ (decides : Decides p) where
+    refused_file : (fault : InputFault) → IsSettled p fault → LoadFails (Some p.at) FILE_LIMIT packet fault → (status ≡ input_status fault) ⊎ MayBeBad status
+    refused_file fault settled fails =
+        due (input_status fault)
+        (λ h. exact_of (inputs (walk job packet)) (work (walk job packet)) p decides fault settled
+        (inr (a_net net i is.tree.asks, tt, opens h, inl (fails, refl))) status caused)
+        good
 
--- what a packet carries at its start is one thing
-same_start : (net : Network) (i : Entry) (v : List ℕ) (s t : Carried ℕ) → Starts net i v s → Starts net i v t → s ≡ t
-same_start net i v s t a b = let one = a.carries in let other = b.carries in cc
+    pub absent_packet : p.at packet ≡ None → (status ≡ NoFile packet) ⊎ MayBeBad status
+    absent_packet none = refused_file (input.NoFile packet) tt (refl, λ at told. subst (λ f. f packet ≡ None) (same_Some p.at at told) none)
 
--- a packet that starts has no cause not to
-starts_or_not : (net : Network) (i : Entry) (v : List ℕ) (s : Carried ℕ) (kind : ℕ) (fault : StartFault) → Starts net i v s
-    → IsStartFault net i v fault → start_kind fault ≡ Some kind → ⊥
-starts_or_not net i v s kind (Short needed) starts is told =
-    let enough : length (unknown_widths i.own.fields) ≤ length v = fits_length (unknown_widths i.own.fields) v starts.fits in
-    let counted : needed ≡ length (unknown_widths i.own.fields) = is.0 in
-    let few : length v < needed = is.1 in
-    absurd (omega (arith, enough, counted, few))
-starts_or_not net i v s kind (ValueTooWide field) starts is told = none_too_wide (unknown_widths i.own.fields) v field starts.fits is.1
-starts_or_not net i v s kind (WhereFalse index) starts (t, but) told =
-    let one = starts.carries in
-    let other = but.carries in
-    let same : t ≡ s = cc in
-    none_other (IsTrueIn (scene_at net i.node) (numbers v (unknown_count i)) s) i.own.tests index starts.holds
-    (subst (λ u. IsFirstOther (IsTrueIn (scene_at net i.node) (numbers v (unknown_count i)) u) i.own.tests index) same but.fails)
-starts_or_not net i v s kind NoMemory starts is told = none-some kind told
+    pub long_packet : (bytes : List ℕ) → p.at packet ≡ Some bytes → FILE_LIMIT < length bytes → (status ≡ TooBig packet) ⊎ MayBeBad status
+    long_packet bytes has long =
+        refused_file (input.TooBig packet) tt (
+          refl,
+          λ at told. subst (λ f. IsSomeAnd (f packet) (λ bs. FILE_LIMIT < length bs)) (same_Some p.at at told)
+              (subst (λ o. IsSomeAnd o (λ bs. FILE_LIMIT < length bs)) (sym has) long),
+        )
 
--- too few numbers, or one that is too wide, and tests are not asked
-short_or_wide : (net : Network) (i : Entry) (v : List ℕ) (needed field : ℕ) → IsStartFault net i v (Short needed) → IsStartFault net i v (ValueTooWide field) → ⊥
-short_or_wide net i v needed field short wide =
-    let counted : needed ≡ length (unknown_widths i.own.fields) = short.0 in
-    let few : length v < needed = short.1 in
-    let enough : length (unknown_widths i.own.fields) ≤ length v = wide.0 in
-    absurd (omega (arith, enough, counted, few))
+  -- it has these bytes
+  module _ (once : (a b : List Given) → AllOpen (world p) tt (inputs (walk job packet)) a tt → AllOpen (world p) tt (inputs (walk job packet)) b tt → a ≡ b)
+      (decides : Decides p) (bytes : List ℕ) (has : p.at packet ≡ Some bytes) (short : length bytes ≤ FILE_LIMIT) (outcome : Outcome)
+      (comes : WalksOf HOPS LIMIT net i (packet_of bytes) outcome)
+      (alone : (other : Outcome) → WalksOf HOPS LIMIT net i (packet_of bytes) other → other ≡ outcome) where
+    all_open : IsGood → AllOpen (world p) tt (inputs (walk job packet)) (a_net net i is.tree.asks ∷ some_bytes bytes ∷ []) tt
+    all_open h = (
+      a_net net i is.tree.asks,
+      tt,
+      opens h,
+      some_bytes bytes ∷ [],
+      (some_bytes bytes, tt, (bytes, (short, λ at told. subst (λ f. f packet ≡ Some bytes) (same_Some p.at at told) has), refl, refl), [], (refl, refl), refl),
+      refl,
+    )
 
-short_or_false : (net : Network) (i : Entry) (v : List ℕ) (needed index : ℕ) → IsStartFault net i v (Short needed) → IsStartFault net i v (WhereFalse index) → ⊥
-short_or_false net i v needed index short (s, but) =
-    let counted : needed ≡ length (unknown_widths i.own.fields) = short.0 in
-    let few : length v < needed = short.1 in
-    let enough : length (unknown_widths i.own.fields) ≤ length v = fits_length (unknown_widths i.own.fields) v but.fits in
-    absurd (omega (arith, enough, counted, few))
+    pub walked_packet : (status ≡ outcome_status outcome) ⊎ MayBeBad status
+    walked_packet = due (outcome_status outcome) (λ h. by (came h)) good
+      where
+        came : IsGood → ((other : Outcome) × (work (walk job packet)).comes (a_net net i is.tree.asks ∷ some_bytes bytes ∷ []) other × (status ≡ outcome_status other)) ⊎ MayStop p status
+        came h =
+            own_told (inputs (walk job packet)) (work (walk job packet)) p (a_net net i is.tree.asks ∷ some_bytes bytes ∷ [])
+            (λ other opened. once other (a_net net i is.tree.asks ∷ some_bytes bytes ∷ []) opened (all_open h))
+            (λ fault settled fails. decides.excludes (inputs (walk job packet)) (a_net net i is.tree.asks ∷ some_bytes bytes ∷ []) fault settled (all_open h) fails)
+            status caused
 
-wide_or_false : (net : Network) (i : Entry) (v : List ℕ) (field index : ℕ) → IsStartFault net i v (ValueTooWide field) → IsStartFault net i v (WhereFalse index) → ⊥
-wide_or_false net i v field index wide (s, but) = none_too_wide (unknown_widths i.own.fields) v field but.fits wide.1
-
--- of two faults of a packet the kinds are the same
-same_kind : (net : Network) (i : Entry) (v : List ℕ) (kind other : ℕ) (f g : StartFault) → IsStartFault net i v f → start_kind f ≡ Some kind
-    → IsStartFault net i v g → start_kind g ≡ Some other → kind ≡ other
-same_kind net i v kind other (Short needed) (Short needed') is p so q = sym (same_Some 1 kind p) ∙ same_Some 1 other q
-same_kind net i v kind other (Short needed) (ValueTooWide field') is p so q = absurd (short_or_wide net i v needed field' is so)
-same_kind net i v kind other (Short needed) (WhereFalse index') is p so q = absurd (short_or_false net i v needed index' is so)
-same_kind net i v kind other (Short needed) NoMemory is p so q = absurd (none-some other q)
-same_kind net i v kind other (ValueTooWide field) (Short needed') is p so q = absurd (short_or_wide net i v needed' field so is)
-same_kind net i v kind other (ValueTooWide field) (ValueTooWide field') is p so q = sym (same_Some 2 kind p) ∙ same_Some 2 other q
-same_kind net i v kind other (ValueTooWide field) (WhereFalse index') is p so q = absurd (wide_or_false net i v field index' is so)
-same_kind net i v kind other (ValueTooWide field) NoMemory is p so q = absurd (none-some other q)
-same_kind net i v kind other (WhereFalse index) (Short needed') is p so q = absurd (short_or_false net i v needed' index so is)
-same_kind net i v kind other (WhereFalse index) (ValueTooWide field') is p so q = absurd (wide_or_false net i v field' index so is)
-same_kind net i v kind other (WhereFalse index) (WhereFalse index') is p so q = sym (same_Some 3 kind p) ∙ same_Some 3 other q
-same_kind net i v kind other (WhereFalse index) NoMemory is p so q = absurd (none-some other q)
-same_kind net i v kind other NoMemory (Short needed') is p so q = absurd (none-some kind p)
-same_kind net i v kind other NoMemory (ValueTooWide field') is p so q = absurd (none-some kind p)
-same_kind net i v kind other NoMemory (WhereFalse index') is p so q = absurd (none-some kind p)
-same_kind net i v kind other NoMemory NoMemory is p so q = absurd (none-some kind p)
-
--- a fact of a packet's walks is one of all walks that it has
-of_same_walks : (net : Network) (i : Entry) (v : List ℕ) (P Q : List Trail → Type 0) (a : Walked net i v hops P) (b : Walked net i v hops Q)
-    → Q (walks_from net i v hops a.carried)
-of_same_walks net i v P Q a b = subst (λ s. Q (walks_from net i v hops s)) (same_start net i v b.carried a.carried b.starts a.starts) b.walks
-
--- ---- one file
-
--- there are more walks than the limit, or not
-many_or_text : (net : Network) (i : Entry) (v text : List ℕ) → HasTooMany net i v → IsWalksText net i v text → ⊥
-many_or_text net i v text many is =
-    let both = of_same_walks net i v _ _ many is in
-    let more : walk_limit < length (walks_from net i v hops many.carried) = many.walks in
-    let few : length (walks_from net i v hops many.carried) ≤ walk_limit = both.0 in
-    absurd (omega (arith, more, few))
-
-module _ (net : Network) (i : Entry) (file : Option (List ℕ)) where
-  long_or_short : (a b : List ℕ) → file ≡ Some a → file_limit < length a → IsShort file b → ⊥
-  long_or_short a b is long short =
-      let same : length a ≡ length b = ap length (same_Some a b (sym is ∙ short.0)) in
-      let less : length b ≤ file_limit = short.1 in
-      absurd (omega (arith, same, less, long))
-
-  long_or_numbers : (a v : List ℕ) → file ≡ Some a → file_limit < length a → HasNumbers file v → ⊥
-  long_or_numbers a v is long (b, short, are) = long_or_short a b is long short
-
-  none_or_numbers : (a v : List ℕ) → IsShort file a → packet_of a ≡ None → HasNumbers file v → ⊥
-  none_or_numbers a v short none (b, is, are) =
-      none-some v (sym none ∙ (ap packet_of (same_Some a b (sym short.0 ∙ is.0)) ∙ are))
-
-  absent_or_numbers : (v : List ℕ) → file ≡ None → HasNumbers file v → ⊥
-  absent_or_numbers v none (b, is, are) = none-some b (sym none ∙ is.0)
-
-  same_numbers : (u v : List ℕ) → HasNumbers file u → HasNumbers file v → u ≡ v
-  same_numbers u v (a, is, are) (b, so, too) =
-      same_Some u v (sym are ∙ (ap packet_of (same_Some a b (sym is.0 ∙ so.0)) ∙ too))
-
-  no_start_or_walked : (u v : List ℕ) (kind : ℕ) (P : List Trail → Type 0) → HasNumbers file u → HasNumbers file v → IsNoStart net i u kind
-      → Walked net i v hops P → ⊥
-  no_start_or_walked u v kind P has so (fault, is, told) walks =
-      starts_or_not net i v walks.carried kind fault walks.starts (subst (λ n. IsStartFault net i n fault) (same_numbers u v has so) is) told
-
-  same_no_start : (u v : List ℕ) (kind other : ℕ) → HasNumbers file u → HasNumbers file v → IsNoStart net i u kind → IsNoStart net i v other → kind ≡ other
-  same_no_start u v kind other has so (f, is, told) (g, is', told') =
-      same_kind net i v kind other f g (subst (λ n. IsStartFault net i n f) (same_numbers u v has so) is) told is' told'
-
-  many_or_walked : (u v text : List ℕ) → HasNumbers file u → HasNumbers file v → HasTooMany net i u → IsWalksText net i v text → ⊥
-  many_or_walked u v text has so many is = many_or_text net i v text (subst (HasTooMany net i) (same_numbers u v has so) many) is
-
-  -- it comes to one thing, which one status tells
-  pub walking_once : (name : List ℕ) (w u : Walking) → IsWalking net i file w → IsWalking net i file u → status_of_walking name w ≡ status_of_walking name u
-  walking_once name no_packet no_packet none none' = refl
-  walking_once name no_packet long_packet none (b, is', long') = absurd (none-some b (sym none ∙ is'))
-  walking_once name no_packet no_numbers none (b, short', empty') = absurd (none-some b (sym none ∙ short'.0))
-  walking_once name no_packet (no_start other) none (v, has', start') = absurd (absent_or_numbers v none has')
-  walking_once name no_packet too_many none (v, has', many') = absurd (absent_or_numbers v none has')
-  walking_once name no_packet walked none (v, has', (text', walks')) = absurd (absent_or_numbers v none has')
-  walking_once name long_packet no_packet (a, is, long) none' = absurd (none-some a (sym none' ∙ is))
-  walking_once name long_packet long_packet (a, is, long) (b, is', long') = refl
-  walking_once name long_packet no_numbers (a, is, long) (b, short', empty') = absurd (long_or_short a b is long short')
-  walking_once name long_packet (no_start other) (a, is, long) (v, has', start') = absurd (long_or_numbers a v is long has')
-  walking_once name long_packet too_many (a, is, long) (v, has', many') = absurd (long_or_numbers a v is long has')
-  walking_once name long_packet walked (a, is, long) (v, has', (text', walks')) = absurd (long_or_numbers a v is long has')
-  walking_once name no_numbers no_packet (a, short, empty) none' = absurd (none-some a (sym none' ∙ short.0))
-  walking_once name no_numbers long_packet (a, short, empty) (b, is', long') = absurd (long_or_short b a is' long' short)
-  walking_once name no_numbers no_numbers (a, short, empty) (b, short', empty') = refl
-  walking_once name no_numbers (no_start other) (a, short, empty) (v, has', start') = absurd (none_or_numbers a v short empty has')
-  walking_once name no_numbers too_many (a, short, empty) (v, has', many') = absurd (none_or_numbers a v short empty has')
-  walking_once name no_numbers walked (a, short, empty) (v, has', (text', walks')) = absurd (none_or_numbers a v short empty has')
-  walking_once name (no_start kind) no_packet (u, has, start) none' = absurd (absent_or_numbers u none' has)
-  walking_once name (no_start kind) long_packet (u, has, start) (b, is', long') = absurd (long_or_numbers b u is' long' has)
-  walking_once name (no_start kind) no_numbers (u, has, start) (b, short', empty') = absurd (none_or_numbers b u short' empty' has)
-  walking_once name (no_start kind) (no_start other) (u, has, start) (v, has', start') = ap BadPacket (same_no_start u v kind other has has' start start')
-  walking_once name (no_start kind) too_many (u, has, start) (v, has', many') = absurd (no_start_or_walked u v kind _ has has' start many')
-  walking_once name (no_start kind) walked (u, has, start) (v, has', (text', walks')) = absurd (no_start_or_walked u v kind _ has has' start walks')
-  walking_once name too_many no_packet (u, has, many) none' = absurd (absent_or_numbers u none' has)
-  walking_once name too_many long_packet (u, has, many) (b, is', long') = absurd (long_or_numbers b u is' long' has)
-  walking_once name too_many no_numbers (u, has, many) (b, short', empty') = absurd (none_or_numbers b u short' empty' has)
-  walking_once name too_many (no_start other) (u, has, many) (v, has', start') = absurd (no_start_or_walked v u other _ has' has start' many)
-  walking_once name too_many too_many (u, has, many) (v, has', many') = refl
-  walking_once name too_many walked (u, has, many) (v, has', (text', walks')) = absurd (many_or_walked u v text' has has' many walks')
-  walking_once name walked no_packet (u, has, (text, walks)) none' = absurd (absent_or_numbers u none' has)
-  walking_once name walked long_packet (u, has, (text, walks)) (b, is', long') = absurd (long_or_numbers b u is' long' has)
-  walking_once name walked no_numbers (u, has, (text, walks)) (b, short', empty') = absurd (none_or_numbers b u short' empty' has)
-  walking_once name walked (no_start other) (u, has, (text, walks)) (v, has', start') = absurd (no_start_or_walked v u other _ has' has start' walks)
-  walking_once name walked too_many (u, has, (text, walks)) (v, has', many') = absurd (many_or_walked v u text has' has many' walks)
-  walking_once name walked walked (u, has, (text, walks)) (v, has', (text', walks')) = refl
+        by : ((other : Outcome) × (work (walk job packet)).comes (a_net net i is.tree.asks ∷ some_bytes bytes ∷ []) other × (status ≡ outcome_status other)) ⊎ MayStop p status
+            → (status ≡ outcome_status outcome) ⊎ MayStop p status
+        by (inl (other, h, told)) = inl (told ∙ ap outcome_status (alone other h))
+        by (inr h) = inr h

@@ -1,7 +1,76 @@
-use Rattle.std.specs.Prelude.{ℕ, List, [], ◌++◌, codes, decimal, Option, None, Some}
-use Rattle.symnet_program.specs.Words.{Command, explore, walk}
+-- Statuses: the one that tells how a command ended, their numbers, and their texts.
+use Rattle.std.specs.Prelude.{ℕ, ◌≡◌, ◌⊎◌, List, [], ◌++◌, codes, decimal, None, Result, Ok, Err}
+use Rattle.sn_width.specs.declared.ids.Site.{Site}
+use Rattle.run_answers.specs.Outside.{World}
+use Rattle.run_answers.specs.Runs.{Outcome, text, refused}
+use Rattle.run_answers.specs.declared.ending.Ending.{Ending}
+use Rattle.run_answers.specs.declared.ending.Ending.TheVariants as ending
+use Rattle.run_answers.specs.declared.ending.Stop.{Stop}
+use Rattle.run_answers.specs.declared.ending.Stop.TheVariants.{Input as ByInput, Own, Write, NoMemory as NoRoom}
+use Rattle.run_answers.specs.declared.fault.InputFault.{InputFault}
+use Rattle.run_answers.specs.declared.fault.InputFault.TheVariants as input
+use Rattle.run_answers.specs.declared.fault.OwnFault.{OwnFault}
+use Rattle.run_answers.specs.declared.fault.OwnFault.TheVariants as own
 use Rattle.symnet_program.specs.declared.status.Status.{Status}
-use Rattle.symnet_program.specs.declared.status.Status.TheVariants.{Done, NoMemory, Usage, NoFile, ReadFault, WriteFault, TooBig, Syntax, BadPattern, Refused, BadPacket, TooMany, NotBuilt}
+use Rattle.symnet_program.specs.declared.status.Status.TheVariants.{Done, NoMemory, Usage, NoFile, ReadFault, WriteFault, TooBig, Syntax, BadPattern, Refused, BadTable, BadPacket, Partial, TooMany, BadReport, NotConfirmed, BadAsk, NotBuilt, BadCompare}
+
+-- why an input is refused
+abbrev pub input_status : InputFault → Status
+input_status (input.NoFile name) = NoFile name
+input_status (input.ReadFault name) = ReadFault name
+input_status (input.TooBig name) = TooBig name
+input_status (input.Syntax line column kind) = Syntax line column kind
+input_status (input.BadTable name line kind) = BadTable name line kind
+input_status (input.BadPattern site) = BadPattern site
+input_status (input.Refused site kind) = Refused site kind
+input_status input.NotBuilt = NotBuilt
+input_status input.NoMemory = NoMemory
+
+-- why the own work of a command gives no text
+abbrev pub own_status : OwnFault → Status
+own_status (own.BadTable name line kind) = BadTable name line kind
+own_status (own.BadPacket kind) = BadPacket kind
+own_status (own.TooMany count) = TooMany count
+own_status (own.BadReport kind pointer) = BadReport kind pointer
+own_status (own.NotConfirmed number kind) = NotConfirmed number kind
+own_status (own.BadAsk number kind) = BadAsk number kind
+own_status (own.BadCompare kind one other) = BadCompare kind one other
+own_status own.NotBuilt = NotBuilt
+own_status own.NoMemory = NoMemory
+
+-- how a command ended
+abbrev pub status_of : Result Ending Stop → Status
+status_of (Ok ending.Done) = Done
+status_of (Ok ending.Partial) = Partial
+status_of (Err (ByInput fault)) = input_status fault
+status_of (Err (Own fault)) = own_status fault
+status_of (Err Write) = WriteFault
+status_of (Err NoRoom) = NoMemory
+
+-- the outside failed, or there was no memory; or a pattern was refused, where it is not told which are bad
+abbrev pub MayStop : World → Status → Type 0
+MayStop w NoMemory = Unit {0}
+MayStop w (ReadFault name) = Unit {0}
+MayStop w WriteFault = Unit {0}
+MayStop w (BadPattern site) = w.is_bad ≡ None
+MayStop w _ = ⊥
+
+-- the outside failed, or there was no memory
+abbrev pub IsStopped : Status → Type 0
+IsStopped NoMemory = Unit {0}
+IsStopped (ReadFault name) = Unit {0}
+IsStopped WriteFault = Unit {0}
+IsStopped _ = ⊥
+
+-- or a pattern is refused
+abbrev pub MayBeBad : Status → Type 0
+MayBeBad status = IsStopped status ⊎ ((site : Site) × (status ≡ BadPattern site))
+
+-- what the own work comes to
+abbrev pub outcome_status : Outcome → Status
+outcome_status (text ending.Done whole) = Done
+outcome_status (text ending.Partial whole) = Partial
+outcome_status (refused fault) = own_status fault
 
 -- the number with which the process ends
 abbrev pub number_of : Status → ℕ
@@ -15,9 +84,15 @@ number_of (TooBig name) = 6
 number_of (Syntax line column kind) = 7
 number_of (BadPattern site) = 8
 number_of (Refused site kind) = 9
+number_of (BadTable name line kind) = 10
 number_of (BadPacket kind) = 11
+number_of Partial = 12
 number_of (TooMany count) = 13
+number_of (BadReport kind pointer) = 14
+number_of (NotConfirmed number kind) = 15
+number_of (BadAsk number kind) = 16
 number_of NotBuilt = 17
+number_of (BadCompare kind one other) = 18
 
 unfoldable pub syntax_text : ℕ → ℕ → ℕ → List ℕ
 syntax_text line column kind =
@@ -25,6 +100,19 @@ syntax_text line column kind =
 
 unfoldable pub refused_text : ℕ → ℕ → List ℕ
 refused_text site kind = codes "symnet: refused at " ++ (decimal site ++ (codes " " ++ decimal kind))
+
+unfoldable pub bad_table_text : List ℕ → ℕ → ℕ → List ℕ
+bad_table_text name line kind =
+    codes "symnet: bad table " ++ (name ++ (codes ":" ++ (decimal line ++ (codes " " ++ decimal kind))))
+
+unfoldable pub bad_report_text : ℕ → List ℕ → List ℕ
+bad_report_text kind pointer = codes "symnet: bad report " ++ (decimal kind ++ (codes " " ++ pointer))
+
+unfoldable pub not_confirmed_text : ℕ → ℕ → List ℕ
+not_confirmed_text number kind = codes "symnet: not confirmed " ++ (decimal number ++ (codes " " ++ decimal kind))
+
+unfoldable pub bad_ask_text : ℕ → ℕ → List ℕ
+bad_ask_text number kind = codes "symnet: bad ask " ++ (decimal number ++ (codes " " ++ decimal kind))
 
 -- what standard error shows
 abbrev pub text_of : Status → List ℕ
@@ -38,140 +126,12 @@ text_of (TooBig name) = codes "symnet: too big " ++ name
 text_of (Syntax line column kind) = syntax_text line column kind
 text_of (BadPattern site) = codes "symnet: bad pattern at " ++ decimal site.0
 text_of (Refused site kind) = refused_text site.0 kind
+text_of (BadTable name line kind) = bad_table_text name line kind
 text_of (BadPacket kind) = codes "symnet: bad packet " ++ decimal kind
+text_of Partial = codes "symnet: partial"
 text_of (TooMany count) = codes "symnet: too many walks " ++ decimal count
+text_of (BadReport kind pointer) = bad_report_text kind pointer
+text_of (NotConfirmed number kind) = not_confirmed_text number kind
+text_of (BadAsk number kind) = bad_ask_text number kind
 text_of NotBuilt = codes "symnet: not built"
-
--- the outside failed, or there was no memory
-abbrev pub IsStopped : Status → Type 0
-IsStopped Done = ⊥
-IsStopped NoMemory = Unit {0}
-IsStopped Usage = ⊥
-IsStopped (NoFile name) = ⊥
-IsStopped (ReadFault name) = Unit {0}
-IsStopped WriteFault = Unit {0}
-IsStopped (TooBig name) = ⊥
-IsStopped (Syntax line column kind) = ⊥
-IsStopped (BadPattern site) = ⊥
-IsStopped (Refused site kind) = ⊥
-IsStopped (BadPacket kind) = ⊥
-IsStopped (TooMany count) = ⊥
-IsStopped NotBuilt = ⊥
-
--- nothing is written with this status
-abbrev pub WritesNothing : Status → Type 0
-WritesNothing Done = ⊥
-WritesNothing NoMemory = ⊥
-WritesNothing Usage = Unit {0}
-WritesNothing (NoFile name) = Unit {0}
-WritesNothing (ReadFault name) = Unit {0}
-WritesNothing WriteFault = ⊥
-WritesNothing (TooBig name) = Unit {0}
-WritesNothing (Syntax line column kind) = Unit {0}
-WritesNothing (BadPattern site) = Unit {0}
-WritesNothing (Refused site kind) = Unit {0}
-WritesNothing (BadPacket kind) = Unit {0}
-WritesNothing (TooMany count) = Unit {0}
-WritesNothing NotBuilt = Unit {0}
-
--- the command was run, the job or the packet is refused, the job is of a form not built yet, or there was no memory
-abbrev pub IsFaultless : Status → Type 0
-IsFaultless Done = Unit {0}
-IsFaultless NoMemory = Unit {0}
-IsFaultless Usage = ⊥
-IsFaultless (NoFile name) = ⊥
-IsFaultless (ReadFault name) = ⊥
-IsFaultless WriteFault = ⊥
-IsFaultless (TooBig name) = ⊥
-IsFaultless (Syntax line column kind) = Unit {0}
-IsFaultless (BadPattern site) = Unit {0}
-IsFaultless (Refused site kind) = Unit {0}
-IsFaultless (BadPacket kind) = Unit {0}
-IsFaultless (TooMany count) = Unit {0}
-IsFaultless NotBuilt = Unit {0}
-
--- no pattern is refused with this status, and it is said which were asked
-abbrev pub IsAsked : Status → Type 0
-IsAsked Done = Unit {0}
-IsAsked NoMemory = ⊥
-IsAsked Usage = Unit {0}
-IsAsked (NoFile name) = Unit {0}
-IsAsked (ReadFault name) = Unit {0}
-IsAsked WriteFault = Unit {0}
-IsAsked (TooBig name) = Unit {0}
-IsAsked (Syntax line column kind) = Unit {0}
-IsAsked (BadPattern site) = ⊥
-IsAsked (Refused site kind) = Unit {0}
-IsAsked (BadPacket kind) = Unit {0}
-IsAsked (TooMany count) = Unit {0}
-IsAsked NotBuilt = Unit {0}
-
--- no pattern is asked where `explore` ends so
-abbrev pub ExploresUnasked : Status → Type 0
-ExploresUnasked Done = Unit {0}
-ExploresUnasked NoMemory = ⊥
-ExploresUnasked Usage = Unit {0}
-ExploresUnasked (NoFile name) = Unit {0}
-ExploresUnasked (ReadFault name) = Unit {0}
-ExploresUnasked WriteFault = Unit {0}
-ExploresUnasked (TooBig name) = Unit {0}
-ExploresUnasked (Syntax line column kind) = Unit {0}
-ExploresUnasked (BadPattern site) = ⊥
-ExploresUnasked (Refused site kind) = Unit {0}
-ExploresUnasked (BadPacket kind) = Unit {0}
-ExploresUnasked (TooMany count) = Unit {0}
-ExploresUnasked NotBuilt = ⊥
-
--- no pattern is asked where `walk` ends so
-abbrev pub WalksUnasked : Status → Type 0
-WalksUnasked Done = ⊥
-WalksUnasked NoMemory = ⊥
-WalksUnasked Usage = Unit {0}
-WalksUnasked (NoFile name) = ⊥
-WalksUnasked (ReadFault name) = ⊥
-WalksUnasked WriteFault = ⊥
-WalksUnasked (TooBig name) = ⊥
-WalksUnasked (Syntax line column kind) = Unit {0}
-WalksUnasked (BadPattern site) = ⊥
-WalksUnasked (Refused site kind) = Unit {0}
-WalksUnasked (BadPacket kind) = ⊥
-WalksUnasked (TooMany count) = ⊥
-WalksUnasked NotBuilt = Unit {0}
-
--- no pattern is asked where the command, if there is one, ends so
-abbrev pub AsksNothing : Option Command → Status → Type 0
-AsksNothing None status = Unit {0}
-AsksNothing (Some (explore job)) status = ExploresUnasked status
-AsksNothing (Some (walk job packet)) status = WalksUnasked status
-
--- what may come of a job that breaks no rule and is not thin: a pattern may be bad
-abbrev pub IsOfOther : Status → Type 0
-IsOfOther Done = ⊥
-IsOfOther NoMemory = Unit {0}
-IsOfOther Usage = ⊥
-IsOfOther (NoFile name) = ⊥
-IsOfOther (ReadFault name) = Unit {0}
-IsOfOther WriteFault = Unit {0}
-IsOfOther (TooBig name) = ⊥
-IsOfOther (Syntax line column kind) = ⊥
-IsOfOther (BadPattern site) = Unit {0}
-IsOfOther (Refused site kind) = ⊥
-IsOfOther (BadPacket kind) = ⊥
-IsOfOther (TooMany count) = ⊥
-IsOfOther NotBuilt = Unit {0}
-
--- the run is stopped, or a pattern is bad
-abbrev pub MayBeBad : Status → Type 0
-MayBeBad Done = ⊥
-MayBeBad NoMemory = Unit {0}
-MayBeBad Usage = ⊥
-MayBeBad (NoFile name) = ⊥
-MayBeBad (ReadFault name) = Unit {0}
-MayBeBad WriteFault = Unit {0}
-MayBeBad (TooBig name) = ⊥
-MayBeBad (Syntax line column kind) = ⊥
-MayBeBad (BadPattern site) = Unit {0}
-MayBeBad (Refused site kind) = ⊥
-MayBeBad (BadPacket kind) = ⊥
-MayBeBad (TooMany count) = ⊥
-MayBeBad NotBuilt = ⊥
+text_of (BadCompare kind one other) = codes "symnet: bad compare " ++ decimal kind

@@ -1,14 +1,15 @@
 //! How a run ends.
 
 ghost use Rattle.std.specs.Prelude.{◌≡◌, string_bytes, IfOk};
-ghost use Rattle.symnet_program.specs.Status.{refused_text, syntax_text, text_of};
+ghost use Rattle.symnet_program.specs.Status.{bad_ask_text, bad_report_text, bad_table_text, input_status, not_confirmed_text, own_status, refused_text, status_of, syntax_text, text_of};
 
+use run_answers::{Ending, InputFault, OwnFault, Stop};
 use sefl_syntax::Text;
 use sn_width::{NoMemory, Site};
 use std::alloc::Global;
 
-/// The status of a run of the program; `name` is the file's.
-#[derive(PartialEq, Eq, Drop)]
+/// The status of a run of the program; `name` is the file's. Lines and columns count from 1, columns in bytes.
+#[derive(Drop)]
 pub enum Status {
     /// The input was read to its end, and the text was written whole.
     Done,
@@ -19,33 +20,31 @@ pub enum Status {
     ReadFault { name: Text },
     WriteFault,
     TooBig { name: Text },
-    /// The file is the text of no job. Lines and columns count from 1, columns in bytes; the kind is 1 for
-    /// bytes that are no text, 2 to 4 for a bad character, a bad number and an open text, 5 for what no
-    /// job has there, and 6, with column 1, for too many constructs open at once.
+    /// The file is the text of no job; the kind is 1 to 6, as in `InputFault`.
     Syntax { line: u64, column: u64, kind: u8 },
     /// The pattern of the For at the site is refused, and no rule is broken.
     BadPattern { site: Site },
     /// The item at the site is the first in the text that breaks a rule, and the kind is the number of the
     /// first rule that it breaks, 1 to 15.
     Refused { site: Site, kind: u8 },
-    /// The packet does not start: the kind is 1 for too few numbers, 2 for one that is too wide, and 3 for a
-    /// test of the injection that is not true; 4 where the packet's file is no list of numbers.
+    /// The line of a table's file breaks the rule of this kind. No command reads a table yet.
+    BadTable { name: Text, line: u64, kind: u8 },
+    /// The packet does not start, or its file has no packet; the kind is 1 to 4, as in `OwnFault`.
     BadPacket { kind: u8 },
+    /// The text was written whole, and says that some was left out. No command leaves out anything yet.
+    Partial,
     /// The packet has more walks than the limit, which is one less than the count.
     TooMany { count: u64 },
+    /// The file is no report. No command reads one yet.
+    BadReport { kind: u8, pointer: Text },
+    /// The record of this number has not the meaning that it states. No command reads a report yet.
+    NotConfirmed { number: u64, kind: u8 },
+    /// The question of this number cannot be asked. No command asks one yet.
+    BadAsk { number: u64, kind: u8 },
     /// The job is not of the form that is built so far.
     NotBuilt,
-}
-
-impl From<NoMemory> for Status {
-    ghost use Rattle.std.specs.Prelude.{◌≡◌};
-    ghost use Rattle.symnet_program.specs.declared.status.Status.TheVariants.{NoMemory as OutOfMemory};
-
-    ghost from_gives = { λ _ status. status ≡ OutOfMemory };
-
-    fn from(_error: NoMemory) -> Status {
-        Status::NoMemory
-    }
+    /// The two jobs cannot be compared. No command compares jobs yet.
+    BadCompare { kind: u8, one: u64, other: u64 },
 }
 
 impl Status {
@@ -66,10 +65,64 @@ impl Status {
             Status::Syntax { .. } => 7,
             Status::BadPattern { .. } => 8,
             Status::Refused { .. } => 9,
+            Status::BadTable { .. } => 10,
             Status::BadPacket { .. } => 11,
+            Status::Partial => 12,
             Status::TooMany { .. } => 13,
+            Status::BadReport { .. } => 14,
+            Status::NotConfirmed { .. } => 15,
+            Status::BadAsk { .. } => 16,
             Status::NotBuilt => 17,
+            Status::BadCompare { .. } => 18,
         }
+    }
+}
+
+/// The status that tells why an input is refused.
+fn input_status(fault: InputFault) -> Status
+    ensures { result ≡ input_status fault }
+{
+    match fault {
+        InputFault::NoFile { name } => Status::NoFile { name },
+        InputFault::ReadFault { name } => Status::ReadFault { name },
+        InputFault::TooBig { name } => Status::TooBig { name },
+        InputFault::Syntax { line, column, kind } => Status::Syntax { line, column, kind },
+        InputFault::BadTable { name, line, kind } => Status::BadTable { name, line, kind },
+        InputFault::BadPattern { site } => Status::BadPattern { site },
+        InputFault::Refused { site, kind } => Status::Refused { site, kind },
+        InputFault::NotBuilt => Status::NotBuilt,
+        InputFault::NoMemory => Status::NoMemory,
+    }
+}
+
+/// The status that tells why the own work of a command gives no text.
+fn own_status(fault: OwnFault) -> Status
+    ensures { result ≡ own_status fault }
+{
+    match fault {
+        OwnFault::BadTable { name, line, kind } => Status::BadTable { name, line, kind },
+        OwnFault::BadPacket { kind } => Status::BadPacket { kind },
+        OwnFault::TooMany { count } => Status::TooMany { count },
+        OwnFault::BadReport { kind, pointer } => Status::BadReport { kind, pointer },
+        OwnFault::NotConfirmed { number, kind } => Status::NotConfirmed { number, kind },
+        OwnFault::BadAsk { number, kind } => Status::BadAsk { number, kind },
+        OwnFault::BadCompare { kind, one, other } => Status::BadCompare { kind, one, other },
+        OwnFault::NotBuilt => Status::NotBuilt,
+        OwnFault::NoMemory => Status::NoMemory,
+    }
+}
+
+/// The status that tells how a command ended.
+pub fn status_of(answer: Result<Ending, Stop>) -> Status
+    ensures { result ≡ status_of answer }
+{
+    match answer {
+        Ok(Ending::Done) => Status::Done,
+        Ok(Ending::Partial) => Status::Partial,
+        Err(Stop::Input(fault)) => input_status(fault),
+        Err(Stop::Own(fault)) => own_status(fault),
+        Err(Stop::Write) => Status::WriteFault,
+        Err(Stop::NoMemory) => Status::NoMemory,
     }
 }
 
@@ -87,6 +140,34 @@ fn refused_text(alloc: Global, site: Site, kind: u8) -> Result<String, NoMemory>
     Ok(format!(in alloc; "symnet: refused at {} {kind}", site.0)?)
 }
 
+#[tactic(auto, unfolding(crate::specs::Status::bad_table_text))]
+fn bad_table_text(alloc: Global, name: &Text, line: u64, kind: u8) -> Result<String, NoMemory>
+    ensures { IfOk result (λ text. string_bytes text ≡ bad_table_text name.now line kind) }
+{
+    Ok(format!(in alloc; "symnet: bad table {name}:{line} {kind}")?)
+}
+
+#[tactic(auto, unfolding(crate::specs::Status::bad_report_text))]
+fn bad_report_text(alloc: Global, kind: u8, pointer: &Text) -> Result<String, NoMemory>
+    ensures { IfOk result (λ text. string_bytes text ≡ bad_report_text kind pointer.now) }
+{
+    Ok(format!(in alloc; "symnet: bad report {kind} {pointer}")?)
+}
+
+#[tactic(auto, unfolding(crate::specs::Status::not_confirmed_text))]
+fn not_confirmed_text(alloc: Global, number: u64, kind: u8) -> Result<String, NoMemory>
+    ensures { IfOk result (λ text. string_bytes text ≡ not_confirmed_text number kind) }
+{
+    Ok(format!(in alloc; "symnet: not confirmed {number} {kind}")?)
+}
+
+#[tactic(auto, unfolding(crate::specs::Status::bad_ask_text))]
+fn bad_ask_text(alloc: Global, number: u64, kind: u8) -> Result<String, NoMemory>
+    ensures { IfOk result (λ text. string_bytes text ≡ bad_ask_text number kind) }
+{
+    Ok(format!(in alloc; "symnet: bad ask {number} {kind}")?)
+}
+
 /// What standard error shows of a status: nothing where it is Done, else a line without its end.
 pub fn status_text(alloc: Global, status: &Status) -> Result<String, NoMemory>
     ensures { IfOk result (λ text. string_bytes text ≡ text_of status.now) }
@@ -102,8 +183,14 @@ pub fn status_text(alloc: Global, status: &Status) -> Result<String, NoMemory>
         Status::Syntax { line, column, kind } => { syntax_text(alloc, *line, *column, *kind) }
         Status::BadPattern { site } => Ok(format!(in alloc; "symnet: bad pattern at {}", site.0)?),
         Status::Refused { site, kind } => refused_text(alloc, *site, *kind),
+        Status::BadTable { name, line, kind } => bad_table_text(alloc, name, *line, *kind),
         Status::BadPacket { kind } => Ok(format!(in alloc; "symnet: bad packet {kind}")?),
+        Status::Partial => Ok(String::from_str(alloc, "symnet: partial")?),
         Status::TooMany { count } => Ok(format!(in alloc; "symnet: too many walks {count}")?),
+        Status::BadReport { kind, pointer } => bad_report_text(alloc, *kind, pointer),
+        Status::NotConfirmed { number, kind } => not_confirmed_text(alloc, *number, *kind),
+        Status::BadAsk { number, kind } => bad_ask_text(alloc, *number, *kind),
         Status::NotBuilt => Ok(String::from_str(alloc, "symnet: not built")?),
+        Status::BadCompare { kind, .. } => Ok(format!(in alloc; "symnet: bad compare {kind}")?),
     }
 }

@@ -1,0 +1,292 @@
+-- How far a run got in a world: with what is under the name of the job.
+use Rattle.std.proofs.Common.{◌≡◌, ◌⊎◌, inl, inr, refl, sym, ap, subst, ◌∙◌, ℕ, ◌<◌, ◌≤◌, List, [], ◌∷◌, length, Bool, Option, None, Some, true, false, arith}
+use Rattle.std.proofs.lemmas.Bool.{true≢false}
+use Rattle.std.proofs.lemmas.Option.{none-some, same_Some}
+use Rattle.std.specs.Prelude.{IsSomeAnd}
+use Rattle.sn_width.specs.declared.ids.Site.{Site}
+use Rattle.sefl_syntax.specs.Filled.{is_filled}
+use Rattle.sefl_syntax.specs.Trees.{JobTree}
+use Rattle.sefl_syntax.specs.declared.thin.Thin.{Thin}
+use Rattle.sefl_reader.specs.Outcome.{Outcome as OutcomeOf, a_job as job_outcome, IsOutcome}
+use Rattle.job_items.specs.Rules.{refusal}
+use Rattle.job_items.specs.declared.rule.Rule.{Rule}
+use Rattle.net_check.specs.Network.{Network, Entry}
+use Rattle.net_check.specs.Sound.{IsSound}
+use Rattle.run_answers.specs.Files.{HasFile, LoadFails}
+use Rattle.run_answers.specs.Flaws.{Flaw, HasFlaw, flaw_of}
+use Rattle.run_answers.specs.Refusals.{fault_by_number, fault_by_rule}
+use Rattle.run_answers.specs.Jobs.{AcceptFails, HasFilled, HasJob, IsOnlyFlaw, IsOnlyJob, IsRefusedAt, IsTextOf, ReadFails, TablesFail, first_bad}
+use Rattle.run_answers.specs.Outside.{World, world}
+use Rattle.run_answers.specs.Inputs.{Input, Given, a_job, a_file, a_net, AllOpen, FirstFails, Opens, Fails}
+use Rattle.run_answers.specs.Runs.{OwnWork, Outcome, text, refused}
+use Rattle.run_answers.specs.declared.limits.TheConstants.{FILE_LIMIT}
+use Rattle.run_answers.specs.declared.ending.Ending.TheVariants as ending
+use Rattle.run_answers.specs.declared.fault.InputFault.{InputFault}
+use Rattle.run_answers.specs.declared.fault.InputFault.TheVariants as input
+use Rattle.run_answers.specs.declared.fault.OwnFault.TheVariants as working
+use Rattle.explore_command.specs.Explores.{ReportsOf}
+use Rattle.explore_command.specs.Thins.{HasBothSides, IsNotRun, IsThinJob, IsThinReport, job_of}
+use Rattle.symnet_program.specs.Commands.{work}
+use Rattle.symnet_program.specs.Program.{Cause, Comes, IsCaused}
+use Rattle.symnet_program.specs.Status.{IsStopped, MayBeBad, input_status, outcome_status}
+use Rattle.symnet_program.specs.Words.{Command, explore, walk, job_name}
+use Rattle.symnet_program.specs.declared.status.Status.{Status}
+use Rattle.symnet_program.specs.declared.status.Status.TheVariants.{Done, NoMemory, Usage, NoFile, ReadFault, WriteFault, TooBig, Syntax, BadPattern, Refused, BadTable, BadPacket, Partial, TooMany, BadReport, NotConfirmed, BadAsk, NotBuilt, BadCompare}
+
+some_and : {T : Type 0} (o : Option T) (P : T → Type 0) → IsSomeAnd o P → (x : T) × (o ≡ Some x) × P x
+some_and None P h = absurd h
+some_and (Some x) P h = (x, refl, h)
+
+-- a job that breaks no rule is not refused
+pub sound_or_refused : (j : JobTree) (site : Site) (kind : ℕ) → IsSound j → IsRefusedAt j site kind → ⊥
+sound_or_refused j site kind sound (rule, breaks, number) = none-some (site.0, rule) (sym sound ∙ breaks)
+
+abbrev tree_or : OutcomeOf → JobTree → JobTree
+tree_or (job_outcome j) other = j
+tree_or _ other = other
+
+module _ (p : World) (name : List ℕ) (rest : List Input) (w : OwnWork) where
+  -- behind the job, which gave this: the run was stopped; or the inputs were good, and the own work came to an outcome; or an
+  -- input is refused
+  abbrev pub Behind : Given → Status → Type 0
+  Behind g status =
+      IsStopped status
+      ⊎ (((outcome : Outcome) × (given : List Given) × AllOpen (world p) tt rest given tt × w.comes (g ∷ given) outcome × (status ≡ outcome_status outcome))
+      ⊎ ((fault : InputFault) × FirstFails (world p) tt rest fault tt × (status ≡ input_status fault)))
+
+  -- with a job
+  pub data JobCase (j : JobTree) (status : Status) : Type 0 where
+    has_tables : is_filled j ≡ false → status ≡ NotBuilt → JobCase j status
+    breaks_rule : (site : Site) (kind : ℕ) → is_filled j ≡ true → IsRefusedAt j site kind → status ≡ Refused site kind → JobCase j status
+    has_bad : (site : Site) → is_filled j ≡ true → (world p).refuses tt j site tt → status ≡ BadPattern site → JobCase j status
+    is_taken : (net : Network) (i : Entry) → HasFilled (Some p.at) name j → (world p).takes tt j net i tt → Behind (a_net net i j.asks) status → JobCase j status
+
+  -- with what is under the name
+  pub data FileCase (status : Status) : Type 0 where
+    is_stopped : IsStopped status → FileCase status
+    is_missing : p.at name ≡ None → status ≡ NoFile name → FileCase status
+    is_long : (bytes : List ℕ) → p.at name ≡ Some bytes → FILE_LIMIT < length bytes → status ≡ TooBig name → FileCase status
+    has_flaw : (bytes : List ℕ) (flaw : Flaw) → p.at name ≡ Some bytes → length bytes ≤ FILE_LIMIT → IsOnlyFlaw bytes flaw
+        → status ≡ Syntax flaw.line flaw.column flaw.kind → FileCase status
+    has_job : (bytes : List ℕ) (j : JobTree) → p.at name ≡ Some bytes → length bytes ≤ FILE_LIMIT → IsOnlyJob bytes j → JobCase j status → FileCase status
+
+  of_load : (fault : InputFault) → LoadFails (Some p.at) FILE_LIMIT name fault → FileCase (input_status fault)
+  of_load (input.NoFile own) h = is_missing (h.1 p.at refl) (ap NoFile h.0)
+  of_load (input.ReadFault own) h = is_stopped tt
+  of_load (input.TooBig own) h =
+      let (bytes, has, long) = some_and (p.at name) (λ bytes. FILE_LIMIT < length bytes) (h.1 p.at refl) in
+      is_long bytes has long (ap TooBig h.0)
+  of_load input.NoMemory h = is_stopped tt
+  of_load fault h = absurd h
+
+  of_text : (fault : InputFault) (bytes : List ℕ) → HasFile (Some p.at) FILE_LIMIT name bytes → ReadFails bytes fault → FileCase (input_status fault)
+  of_text (input.Syntax line column kind) bytes has h =
+      has_flaw bytes (record { line = line; column = column; kind = kind }) (has.1 p.at refl) has.0 h refl
+  of_text input.NoMemory bytes has h = is_stopped tt
+  of_text fault bytes has h = absurd h
+
+  with_job : (status : Status) (j : JobTree) → HasJob (Some p.at) name j → JobCase j status → FileCase status
+  with_job status j (bytes, has, only) h = has_job bytes j (has.1 p.at refl) has.0 only h
+
+  of_tables : (fault : InputFault) (j : JobTree) → HasJob (Some p.at) name j → TablesFail j fault → FileCase (input_status fault)
+  of_tables input.NotBuilt j has h = with_job NotBuilt j has (has_tables h refl)
+  of_tables fault j has h = absurd h
+
+  of_accept : (fault : InputFault) (j : JobTree) → HasJob (Some p.at) name j → is_filled j ≡ true → AcceptFails (world p).refuses tt j fault tt
+      → FileCase (input_status fault)
+  of_accept (input.Refused site kind) j has filled h = with_job (Refused site kind) j has (breaks_rule site kind filled h.0 refl)
+  of_accept (input.BadPattern site) j has filled h = with_job (BadPattern site) j has (has_bad site filled h refl)
+  of_accept input.NoMemory j has filled h = is_stopped tt
+  of_accept fault j has filled h = absurd h
+
+  of_fault : (fault : InputFault) → Fails (world p) tt (a_job name) fault tt → FileCase (input_status fault)
+  of_fault fault (inl (inl load, same)) = of_load fault load
+  of_fault fault (inl (inr (inl (bytes, has, reads)), same)) = of_text fault bytes has reads
+  of_fault fault (inl (inr (inr (j, has, tables)), same)) = of_tables fault j has tables
+  of_fault fault (inr (j, (has, filled), accept)) = of_accept fault j has filled accept
+
+  of_opens : (status : Status) (g : Given) → Opens (world p) tt (a_job name) g tt → Behind g status → FileCase status
+  of_opens status g (j, (has, filled), net, i, taken, is) behind =
+      with_job status j has (is_taken net i (has, filled) taken (subst (λ x. Behind x status) is behind))
+
+  stops : (fault : InputFault) → FirstFails (world p) tt (a_job name ∷ rest) fault tt → FileCase (input_status fault)
+  stops fault (inl h) = of_fault fault h
+  stops fault (inr (g, m, opens, h)) = of_opens (input_status fault) g opens (inr (inr (fault, h, refl)))
+
+  comes : (outcome : Outcome) → Comes (world p) tt tt (a_job name ∷ rest) w outcome → FileCase (outcome_status outcome)
+  comes outcome (given, (g, m, opens, others, more, same), h) =
+      of_opens (outcome_status outcome) g opens (inr (inl (outcome, others, more, subst (λ gs. w.comes gs outcome) same h, refl)))
+
+  of_cause : (status : Status) → Cause (world p) tt tt (a_job name ∷ rest) w status → FileCase status
+  of_cause Done h = comes (text ending.Done h.0) h.1
+  of_cause NoMemory h = is_stopped tt
+  of_cause Usage h = absurd h
+  of_cause (NoFile own) h = stops (input.NoFile own) h
+  of_cause (ReadFault own) h = is_stopped tt
+  of_cause WriteFault h = is_stopped tt
+  of_cause (TooBig own) h = stops (input.TooBig own) h
+  of_cause (Syntax line column kind) h = stops (input.Syntax line column kind) h
+  of_cause (BadPattern site) h = stops (input.BadPattern site) h
+  of_cause (Refused site kind) h = stops (input.Refused site kind) h
+  of_cause (BadTable name line kind) (inl h) = stops (input.BadTable name line kind) h
+  of_cause (BadTable name line kind) (inr h) = comes (refused (working.BadTable name line kind)) h
+  of_cause (BadPacket kind) h = comes (refused (working.BadPacket kind)) h
+  of_cause Partial h = comes (text ending.Partial h.0) h.1
+  of_cause (TooMany count) h = comes (refused (working.TooMany count)) h
+  of_cause (BadReport kind pointer) h = comes (refused (working.BadReport kind pointer)) h
+  of_cause (NotConfirmed number kind) h = comes (refused (working.NotConfirmed number kind)) h
+  of_cause (BadAsk number kind) h = comes (refused (working.BadAsk number kind)) h
+  of_cause NotBuilt (inl h) = stops input.NotBuilt h
+  of_cause NotBuilt (inr h) = comes (refused working.NotBuilt) h
+  of_cause (BadCompare kind one other) h = comes (refused (working.BadCompare kind one other)) h
+
+-- what a command reads behind its job
+abbrev pub others_of : Command → List Input
+others_of (explore job) = []
+others_of (walk job packet) = a_file FILE_LIMIT packet ∷ []
+
+abbrev pub CommandCase : World → Command → Status → Type 0
+CommandCase p command = FileCase p (job_name command) (others_of command) (work command)
+
+pub case_of : (p : World) (command : Command) (status : Status) → IsCaused (world p) tt tt (Some command) status → CommandCase p command status
+case_of p (explore job) status h = of_cause p job [] (work (explore job)) status h
+case_of p (walk job packet) status h = of_cause p job (a_file FILE_LIMIT packet ∷ []) (work (walk job packet)) status h
+
+-- ---- what is told
+
+module _ (p : World) (name : List ℕ) (rest : List Input) (w : OwnWork) (status : Status) where
+  too_long : (a b : List ℕ) → a ≡ b → FILE_LIMIT < length a → length b ≤ FILE_LIMIT → ⊥
+  too_long a b same long short = let lengths : length a ≡ length b = ap length same in absurd (omega (arith, lengths, long, short))
+
+  pub absent_in : p.at name ≡ None → FileCase p name rest w status → (status ≡ NoFile name) ⊎ IsStopped status
+  absent_in none (is_stopped h) = inr h
+  absent_in none (is_missing own is) = inl is
+  absent_in none (is_long bytes has long is) = absurd (none-some bytes (sym none ∙ has))
+  absent_in none (has_flaw bytes flaw has short only is) = absurd (none-some bytes (sym none ∙ has))
+  absent_in none (has_job bytes j has short only h) = absurd (none-some bytes (sym none ∙ has))
+
+  module _ (bytes : List ℕ) (is : p.at name ≡ Some bytes) where
+    same_bytes : (own : List ℕ) → p.at name ≡ Some own → bytes ≡ own
+    same_bytes own has = same_Some bytes own (sym is ∙ has)
+
+    pub long_in : FILE_LIMIT < length bytes → FileCase p name rest w status → (status ≡ TooBig name) ⊎ IsStopped status
+    long_in long (is_stopped h) = inr h
+    long_in long (is_missing none told) = absurd (none-some bytes (sym none ∙ is))
+    long_in long (is_long own has more told) = inl told
+    long_in long (has_flaw own flaw has short only told) = absurd (too_long bytes own (same_bytes own has) long short)
+    long_in long (has_job own j has short only h) = absurd (too_long bytes own (same_bytes own has) long short)
+
+    flaw_once : (own : List ℕ) (flaw other : Flaw) → bytes ≡ own → IsOnlyFlaw own other → HasFlaw bytes flaw → other ≡ flaw
+    flaw_once own flaw other same only (outcome, so, has) =
+        same_Some other flaw (sym (only.only outcome (subst (λ b. IsOutcome b outcome) same so)) ∙ subst (λ b. flaw_of b outcome ≡ Some flaw) same has)
+
+    flaw_or_job : (own : List ℕ) (flaw : Flaw) (j : JobTree) → bytes ≡ own → IsOnlyJob own j → HasFlaw bytes flaw → ⊥
+    flaw_or_job own flaw j same only (outcome, so, has) =
+        none-some flaw (sym (ap (flaw_of own) (only.only outcome (subst (λ b. IsOutcome b outcome) same so))) ∙ subst (λ b. flaw_of b outcome ≡ Some flaw) same has)
+
+    pub flawed_in : (flaw : Flaw) → length bytes ≤ FILE_LIMIT → HasFlaw bytes flaw → FileCase p name rest w status
+        → (status ≡ Syntax flaw.line flaw.column flaw.kind) ⊎ IsStopped status
+    flawed_in flaw short wrong (is_stopped h) = inr h
+    flawed_in flaw short wrong (is_missing none told) = absurd (none-some bytes (sym none ∙ is))
+    flawed_in flaw short wrong (is_long own has long told) = absurd (too_long own bytes (sym (same_bytes own has)) long short)
+    flawed_in flaw short wrong (has_flaw own other has less only told) =
+        inl (told ∙ ap (λ (f : Flaw). Syntax f.line f.column f.kind) (flaw_once own flaw other (same_bytes own has) only wrong))
+    flawed_in flaw short wrong (has_job own j has less only h) = absurd (flaw_or_job own flaw j (same_bytes own has) only wrong)
+
+    -- of bytes that are a text of the job
+    pub job_in : (j : JobTree) → length bytes ≤ FILE_LIMIT → IsTextOf j bytes → FileCase p name rest w status → JobCase p name rest w j status ⊎ IsStopped status
+    job_in j short spells (is_stopped h) = inr h
+    job_in j short spells (is_missing none told) = absurd (none-some bytes (sym none ∙ is))
+    job_in j short spells (is_long own has long told) = absurd (too_long own bytes (sym (same_bytes own has)) long short)
+    job_in j short spells (has_flaw own flaw has less only told) =
+        absurd (none-some flaw (only.only (job_outcome j) (subst (IsTextOf j) (same_bytes own has) spells)))
+    job_in j short spells (has_job own k has less only h) =
+        let one : j ≡ k = ap (λ o. tree_or o j) (only.only (job_outcome j) (subst (IsTextOf j) (same_bytes own has) spells)) in
+        inl (subst (λ t. JobCase p name rest w t status) (sym one) h)
+
+  pub tables_in : (j : JobTree) → is_filled j ≡ false → JobCase p name rest w j status ⊎ IsStopped status → (status ≡ NotBuilt) ⊎ IsStopped status
+  tables_in j tables (inr h) = inr h
+  tables_in j tables (inl (has_tables own is)) = inl is
+  tables_in j tables (inl (breaks_rule site kind filled breaks is)) = absurd (true≢false (sym filled ∙ tables))
+  tables_in j tables (inl (has_bad site filled refuses is)) = absurd (true≢false (sym filled ∙ tables))
+  tables_in j tables (inl (is_taken net i has taken behind)) = absurd (true≢false (sym has.1 ∙ tables))
+
+  -- the first rule that is broken tells its number
+  by_rule : (j : JobTree) (site own : Site) (rule : Rule) (kind : ℕ) → refusal j ≡ Some (site.0, rule) → IsRefusedAt j own kind
+      → Refused own kind ≡ input_status (fault_by_rule site rule)
+  by_rule j site own rule kind breaks (other, own_breaks, number) =
+      let pairs : ◌≡◌ {A = ℕ × Rule} (own.0, other) (site.0, rule) = same_Some (own.0, other) (site.0, rule) (sym own_breaks ∙ breaks) in
+      ap (λ n. input_status (fault_by_number own n)) (sym number) ∙ (λ k. input_status (fault_by_rule (record { 0 = (pairs k).0 }) (pairs k).1))
+
+  sound_or_broken : (j : JobTree) (site : Site) (rule : Rule) → IsSound j → refusal j ≡ Some (site.0, rule) → ⊥
+  sound_or_broken j site rule sound breaks = none-some (site.0, rule) (sym sound ∙ breaks)
+
+  pub refused_in : (j : JobTree) (site : Site) (rule : Rule) → is_filled j ≡ true → refusal j ≡ Some (site.0, rule)
+      → JobCase p name rest w j status ⊎ IsStopped status → (status ≡ input_status (fault_by_rule site rule)) ⊎ IsStopped status
+  refused_in j site rule filled breaks (inr h) = inr h
+  refused_in j site rule filled breaks (inl (has_tables tables is)) = absurd (true≢false (sym filled ∙ tables))
+  refused_in j site rule filled breaks (inl (breaks_rule own kind own_filled own_breaks is)) = inl (is ∙ by_rule j site own rule kind breaks own_breaks)
+  refused_in j site rule filled breaks (inl (has_bad own own_filled refuses is)) = absurd (sound_or_broken j site rule refuses.0 breaks)
+  refused_in j site rule filled breaks (inl (is_taken net i has taken behind)) = absurd (sound_or_broken j site rule taken.0 breaks)
+
+  pub bad_in : (j : JobTree) (site : Site) (is_bad : List ℕ → Bool) → is_filled j ≡ true → IsSound j → p.is_bad ≡ Some is_bad → first_bad is_bad j ≡ Some site.0
+      → JobCase p name rest w j status ⊎ IsStopped status → (status ≡ BadPattern site) ⊎ IsStopped status
+  bad_in j site is_bad filled sound tells first (inr h) = inr h
+  bad_in j site is_bad filled sound tells first (inl (has_tables tables is)) = absurd (true≢false (sym filled ∙ tables))
+  bad_in j site is_bad filled sound tells first (inl (breaks_rule own kind own_filled breaks is)) = absurd (sound_or_refused j own kind sound breaks)
+  bad_in j site is_bad filled sound tells first (inl (has_bad own own_filled refuses is)) =
+      let same : own.0 ≡ site.0 = same_Some own.0 site.0 (sym (refuses.1 is_bad tells) ∙ first) in
+      inl (is ∙ (λ k. BadPattern (record { 0 = same k })))
+  bad_in j site is_bad filled sound tells first (inl (is_taken net i has taken behind)) = absurd (none-some site.0 (sym (taken.4 is_bad tells) ∙ first))
+
+-- ---- of a job that is explored
+
+-- which jobs are run, as the laws of `explore` say
+pub record RunLaws : Type 0 where
+  pub sides : (thin : Thin) (whole : List ℕ) → IsThinReport thin whole → HasBothSides thin
+  pub run : (j : JobTree) (thin : Thin) → IsThinJob j thin → HasBothSides thin → IsNotRun j → ⊥
+
+-- the job of an accepted net and injection is the job itself
+own_job : (p : World) (j : JobTree) (net : Network) (i : Entry) → (world p).takes tt j net i tt → job_of net i j.asks ≡ j
+own_job p j net i (sound, of_net, of_entry, found, good) = λ k. record { net = of_net.own k; injection = of_entry.own k; asks = j.asks }
+
+module _ (laws : RunLaws) (p : World) (name : List ℕ) (status : Status) where
+  abbrev pub Explored : JobTree → Type 0
+  Explored j = JobCase p name [] (work (explore name)) j status
+
+  -- what the report of the job comes to
+  reported : (j : JobTree) (net : Network) (i : Entry) → (world p).takes tt j net i tt → (outcome : Outcome) (given : List Given)
+      → AllOpen (world p) tt [] given tt → (work (explore name)).comes (a_net net i j.asks ∷ given) outcome → ReportsOf j outcome
+  reported j net i taken outcome given opened h =
+      subst (λ (x : JobTree). ReportsOf x outcome) (own_job p j net i taken)
+      (subst (λ gs. (work (explore name)).comes (a_net net i j.asks ∷ gs) outcome) opened.0 h)
+
+  run_or_not : (j : JobTree) (thin : Thin) → IsThinJob j thin → HasBothSides thin → (outcome : Outcome) → ReportsOf j outcome → outcome_status outcome ≡ Done
+  run_or_not j thin is both (text e whole) h = ap (λ x. outcome_status (text x whole)) h.0
+  run_or_not j thin is both (refused working.NotBuilt) h = absurd (laws.run j thin is both h)
+  run_or_not j thin is both (refused fault) h = absurd h
+
+  not_or_run : (j : JobTree) → IsNotRun j → (outcome : Outcome) → ReportsOf j outcome → outcome_status outcome ≡ NotBuilt
+  not_or_run j unrun (text e whole) (ended, thin, is, report) = absurd (laws.run j thin is (laws.sides thin whole report) unrun)
+  not_or_run j unrun (refused working.NotBuilt) h = refl
+  not_or_run j unrun (refused fault) h = absurd h
+
+  -- of a job without tables that breaks no rule
+  pub whole_in : (told : Status) (j : JobTree) → is_filled j ≡ true → IsSound j → ((outcome : Outcome) → ReportsOf j outcome → outcome_status outcome ≡ told)
+      → Explored j ⊎ IsStopped status → (status ≡ told) ⊎ MayBeBad status
+  whole_in told j filled sound ends (inr h) = inr (inl h)
+  whole_in told j filled sound ends (inl (has_tables tables is)) = absurd (true≢false (sym filled ∙ tables))
+  whole_in told j filled sound ends (inl (breaks_rule own kind own_filled breaks is)) =
+      absurd (sound_or_refused j own kind sound breaks)
+  whole_in told j filled sound ends (inl (has_bad own own_filled refuses is)) = inr (inr (own, is))
+  whole_in told j filled sound ends (inl (is_taken net i has taken (inl h))) = inr (inl h)
+  whole_in told j filled sound ends (inl (is_taken net i has taken (inr (inl (outcome, given, opened, h, is))))) =
+      inl (is ∙ ends outcome (reported j net i taken outcome given opened h))
+  whole_in told j filled sound ends (inl (is_taken net i has taken (inr (inr (fault, h, is))))) = absurd h
+
+  pub run_in : (j : JobTree) (thin : Thin) → is_filled j ≡ true → IsSound j → IsThinJob j thin → HasBothSides thin → Explored j ⊎ IsStopped status
+      → (status ≡ Done) ⊎ MayBeBad status
+  run_in j thin filled sound is both h = whole_in Done j filled sound (run_or_not j thin is both) h
+
+  pub other_in : (j : JobTree) → is_filled j ≡ true → IsSound j → IsNotRun j → Explored j ⊎ IsStopped status → (status ≡ NotBuilt) ⊎ MayBeBad status
+  other_in j filled sound unrun h = whole_in NotBuilt j filled sound (not_or_run j unrun) h

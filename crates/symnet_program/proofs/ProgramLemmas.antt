@@ -1,0 +1,273 @@
+-- What a status says of a run, once for all commands.
+use Rattle.std.proofs.Common.{◌≡◌, ◌⊎◌, inl, inr, ◌∙◌, ap, sym, subst, refl, List, [], ℕ, Option, Some, None, Bool, Result, Ok, Err}
+use Rattle.std.proofs.lemmas.List.{append-nil}
+use Rattle.std.specs.Io.KnownBytes.{append_known}
+use Rattle.sn_edge.specs.declared.patterns.Found.{Found}
+use Rattle.run_answers.specs.Outside.{Outside, World, Tells, outside, world}
+use Rattle.run_answers.specs.Inputs.{Input, Given, AllOpen, FirstFails, IsSettled}
+use Rattle.run_answers.specs.Runs.{OwnWork, Outcome, text, refused, InputShows, IsRefusal, Runs, Shows}
+use Rattle.run_answers.specs.declared.fault.InputFault.{InputFault}
+use Rattle.run_answers.specs.declared.fault.InputFault.TheVariants as input
+use Rattle.run_answers.specs.declared.fault.OwnFault.{OwnFault}
+use Rattle.run_answers.specs.declared.fault.OwnFault.TheVariants as own
+use Rattle.run_answers.specs.declared.ending.Ending.{Ending}
+use Rattle.run_answers.specs.declared.ending.Ending.TheVariants as ending
+use Rattle.run_answers.specs.declared.ending.Stop.{Stop}
+use Rattle.run_answers.specs.declared.ending.Stop.TheVariants.{Input as ByInput, Own, Write, NoMemory as NoRoom}
+use Rattle.symnet_program.proofs.ToldLemmas.{first_told, all_told}
+use Rattle.symnet_program.specs.Status.{MayStop, input_status, own_status, status_of}
+use Rattle.symnet_program.specs.Commands.{inputs, work}
+use Rattle.symnet_program.specs.Words.{Command}
+use Rattle.symnet_program.specs.Program.{Cause, Comes, IsAnswered, IsCaused, MayWrite, RefusesInput, Shown, Stops, Writes}
+use Rattle.symnet_program.specs.declared.status.Status.{Status}
+use Rattle.symnet_program.specs.declared.status.Status.TheVariants.{Done, NoMemory, Usage, NoFile, ReadFault, WriteFault, TooBig, Syntax, BadPattern, Refused, BadTable, BadPacket, Partial, TooMany, BadReport, NotConfirmed, BadAsk, NotBuilt, BadCompare}
+
+gains_nothing : (known now : Option (List ℕ)) → now ≡ known → now ≡ append_known known []
+gains_nothing None now same = same
+gains_nothing (Some xs) now same = same ∙ ap Some (sym (append-nil xs))
+
+module _ {S : Type 0} (o : Outside S) (u v : S) (is : List Input) (w : OwnWork) where
+  -- ---- causes
+
+  cause_input : (fault : InputFault) → Stops o u v is w fault → Cause o u v is w (input_status fault)
+  cause_input (input.NoFile name) h = h
+  cause_input (input.ReadFault name) h = h
+  cause_input (input.TooBig name) h = h
+  cause_input (input.Syntax line column kind) h = h
+  cause_input (input.BadTable name line kind) h = inl h
+  cause_input (input.BadPattern site) h = h
+  cause_input (input.Refused site kind) h = h
+  cause_input input.NotBuilt h = inl h
+  cause_input input.NoMemory h = tt
+
+  cause_own : (given : List Given) → AllOpen o u is given v → (fault : OwnFault) → IsRefusal (w.comes given) fault → Cause o u v is w (own_status fault)
+  cause_own given opened own.NoMemory h = tt
+  cause_own given opened (own.BadTable name line kind) h = inr (given, opened, h)
+  cause_own given opened (own.BadPacket kind) h = (given, opened, h)
+  cause_own given opened (own.TooMany count) h = (given, opened, h)
+  cause_own given opened (own.BadReport kind pointer) h = (given, opened, h)
+  cause_own given opened (own.NotConfirmed number kind) h = (given, opened, h)
+  cause_own given opened (own.BadAsk number kind) h = (given, opened, h)
+  cause_own given opened (own.BadCompare kind one other) h = (given, opened, h)
+  cause_own given opened own.NotBuilt h = inr (given, opened, h)
+
+  pub cause_of : (known now : Option (List ℕ)) (answer : Result Ending Stop) → Runs known now o u v is w answer → Cause o u v is w (status_of answer)
+  cause_of known now (Ok ending.Done) (given, opened, (whole, comes, gained)) = (whole, (given, opened, comes))
+  cause_of known now (Ok ending.Partial) (given, opened, (whole, comes, gained)) = (whole, (given, opened, comes))
+  cause_of known now (Err (ByInput fault)) h = cause_input fault h.0
+  cause_of known now (Err (Own fault)) (given, opened, h) = cause_own given opened fault h.1
+  cause_of known now (Err Write) (given, opened, h) = (given, opened)
+  cause_of known now (Err NoRoom) h = tt
+
+  nothing_input : (fault : InputFault) → Writes o u v is w (input_status fault) []
+  nothing_input input.NoMemory = inl refl
+  nothing_input (input.NoFile name) = refl
+  nothing_input (input.ReadFault name) = refl
+  nothing_input (input.TooBig name) = refl
+  nothing_input (input.Syntax line column kind) = refl
+  nothing_input (input.BadTable name line kind) = refl
+  nothing_input (input.BadPattern site) = refl
+  nothing_input (input.Refused site kind) = refl
+  nothing_input input.NotBuilt = refl
+
+  nothing_own : (fault : OwnFault) → Writes o u v is w (own_status fault) []
+  nothing_own own.NoMemory = inl refl
+  nothing_own (own.BadTable name line kind) = refl
+  nothing_own (own.BadPacket kind) = refl
+  nothing_own (own.TooMany count) = refl
+  nothing_own (own.BadReport kind pointer) = refl
+  nothing_own (own.NotConfirmed number kind) = refl
+  nothing_own (own.BadAsk number kind) = refl
+  nothing_own (own.BadCompare kind one other) = refl
+  nothing_own own.NotBuilt = refl
+
+  -- ---- what is written
+
+  module _ (known now : Option (List ℕ)) where
+    pub written_of : (answer : Result Ending Stop) → Runs known now o u v is w answer
+        → (part : List ℕ) × Writes o u v is w (status_of answer) part × (now ≡ append_known known part)
+    written_of (Ok ending.Done) (given, opened, (whole, comes, gained)) = (whole, (given, opened, comes), gained)
+    written_of (Ok ending.Partial) (given, opened, (whole, comes, gained)) = (whole, (given, opened, comes), gained)
+    written_of (Err (ByInput fault)) h = ([], nothing_input fault, gains_nothing known now h.1)
+    written_of (Err (Own fault)) (given, opened, h) = ([], nothing_own fault, gains_nothing known now h.0)
+    written_of (Err Write) (given, opened, (part, cut, gained)) = (part, (given, opened, cut), gained)
+    written_of (Err NoRoom) (given, opened, (part, left, gained)) = (part, inr (given, opened, left), gained)
+
+  -- ---- with no count raised
+
+  pub complete_of : (failed missed passed raised broken : Type 0) (status : Status) → Shown failed missed passed raised broken status
+      → (failed → ⊥) → (missed → ⊥) → (passed → ⊥) → (broken → ⊥) → ((s : Status) → RefusesInput s → Cause o u v is w s → ⊥)
+      → Cause o u v is w status → IsAnswered status
+  complete_of failed missed passed raised broken Done s f m p b good h = tt
+  complete_of failed missed passed raised broken NoMemory s f m p b good h = tt
+  complete_of failed missed passed raised broken Partial s f m p b good h = tt
+  complete_of failed missed passed raised broken (TooMany count) s f m p b good h = tt
+  complete_of failed missed passed raised broken (NotConfirmed number kind) s f m p b good h = tt
+  complete_of failed missed passed raised broken Usage s f m p b good h = h
+  complete_of failed missed passed raised broken (NoFile name) s f m p b good h = m s
+  complete_of failed missed passed raised broken (ReadFault name) s f m p b good h = f s
+  complete_of failed missed passed raised broken (TooBig name) s f m p b good h = p s
+  complete_of failed missed passed raised broken WriteFault s f m p b good h = b s
+  complete_of failed missed passed raised broken (Syntax line column kind) s f m p b good h = good (Syntax line column kind) tt h
+  complete_of failed missed passed raised broken (BadPattern site) s f m p b good h = good (BadPattern site) tt h
+  complete_of failed missed passed raised broken (Refused site kind) s f m p b good h = good (Refused site kind) tt h
+  complete_of failed missed passed raised broken (BadTable name line kind) s f m p b good h = good (BadTable name line kind) tt h
+  complete_of failed missed passed raised broken (BadPacket kind) s f m p b good h = good (BadPacket kind) tt h
+  complete_of failed missed passed raised broken (BadReport kind pointer) s f m p b good h = good (BadReport kind pointer) tt h
+  complete_of failed missed passed raised broken (BadAsk number kind) s f m p b good h = good (BadAsk number kind) tt h
+  complete_of failed missed passed raised broken NotBuilt s f m p b good h = good NotBuilt tt h
+  complete_of failed missed passed raised broken (BadCompare kind one other) s f m p b good h = tt
+
+-- ---- in a world
+
+module _ {S : Type 0} (o : Outside S) (u v : S) (is : List Input) (w : OwnWork) (p : World)
+    (first : (fault : InputFault) → Stops o u v is w fault → Stops (world p) tt tt is w fault)
+    (all : (given : List Given) → AllOpen o u is given v → AllOpen (world p) tt is given tt) where
+  comes : (outcome : Outcome) → Comes o u v is w outcome → Comes (world p) tt tt is w outcome
+  comes outcome (given, opened, h) = (given, all given opened, h)
+
+  cause_in : (status : Status) → Cause o u v is w status → Cause (world p) tt tt is w status
+  cause_in Done h = (h.0, comes (text ending.Done h.0) h.1)
+  cause_in NoMemory h = tt
+  cause_in Usage h = h
+  cause_in (NoFile name) h = first (input.NoFile name) h
+  cause_in (ReadFault name) h = first (input.ReadFault name) h
+  cause_in WriteFault h = (h.0, all h.0 h.1)
+  cause_in (TooBig name) h = first (input.TooBig name) h
+  cause_in (Syntax line column kind) h = first (input.Syntax line column kind) h
+  cause_in (BadPattern site) h = first (input.BadPattern site) h
+  cause_in (Refused site kind) h = first (input.Refused site kind) h
+  cause_in (BadTable name line kind) (inl h) = inl (first (input.BadTable name line kind) h)
+  cause_in (BadTable name line kind) (inr h) = inr (comes (refused (own.BadTable name line kind)) h)
+  cause_in (BadPacket kind) h = comes (refused (own.BadPacket kind)) h
+  cause_in Partial h = (h.0, comes (text ending.Partial h.0) h.1)
+  cause_in (TooMany count) h = comes (refused (own.TooMany count)) h
+  cause_in (BadReport kind pointer) h = comes (refused (own.BadReport kind pointer)) h
+  cause_in (NotConfirmed number kind) h = comes (refused (own.NotConfirmed number kind)) h
+  cause_in (BadAsk number kind) h = comes (refused (own.BadAsk number kind)) h
+  cause_in NotBuilt (inl h) = inl (first input.NotBuilt h)
+  cause_in NotBuilt (inr h) = inr (comes (refused own.NotBuilt) h)
+  cause_in (BadCompare kind one other) h = comes (refused (own.BadCompare kind one other)) h
+
+pub told_of : {S : Type 0} (files : Option (List ℕ → Option (List ℕ))) (matches : S → Option (List ℕ → List ℕ → Bool)) (bad : S → Option (List ℕ → Bool)) (refusals : S → ℕ) (gives : S → List ℕ → List ℕ → Found → S → Type 0) (u v : S) (is : List Input) (w : OwnWork) (p : World)
+    → Tells files matches bad u p → (status : Status) → Cause (outside files matches bad refusals gives) u v is w status → Cause (world p) tt tt is w status
+told_of files matches bad refusals gives u v is w p told status h =
+    let known : (matches u ≡ p.finds) × (bad u ≡ p.is_bad) = (told.finds_told, told.bad_told) in
+    cause_in (outside (Some p.at) matches bad refusals gives) u v is w p (λ fault. first_told matches bad refusals gives p u v is fault known)
+    (λ given. all_told matches bad refusals gives p u v is given known) status
+    (subst (λ fs. Cause (outside fs matches bad refusals gives) u v is w status) told.files_told h)
+
+-- the inputs of a world are refused in one way, and then they are not all good
+pub record Decides (p : World) : Type 0 where
+  pub first : (is : List Input) (f g : InputFault) → IsSettled p f → IsSettled p g → FirstFails (world p) tt is f tt → FirstFails (world p) tt is g tt → f ≡ g
+  pub excludes : (is : List Input) (given : List Given) (f : InputFault) → IsSettled p f → AllOpen (world p) tt is given tt → FirstFails (world p) tt is f tt → ⊥
+
+-- an input that is refused in the world is refused
+module _ (is : List Input) (w : OwnWork) (p : World) (decides : Decides p) (fault : InputFault) (settled : IsSettled p fault) (fails : FirstFails (world p) tt is fault tt) where
+  one : (other : InputFault) → IsSettled p other → Stops (world p) tt tt is w other → (input_status other ≡ input_status fault) ⊎ MayStop p (input_status other)
+  one other s h = inl (ap input_status (decides.first is other fault s settled h fails))
+
+  none : {A : Type 0} (outcome : Outcome) → Comes (world p) tt tt is w outcome → A
+  none outcome (given, opened, h) = absurd (decides.excludes is given fault settled opened fails)
+
+  pub exact_of : (status : Status) → Cause (world p) tt tt is w status → (status ≡ input_status fault) ⊎ MayStop p status
+  exact_of Done h = none (text ending.Done h.0) h.1
+  exact_of NoMemory h = inr tt
+  exact_of Usage h = absurd h
+  exact_of (NoFile name) h = one (input.NoFile name) tt h
+  exact_of (ReadFault name) h = inr tt
+  exact_of WriteFault h = inr tt
+  exact_of (TooBig name) h = one (input.TooBig name) tt h
+  exact_of (Syntax line column kind) h = one (input.Syntax line column kind) tt h
+  exact_of (BadPattern site) h = by p.is_bad refl
+    where
+      by : (told : Option (List ℕ → Bool)) → p.is_bad ≡ told → (BadPattern site ≡ input_status fault) ⊎ MayStop p (BadPattern site)
+      by None is = inr is
+      by (Some is_bad) is = one (input.BadPattern site) (is_bad, is) h
+  exact_of (Refused site kind) h = one (input.Refused site kind) tt h
+  exact_of (BadTable name line kind) (inl h) = one (input.BadTable name line kind) tt h
+  exact_of (BadTable name line kind) (inr h) = none (refused (own.BadTable name line kind)) h
+  exact_of (BadPacket kind) h = none (refused (own.BadPacket kind)) h
+  exact_of Partial h = none (text ending.Partial h.0) h.1
+  exact_of (TooMany count) h = none (refused (own.TooMany count)) h
+  exact_of (BadReport kind pointer) h = none (refused (own.BadReport kind pointer)) h
+  exact_of (NotConfirmed number kind) h = none (refused (own.NotConfirmed number kind)) h
+  exact_of (BadAsk number kind) h = none (refused (own.BadAsk number kind)) h
+  exact_of NotBuilt (inl h) = one input.NotBuilt tt h
+  exact_of NotBuilt (inr h) = none (refused own.NotBuilt) h
+  exact_of (BadCompare kind one other) h = none (refused (own.BadCompare kind one other)) h
+
+-- ---- of the call: the words said the command c, and the run of it came to the answer that the status tells
+
+module _ {S : Type 0} (files : Option (List ℕ → Option (List ℕ))) (matches : S → Option (List ℕ → List ℕ → Bool)) (bad : S → Option (List ℕ → Bool)) (refusals : S → ℕ) (gives : S → List ℕ → List ℕ → Found → S → Type 0) (u v : S)
+    (known now : Option (List ℕ)) (said : Option Command) (c : Command) (named : Some c ≡ said) (answer : Result Ending Stop) (status : Status) (tells : status ≡ status_of answer)
+    (ran : Runs known now (outside files matches bad refusals gives) u v (inputs c) (work c) answer) where
+  caused : Cause (outside files matches bad refusals gives) u v (inputs c) (work c) status
+  caused =
+      subst (Cause (outside files matches bad refusals gives) u v (inputs c) (work c)) (sym tells)
+      (cause_of (outside files matches bad refusals gives) u v (inputs c) (work c) known now answer ran)
+
+  pub cause_said : IsCaused (outside files matches bad refusals gives) u v said status
+  cause_said = subst (λ r. IsCaused (outside files matches bad refusals gives) u v r status) named caused
+
+  pub written_said : (part : List ℕ) × MayWrite (outside files matches bad refusals gives) u v said status part × (now ≡ append_known known part)
+  written_said =
+      let (part, writes, gained) = written_of (outside files matches bad refusals gives) u v (inputs c) (work c) known now answer ran in (
+        part,
+        subst (λ r. MayWrite (outside files matches bad refusals gives) u v r status part) named
+            (subst (λ s. Writes (outside files matches bad refusals gives) u v (inputs c) (work c) s part) (sym tells) writes),
+        gained,
+      )
+
+  pub told_said : (p : World) → Tells files matches bad u p → IsCaused (world p) tt tt said status
+  told_said p told =
+      subst (λ r. IsCaused (world p) tt tt r status) named (told_of files matches bad refusals gives u v (inputs c) (work c) p told status caused)
+
+  pub exact_said : (command : Command) (p : World) (fault : InputFault) → Decides p → said ≡ Some command → Tells files matches bad u p
+      → FirstFails (world p) tt (inputs command) fault tt → IsSettled p fault → (status ≡ input_status fault) ⊎ MayStop p status
+  exact_said command p fault decides is told fails settled =
+      exact_of (inputs command) (work command) p decides fault settled fails status
+      (subst (λ r. IsCaused (world p) tt tt r status) is (told_said p told))
+
+  pub complete_said : (command : Command) (failed missed passed raised broken : Type 0) → said ≡ Some command → Shown failed missed passed raised broken status
+      → (failed → ⊥) → (missed → ⊥) → (passed → ⊥) → (broken → ⊥)
+      → ((s : Status) → RefusesInput s → Cause (outside files matches bad refusals gives) u v (inputs command) (work command) s → ⊥) → IsAnswered status
+  complete_said command failed missed passed raised broken is shown f m p b good =
+      complete_of (outside files matches bad refusals gives) u v (inputs command) (work command) failed missed passed raised broken status shown f m p b good
+      (subst (λ r. IsCaused (outside files matches bad refusals gives) u v r status) is cause_said)
+
+-- the counts that rose, by the status
+shown_input : (failed missed passed raised broken : Type 0) (fault : InputFault) → InputShows failed missed passed raised fault → Shown failed missed passed raised broken (input_status fault)
+shown_input failed missed passed raised broken (input.NoFile name) h = h
+shown_input failed missed passed raised broken (input.ReadFault name) h = h
+shown_input failed missed passed raised broken (input.TooBig name) h = h
+shown_input failed missed passed raised broken (input.BadPattern site) h = h
+shown_input failed missed passed raised broken (input.Syntax line column kind) h = tt
+shown_input failed missed passed raised broken (input.BadTable name line kind) h = tt
+shown_input failed missed passed raised broken (input.Refused site kind) h = tt
+shown_input failed missed passed raised broken input.NotBuilt h = tt
+shown_input failed missed passed raised broken input.NoMemory h = tt
+
+shown_own : (failed missed passed raised broken : Type 0) (fault : OwnFault) → Shown failed missed passed raised broken (own_status fault)
+shown_own failed missed passed raised broken (own.BadTable name line kind) = tt
+shown_own failed missed passed raised broken (own.BadPacket kind) = tt
+shown_own failed missed passed raised broken (own.TooMany count) = tt
+shown_own failed missed passed raised broken (own.BadReport kind pointer) = tt
+shown_own failed missed passed raised broken (own.NotConfirmed number kind) = tt
+shown_own failed missed passed raised broken (own.BadAsk number kind) = tt
+shown_own failed missed passed raised broken (own.BadCompare kind one other) = tt
+shown_own failed missed passed raised broken own.NotBuilt = tt
+shown_own failed missed passed raised broken own.NoMemory = tt
+
+shown_answer : (failed missed passed raised broken : Type 0) (answer : Result Ending Stop) → Shows failed missed passed raised broken answer → Shown failed missed passed raised broken (status_of answer)
+shown_answer failed missed passed raised broken (Ok ending.Done) h = tt
+shown_answer failed missed passed raised broken (Ok ending.Partial) h = tt
+shown_answer failed missed passed raised broken (Err (ByInput fault)) h = shown_input failed missed passed raised broken fault h
+shown_answer failed missed passed raised broken (Err (Own fault)) h = shown_own failed missed passed raised broken fault
+shown_answer failed missed passed raised broken (Err Write) h = h
+shown_answer failed missed passed raised broken (Err NoRoom) h = tt
+
+pub shown_said : (failed missed passed raised broken : Type 0) (answer : Result Ending Stop) (status : Status) → status ≡ status_of answer
+    → Shows failed missed passed raised broken answer → Shown failed missed passed raised broken status
+shown_said failed missed passed raised broken answer status tells h =
+    subst (Shown failed missed passed raised broken) (sym tells) (shown_answer failed missed passed raised broken answer h)

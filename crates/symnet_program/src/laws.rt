@@ -1,0 +1,97 @@
+//! What a status tells in a world. These functions do nothing: their contracts are the laws. With the clause `told` of
+//! `symnet` they speak of each call whose outside tells such a world.
+
+ghost use Rattle.std.specs.Prelude.{◌≡◌, ◌⊎◌, ◌<◌, ◌≤◌, ℕ, Bool, List, length, true, false, Some, None};
+ghost use Rattle.std.specs.Option.{ForSome};
+ghost use Rattle.sn_width.specs.declared.ids.Site.{Site};
+ghost use Rattle.sefl_syntax.specs.Filled.{is_filled};
+ghost use Rattle.sefl_syntax.specs.Trees.{JobTree};
+ghost use Rattle.sefl_syntax.specs.declared.thin.Thin.{Thin};
+ghost use Rattle.job_items.specs.Rules.{refusal};
+ghost use Rattle.job_items.specs.declared.rule.Rule.{Rule};
+ghost use Rattle.net_check.specs.Network.{Entry, Network};
+ghost use Rattle.net_check.specs.Sound.{IsSound};
+ghost use Rattle.packet_file.specs.Packet.{packet_of};
+ghost use Rattle.run_answers.specs.Flaws.{Flaw, HasFlaw};
+ghost use Rattle.run_answers.specs.Inputs.{AllOpen, Given};
+ghost use Rattle.run_answers.specs.Jobs.{IsTextOf, first_bad};
+ghost use Rattle.run_answers.specs.Outside.{World, world};
+ghost use Rattle.run_answers.specs.Refusals.{fault_by_rule};
+ghost use Rattle.run_answers.specs.Runs.{Outcome};
+ghost use Rattle.run_answers.specs.declared.limits.TheConstants.{FILE_LIMIT, HOPS, LIMIT};
+ghost use Rattle.explore_command.specs.Thins.{HasBothSides, IsNotRun, IsThinJob};
+ghost use Rattle.symnet_program.specs.Commands.{inputs, work};
+ghost use Rattle.symnet_program.specs.Program.{IsCaused};
+ghost use Rattle.walk_command.specs.Walks.{WalksOf};
+ghost use Rattle.symnet_program.specs.Status.{IsStopped, MayBeBad, MayStop, input_status, outcome_status};
+ghost use Rattle.symnet_program.specs.Told.{TellsNet};
+ghost use Rattle.symnet_program.specs.Words.{Command as CommandOf, explore, job_name, walk};
+ghost use Rattle.symnet_program.specs.declared.status.Status.{Status as StatusOf};
+ghost use Rattle.symnet_program.specs.declared.status.Status.TheVariants.{BadPattern, Done, NoFile, NotBuilt, Syntax, TooBig};
+
+use explore_command::laws::reported_jobs_are_run;
+use run_answers::laws::worlds_decide;
+use walk_command::laws::walks_have_one_outcome;
+
+/// What is wrong with the job's file is told, unless the outside failed or there was no memory.
+pub fn jobs_are_told()
+    ensures absent { (command : CommandOf) (w : World) (status : StatusOf) → IsCaused (world w) tt tt (Some command) status
+        → w.at (job_name command) ≡ None → (status ≡ NoFile (job_name command)) ⊎ IsStopped status }
+    ensures long { (command : CommandOf) (w : World) (status : StatusOf) (bytes : List ℕ) → IsCaused (world w) tt tt (Some command) status
+        → w.at (job_name command) ≡ Some bytes → FILE_LIMIT < length bytes → (status ≡ TooBig (job_name command)) ⊎ IsStopped status }
+    ensures flawed { (command : CommandOf) (w : World) (status : StatusOf) (bytes : List ℕ) (flaw : Flaw)
+        → IsCaused (world w) tt tt (Some command) status → w.at (job_name command) ≡ Some bytes → length bytes ≤ FILE_LIMIT
+        → HasFlaw bytes flaw → (status ≡ Syntax flaw.line flaw.column flaw.kind) ⊎ IsStopped status }
+    ensures tables { (command : CommandOf) (w : World) (status : StatusOf) (bytes : List ℕ) (j : JobTree)
+        → IsCaused (world w) tt tt (Some command) status → w.at (job_name command) ≡ Some bytes → length bytes ≤ FILE_LIMIT
+        → IsTextOf j bytes → is_filled j ≡ false → (status ≡ NotBuilt) ⊎ IsStopped status }
+    ensures refused { (command : CommandOf) (w : World) (status : StatusOf) (bytes : List ℕ) (j : JobTree) (site : Site) (rule : Rule)
+        → IsCaused (world w) tt tt (Some command) status → w.at (job_name command) ≡ Some bytes → length bytes ≤ FILE_LIMIT
+        → IsTextOf j bytes → is_filled j ≡ true → refusal j ≡ Some (site.0, rule)
+        → (status ≡ input_status (fault_by_rule site rule)) ⊎ IsStopped status }
+    ensures bad { (command : CommandOf) (w : World) (status : StatusOf) (bytes : List ℕ) (j : JobTree) (site : Site)
+        → IsCaused (world w) tt tt (Some command) status → w.at (job_name command) ≡ Some bytes → length bytes ≤ FILE_LIMIT
+        → IsTextOf j bytes → is_filled j ≡ true → IsSound j
+        → ForSome w.is_bad (λ is_bad. first_bad is_bad j ≡ Some site.0 → (status ≡ BadPattern site) ⊎ IsStopped status) }
+{}
+
+/// Of a job without tables that breaks no rule and none of whose patterns is bad, `explore` tells Done where it is run, and
+/// NotBuilt where it is not.
+pub fn explored_jobs_are_told()
+    ensures run { (job : List ℕ) (w : World) (status : StatusOf) (bytes : List ℕ) (j : JobTree) (thin : Thin)
+        → IsCaused (world w) tt tt (Some (explore job)) status → w.at job ≡ Some bytes → length bytes ≤ FILE_LIMIT
+        → IsTextOf j bytes → is_filled j ≡ true → IsSound j → IsThinJob j thin → HasBothSides thin
+        → (status ≡ Done) ⊎ MayBeBad status }
+    ensures other { (job : List ℕ) (w : World) (status : StatusOf) (bytes : List ℕ) (j : JobTree)
+        → IsCaused (world w) tt tt (Some (explore job)) status → w.at job ≡ Some bytes → length bytes ≤ FILE_LIMIT
+        → IsTextOf j bytes → is_filled j ≡ true → IsSound j → IsNotRun j → (status ≡ NotBuilt) ⊎ MayBeBad status }
+{
+    reported_jobs_are_run();
+}
+
+/// Of a job without tables that breaks no rule, `walk` tells what comes of the packet's file, where it is told what the
+/// patterns find; unless the run was stopped, or a pattern is bad.
+pub fn walked_jobs_are_told()
+    ensures absent { (job packet : List ℕ) (w : World) (status : StatusOf) (net : Network) (i : Entry)
+        → IsCaused (world w) tt tt (Some (walk job packet)) status → TellsNet w job net i
+        → w.at packet ≡ None → (status ≡ NoFile packet) ⊎ MayBeBad status }
+    ensures long { (job packet : List ℕ) (w : World) (status : StatusOf) (net : Network) (i : Entry) (bytes : List ℕ)
+        → IsCaused (world w) tt tt (Some (walk job packet)) status → TellsNet w job net i
+        → w.at packet ≡ Some bytes → FILE_LIMIT < length bytes → (status ≡ TooBig packet) ⊎ MayBeBad status }
+    ensures walked { (job packet : List ℕ) (w : World) (status : StatusOf) (net : Network) (i : Entry) (bytes : List ℕ) (outcome : Outcome)
+        → IsCaused (world w) tt tt (Some (walk job packet)) status → TellsNet w job net i
+        → w.at packet ≡ Some bytes → length bytes ≤ FILE_LIMIT → WalksOf HOPS LIMIT net i (packet_of bytes) outcome
+        → (status ≡ outcome_status outcome) ⊎ MayBeBad status }
+{
+    worlds_decide();
+    walks_have_one_outcome();
+}
+
+/// Where all inputs are good, and it is told what the patterns find, the status tells what the own work comes to on them.
+pub fn own_work_is_told()
+    ensures { (command : CommandOf) (w : World) (finds : List ℕ → List ℕ → Bool) (given : List Given) (status : StatusOf)
+        → w.finds ≡ Some finds → AllOpen (world w) tt (inputs command) given tt → IsCaused (world w) tt tt (Some command) status
+        → ((outcome : Outcome) × (work command).comes given outcome × (status ≡ outcome_status outcome)) ⊎ MayStop w status }
+{
+    worlds_decide();
+}
