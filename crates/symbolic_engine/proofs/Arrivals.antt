@@ -1,0 +1,201 @@
+-- Ports that a run arrives at, and what comes behind their code.
+use Rattle.std.proofs.Common.{◌≡◌, ℕ, suc, ◌+◌, List, [], ◌∷◌, ◌++◌, reverse, length, Option, None, Some, refl, sym, ap, subst, ◌∙◌, arith}
+use Rattle.std.specs.Prelude.{option_map}
+use Rattle.sn_width.specs.declared.ids.NodeId.{NodeId}
+use Rattle.lin_term.specs.Terms.{LinearTerm}
+use Rattle.path_formula.specs.Formulas.{FormulaTree}
+use Rattle.path_formula.specs.declared.formula.Formula.{Formula}
+use Rattle.path_formula.specs.View.{view}
+use Rattle.sefl_syntax.specs.declared.net.Side.{Side}
+use Rattle.sefl_syntax.specs.declared.net.Side.TheVariants.{Inward, Outward}
+use Rattle.net_check.specs.Network.{Network}
+use Rattle.net_tables.specs.Lookups.{port_of}
+use Rattle.net_tables.specs.Places.{Port}
+use Rattle.sefl_meaning.specs.declared.walk.End.TheVariants.{Stopped, Failed, Cut as CutShort}
+use Rattle.sefl_meaning.specs.declared.walk.Failure.{Failure}
+use Rattle.sefl_meaning.specs.Network.{link_of, port_at}
+use Rattle.sefl_meaning.specs.Values.{Values}
+use Rattle.sefl_meaning.specs.Walks.{place_at}
+use Rattle.sefl_meaning.specs.Runs.{Progress, off, go, forked, failed}
+use Rattle.sefl_meaning.specs.Courses.{Course, ends, asks, after}
+use Rattle.sefl_meaning.specs.Trees.{arrives, copies, leave, over, passed, crossed, port_course, then_tree}
+use Rattle.term_values.specs.TermValues.{terms}
+use Rattle.code_frames.specs.declared.frame.Exit.{Exit}
+use Rattle.code_frames.specs.declared.frame.Frame.{Frame}
+use Rattle.code_frames.specs.declared.frame.Move.{Move}
+use Rattle.code_frames.specs.declared.frame.Move.TheVariants.{Ended}
+use Rattle.code_frames.specs.Frames as code
+use Rattle.code_frames.specs.Frames.{course_after, course_frames, course_left, exit_of, from, of_frame}
+use Rattle.sym_state.specs.Symbolic.{Rest, Symbolic, choices_of, rest_of, with_place}
+use Rattle.exact_records.specs.Records.{SymStart, SymTree}
+use Rattle.path_exec.specs.declared.engine.Moved.{Moved}
+use Rattle.path_exec.specs.Here.{spot_at}
+use Rattle.path_exec.specs.Moves.{IsMove, Moves, Reaches}
+use Rattle.path_exec.specs.Offers.{copy_count}
+use Rattle.path_exec.specs.Views.{Views}
+use Rattle.symbolic_engine.specs.declared.stage.Gate.{Gate}
+use Rattle.symbolic_engine.specs.declared.stage.Stage.{Stage}
+use Rattle.symbolic_engine.specs.declared.stage.Wait.TheVariants as waits
+use Rattle.symbolic_engine.specs.Origins.{IsRunOf, here_of, progress_in}
+use Rattle.symbolic_engine.specs.Stages.{behind_gate, behind_side, inside_tree, onward_of, stage_tree}
+use Rattle.symbolic_engine.specs.Seeing.{standing_at}
+use Rattle.symbolic_engine.proofs.Growing.{Grown, grown_at_move}
+use Rattle.symbolic_engine.proofs.Running.{move_from, reaches_here, tests_same, wider_by}
+
+-- ---- the code of a port
+
+-- nothing behind it
+alone : {V F : Type 0} (c : Course V F) → after c (λ p. ends p off) ≡ c
+alone (ends p off) = refl
+alone (ends p (go port)) = refl
+alone (ends p (forked ports)) = refl
+alone (ends p (failed failure site)) = refl
+alone (asks asking p test held broken) = λ j. asks asking p test (alone held j) (alone broken j)
+
+-- one frame alone
+pub one_frame : (o : Values LinearTerm FormulaTree) (net : Network) (node : NodeId) (old new : List Frame) (frame : Frame) (p : Progress LinearTerm)
+    → old ≡ [] → new ≡ old ++ frame ∷ [] → course_frames o net node (reverse new) p ≡ of_frame o net node frame p
+one_frame o net node old new frame p empty is =
+    ap (λ (l : List Frame). course_frames o net node (reverse l) p) (is ∙ ap (λ (l : List Frame). l ++ frame ∷ []) empty)
+    ∙ alone (of_frame o net node frame p)
+
+-- ---- arrivals
+
+module _ (net : Network) (u : ℕ) (frames : List Frame) (node : NodeId) (port : ℕ) where
+  -- over an input port, with a hop left
+  pub enters : (hops rest : ℕ) (p : Progress LinearTerm) → hops ≡ suc rest
+      → course_frames (terms u) net node frames p ≡ port_course (terms u) net node Inward port p
+      → onward_of net u hops node port p
+      ≡ arrives (place_at node Inward port) p (then_tree (course_left (terms u) net node None frames p) (behind_side net u node port rest Inward))
+  enters hops rest p h begins =
+      ap (λ (n : ℕ). onward_of net u n node port p) h
+      ∙ ap (λ (c : Course LinearTerm FormulaTree). arrives (place_at node Inward port) p (then_tree c (passed (terms u) net (onward_of net u rest) node))) (sym begins)
+
+  -- over an output port
+  pub leaves : (hops : ℕ) (p : Progress LinearTerm)
+      → course_frames (terms u) net node frames p ≡ port_course (terms u) net node Outward port p
+      → leave (terms u) net (onward_of net u hops) node port p
+      ≡ arrives (place_at node Outward port) p (then_tree (course_left (terms u) net node None frames p) (behind_side net u node port hops Outward))
+  leaves hops p begins =
+      ap (λ (c : Course LinearTerm FormulaTree). arrives (place_at node Outward port) p (then_tree c (crossed (terms u) net (onward_of net u hops) (link_of net node port))))
+      (sym begins)
+
+-- no hop is left
+pub enters_cut : (net : Network) (u hops port : ℕ) (node : NodeId) (p : Progress LinearTerm) → hops ≡ 0
+    → onward_of net u hops node port p ≡ arrives (place_at node Inward port) p (over p CutShort)
+enters_cut net u hops port node p h = ap (λ (n : ℕ). onward_of net u n node port p) h
+
+-- a state that arrived at one port more
+pub arrives_at : (s : SymStart) (net : Network) (x y : Symbolic) (node : NodeId) (side : Side) (port : ℕ) (tree : ℕ → SymTree) (stage : Stage)
+    → y ≡ with_place x (place_at node side port)
+    → ((n : ℕ) → tree n ≡ arrives (place_at node side port) (progress_in x n) (stage_tree net stage (with_place x (place_at node side port)) n))
+    → (begun : ℕ) → Reaches (spot_at begun (here_of s x tree)) (spot_at begun (standing_at s net y stage)) y.carried
+arrives_at s net x y node side port tree stage is trees begun =
+    subst (λ (z : Symbolic). Reaches (spot_at begun (here_of s x tree)) (spot_at begun (standing_at s net z stage)) z.carried) (sym is)
+    (reaches_here s x (place_at node side port) tree (stage_tree net stage (with_place x (place_at node side port))) begun (trees begun))
+
+-- ---- links and copies
+
+known : (link : Option (NodeId × ℕ)) → link ≡ option_map port_at (option_map port_of link)
+known None = refl
+known (Some to) = refl
+
+-- where a link leads, from what is told of it
+pub link_known : (link : Option (NodeId × ℕ)) (told : Option Port) → option_map port_of link ≡ told → link ≡ option_map port_at told
+link_known link told e = known link ∙ ap (option_map port_at) e
+
+-- there is a copy for each port
+pub count_of_copies : (net : Network) (u hops : ℕ) (node : NodeId) (ports : List ℕ) (p : Progress LinearTerm)
+    → copy_count (copies (terms u) net (onward_of net u hops) node ports p) ≡ length ports
+count_of_copies net u hops node [] p = refl
+count_of_copies net u hops node (port ∷ ports) p = ap suc (count_of_copies net u hops node ports p)
+
+-- ---- the run of code
+
+-- what a move says, and what is behind the port
+abbrev pub move_tree : Network → Gate → Move Formula → List Frame → Symbolic → ℕ → SymTree
+move_tree net gate move frames x begun =
+    then_tree (course_after (terms x.unknowns) net gate.node view move frames (progress_in x begun)) (behind_gate net x.unknowns gate)
+
+-- at an end
+pub at_end : (net : Network) (gate : Gate) (exit : Exit) (frames : List Frame) (x : Symbolic) (begun : ℕ)
+    → move_tree net gate (Ended exit) frames x begun ≡ behind_gate net x.unknowns gate (exit_of exit) (progress_in x begun)
+at_end net gate exit frames x begun = refl
+
+module _ {P O N D T : Type 0} (v : Views P O N D T) (net : Network) (gate : Gate) (x y : Symbolic) (old new : List Frame) (move : Move Formula)
+    (before after : ℕ) where
+  -- the run came to a move, and from there the engine moves on: so it moves on from where it was
+  pub moves_on : rest_of y ≡ rest_of x
+      → code.GoesOn before after (from (course_frames (terms x.unknowns) net gate.node old) x.carried (choices_of x))
+      (from (course_after (terms x.unknowns) net gate.node view move new) y.carried (choices_of y))
+      → IsRunOf v.start x → (moved : Moved P O N)
+      → ((begun : ℕ) → IsMove v (spot_at begun (here_of v.start y (move_tree net gate move new y))) begun moved)
+      → Moves v (here_of v.start x (inside_tree net gate None old x)) before after moved
+  moves_on same on run moved moves =
+      let unknowns : y.unknowns ≡ x.unknowns = ap (λ (r : Rest). r.unknowns) same in
+      record {
+        raised = on.taken;
+        counted = on.counted;
+        goes = λ begun.
+            let count = begun + on.taken in
+            let grown : Grown (choices_of x) (choices_of y) =
+            grown_at_move (terms x.unknowns) net gate.node view move old new (progress_in x begun) (progress_in y count) (on.same begun) in
+            let widths : Grown x.condition.widths y.condition.widths = wider_by v.start x y same run grown in
+            let tree : move_tree net gate move new y count ≡ inside_tree net gate None old x begun =
+            ap (λ (u : ℕ). then_tree (course_after (terms u) net gate.node view move new (progress_in y count)) (behind_gate net u gate)) unknowns
+            ∙ ap (λ (c : Course LinearTerm FormulaTree). then_tree c (behind_gate net x.unknowns gate)) (on.same begun) in
+            move_from v (spot_at begun (here_of v.start x (inside_tree net gate None old x))) (spot_at count (here_of v.start y (move_tree net gate move new y))) count moved
+            (ap (λ (r : Rest). reverse r.decisions) same) (tests_same v.start x y same) (ap (λ (r : Rest). reverse r.places) same) widths tree (moves count);
+      }
+
+module _ {P O N D T : Type 0} (v : Views P O N D T) (net : Network) (gate : Gate) where
+  -- the same, where the state was taken out of the run
+  pub moves_still : (x taken y : Symbolic) (old new : List Frame) (move : Move Formula) (before after : ℕ) → taken ≡ x → rest_of y ≡ rest_of taken
+      → code.GoesOn before after (from (course_frames (terms taken.unknowns) net gate.node old) taken.carried (choices_of taken))
+      (from (course_after (terms taken.unknowns) net gate.node view move new) y.carried (choices_of y))
+      → IsRunOf v.start x → (moved : Moved P O N)
+      → ((begun : ℕ) → IsMove v (spot_at begun (here_of v.start y (move_tree net gate move new y))) begun moved)
+      → Moves v (here_of v.start x (inside_tree net gate None old x)) before after moved
+  moves_still x taken y old new move before after is same on run moved moves =
+      moves_on v net gate x y old new move before after (same ∙ ap rest_of is)
+      (subst (λ (z : Symbolic). code.GoesOn before after (from (course_frames (terms z.unknowns) net gate.node old) z.carried (choices_of z))
+      (from (course_after (terms z.unknowns) net gate.node view move new) y.carried (choices_of y))) is on)
+      run moved moves
+
+-- ---- exits
+
+-- the same tree in another form
+tree_counted : {P O N D T : Type 0} (v : Views P O N D T) (s : SymStart) (x : Symbolic) (tree other : ℕ → SymTree) (begun count : ℕ) (moved : Moved P O N)
+    → tree begun ≡ other begun → IsMove v (spot_at begun (here_of s x other)) count moved → IsMove v (spot_at begun (here_of s x tree)) count moved
+tree_counted v s x tree other begun count moved e h =
+    subst (λ (t : SymTree). IsMove v (spot_at begun (here_of s x (λ n. t))) count moved) (sym e) h
+
+pub other_tree : {P O N D T : Type 0} (v : Views P O N D T) (s : SymStart) (x : Symbolic) (tree other : ℕ → SymTree) (begun : ℕ) (moved : Moved P O N)
+    → tree begun ≡ other begun → IsMove v (spot_at begun (here_of s x other)) begun moved → IsMove v (spot_at begun (here_of s x tree)) begun moved
+other_tree v s x tree other begun moved e h = tree_counted v s x tree other begun begun moved e h
+
+module _ (net : Network) (u hops : ℕ) (p : Progress LinearTerm) where
+  pub crossed_go : (link : Option (NodeId × ℕ)) (port : ℕ) → crossed (terms u) net (onward_of net u hops) link (go port) p ≡ over p Stopped
+  crossed_go None port = refl
+  crossed_go (Some to) port = refl
+
+  pub crossed_forked : (link : Option (NodeId × ℕ)) (ports : List ℕ) → crossed (terms u) net (onward_of net u hops) link (forked ports) p ≡ over p Stopped
+  crossed_forked None ports = refl
+  crossed_forked (Some to) ports = refl
+
+  pub crossed_failed : (link : Option (NodeId × ℕ)) (failure : Failure) (site : ℕ)
+      → crossed (terms u) net (onward_of net u hops) link (failed failure site) p ≡ over p (Failed failure (record { 0 = site }))
+  crossed_failed None failure site = refl
+  crossed_failed (Some to) failure site = refl
+
+-- no instruction began
+pub at_once : {P O N D T : Type 0} (v : Views P O N D T) (s : SymStart) (x : Symbolic) (tree other : ℕ → SymTree) (steps : ℕ) (moved : Moved P O N)
+    → ((begun : ℕ) → tree begun ≡ other begun) → ((begun : ℕ) → IsMove v (spot_at begun (here_of s x other)) begun moved)
+    → Moves v (here_of s x tree) steps steps moved
+at_once v s x tree other steps moved same moves = record {
+  raised = 0;
+  counted = omega arith;
+  goes = λ begun.
+      let none : begun ≡ begun + 0 = omega arith in
+      tree_counted v s x tree other begun (begun + 0) moved (same begun) (subst (λ (n : ℕ). IsMove v (spot_at begun (here_of s x other)) n moved) none (moves begun));
+}

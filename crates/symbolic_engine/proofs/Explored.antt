@@ -1,0 +1,143 @@
+-- What explorations answer, for the net.
+use Rattle.std.proofs.Common.{◌≡◌, ℕ, ◌+◌, ◌≤◌, inl, inr, true, List, [], ◌∷◌, ◌++◌, length, map, Result, Ok, Err, IfOk, arith, refl, sym, ap, subst, ◌∙◌}
+use Rattle.sefl_meaning.specs.declared.walk.Decision.{Decision}
+use Rattle.sefl_meaning.specs.declared.walk.Place.{Place}
+use Rattle.sefl_meaning.specs.Courses.{Progress}
+use Rattle.sefl_meaning.specs.Network.{Network, Entry}
+use Rattle.sefl_meaning.specs.Runs.{starting}
+use Rattle.sefl_meaning.specs.Start.{progress_of}
+use Rattle.sefl_meaning.specs.Trees.{enter}
+use Rattle.term_values.specs.TermValues.{terms}
+use Rattle.lin_term.specs.Terms.{LinearTerm}
+use Rattle.path_records.specs.declared.records.Record.{Record}
+use Rattle.exact_records.specs.Laws.{ExactRecordsShowWalks}
+use Rattle.exact_records.specs.Packets.{IsExplored}
+use Rattle.exact_records.specs.Records.{SymStart, SymTree, condition_on}
+use Rattle.exact_records.specs.View.{record_tree, record_trees}
+use Rattle.exact_records.specs.Work.{work_of}
+use Rattle.sym_state.specs.Beginning.{Begins, start_in}
+use Rattle.sym_state.specs.Symbolic.{Symbolic}
+use Rattle.path_exec.specs.declared.engine.Offer.{Offer}
+use Rattle.path_exec.specs.declared.exploration.Ended.{Ended}
+use Rattle.path_exec.specs.declared.exploration.Ended.TheVariants.{Whole, Partial, Stopped}
+use Rattle.path_exec.specs.Ending.{Explored}
+use Rattle.path_exec.specs.Following.{IsLed}
+use Rattle.path_exec.specs.Here.{spot_at}
+use Rattle.path_exec.specs.Offers.{IsNode}
+use Rattle.path_exec.specs.Receiving.{Receiving}
+use Rattle.path_exec.specs.Visiting.{AreVisits}
+use Rattle.symbolic_engine.specs.declared.spots.Standing.{Standing}
+use Rattle.symbolic_engine.specs.declared.guiding.Waits.{Waits}
+use Rattle.symbolic_engine.specs.declared.stage.Wait.{Wait}
+use Rattle.symbolic_engine.specs.declared.stage.Wait.TheVariants.{Asked, Forked}
+use Rattle.symbolic_engine.specs.Stages.{wait_tree}
+use Rattle.symbolic_engine.specs.Origins.{IsFirstState, IsRunOf, condition_seen, here_of}
+use Rattle.symbolic_engine.specs.Seeing.{views_of}
+use Rattle.symbolic_engine.specs.Exploring.{AreFound, ExploredFor, LeadsThere, WaitsAs}
+use Rattle.symbolic_engine.proofs.Running.{all_tests}
+
+-- ---- the start
+
+-- the state of an injection is the first of what is explored there
+pub first_of : (net : Network) (i : Entry) (hops : ℕ) (x : Symbolic) → Begins net i x → IsFirstState (start_in net i hops x) net hops i.node i.own.port x
+first_of net i hops x begins = record {
+  unknowns = refl;
+  tests = refl;
+  tree = ap (λ (u : ℕ). enter (terms u) net hops i.node i.own.port (starting x.carried)) (sym begins.unknown_fields);
+  true_tests = begins.true_tests;
+  fields = begins.unknown_fields ∙ ap length (sym begins.widths);
+  decisions = begins.decisions;
+  places = begins.places;
+}
+
+ok_same : {A E : Type 0} {x y : A} → Ok {E = E} x ≡ Ok y → x ≡ y
+ok_same e = cc e
+
+-- ---- records
+
+module _ (net : Network) (i : Entry) (hops : ℕ) where
+  one_start : (s t : SymStart) → IsExplored net i hops s → IsExplored net i hops t → s ≡ t
+  one_start s t a b = ok_same (sym a ∙ b)
+
+  spent_for : (s t : SymStart) (xs : List Record) (before after : ℕ) → IsExplored net i hops s → IsExplored net i hops t
+      → after ≤ before + work_of s (record_trees xs) → after ≤ before + work_of t (record_trees xs)
+  spent_for s t xs before after a b h = subst (λ (u : SymStart). after ≤ before + work_of u (record_trees xs)) (one_start s t a b) h
+
+  module _ {B E : Type 0} (own : Network) (s : SymStart) (laws : ExactRecordsShowWalks net i hops) (is : IsExplored net i hops s) (limit stops : ℕ)
+      (m : Receiving Record) (before after : ℕ) where
+    -- what is exact for the start is exact for the net
+    pub explored_for : (r : Result Ended E) → Explored (views_of {B} s own) limit stops m before after r → ExploredFor net i hops limit stops m before after r
+    explored_for (Ok Whole) h =
+        let exact = laws.exact s limit (record_trees h.items) is h.exact in
+        record { items = h.items; stands = h.stands; exact = exact; tried = h.tried; spent = spent_for s exact.start h.items before after is exact.explored h.spent }
+    explored_for (Ok Partial) h =
+        let exact = laws.exact s limit (record_trees h.items) is h.exact in
+        record { items = h.items; stands = h.stands; exact = exact; untried = h.untried; spent = spent_for s exact.start h.items before after is exact.explored h.spent }
+    explored_for (Ok Stopped) h =
+        let exact = laws.up_to s (record_trees h.items) (record_tree h.last) is h.exact in
+        record {
+          items = h.items;
+          last = h.last;
+          stopped = h.stopped;
+          exact = exact;
+          cause = h.cause;
+          spent = spent_for s exact.start (h.items ++ h.last ∷ []) before after is exact.explored h.spent;
+        }
+    explored_for (Err e) h = record { items = h.items; stands = h.stands; exact = laws.so_far s (record_trees h.items) is h.exact }
+
+-- ---- where decisions lead
+
+module _ (s : SymStart) (ds : List Decision) (x : Symbolic) (tree : ℕ → SymTree) (begun : ℕ) (run : IsRunOf s x)
+    (led : IsLed s ds (spot_at begun (here_of s x tree))) where
+  condition_led : condition_seen x ≡ condition_on s led.way
+  condition_led =
+      let widths = led.widths ∙ ap (λ (t : SymTree). s.unknowns ++ (progress_of t).choices) (sym led.left) in
+      let entries = sym (all_tests s x run) ∙ ap (λ l. map (λ f. (f, true)) s.tests ++ l) (sym led.tests) in
+      λ j. record { widths = widths j; entries = entries j }
+
+  pub leads_there : (waits : Waits) → WaitsAs waits led.way.left x → (progress_of (tree begun)).state ≡ x.carried
+      → LeadsThere s ds (record { state = x; waits = waits })
+  leads_there waits as' carries = record {
+    way = led.way;
+    leads = led.leads;
+    waits = as';
+    carries = ap (λ (t : SymTree). (progress_of t).state) led.left ∙ carries;
+    decisions = led.decisions;
+    places = sym led.places;
+    condition = condition_led;
+  }
+
+-- the states of places that were visited
+pub states_visit : {B : Type 0} (port : Place) (arrivals : List (Place × Progress LinearTerm)) (places : List (Standing B)) (states : List Symbolic)
+    → states ≡ map (λ (place : Standing B). place.run) places
+    → AreVisits (λ (place : Standing B). place.run.carried) port arrivals places → AreVisits (λ (x : Symbolic). x.carried) port arrivals states
+states_visit port [] places states is none = is ∙ ap (map (λ place. place.run)) none
+states_visit port (arrival ∷ arrivals) places states is (inl v) = inl (record {
+  first = v.first.run;
+  rest = map (λ place. place.run) v.rest;
+  is = is ∙ ap (map (λ place. place.run)) v.is;
+  at = v.at;
+  carries = v.carries;
+  others = states_visit port arrivals v.rest (map (λ place. place.run) v.rest) refl v.others;
+})
+states_visit port (arrival ∷ arrivals) places states is (inr v) = inr (v.0, states_visit port arrivals places states is v.1)
+
+-- a node stays what it is
+pub at_wait : (offer : Offer) (t u : SymTree) → t ≡ u → IsNode offer u → IsNode offer t
+at_wait offer t u e h = subst (IsNode offer) (sym e) h
+
+-- what a list that was kept is
+pub kept_found : {E : Type 0} (net : Network) (i : Entry) (hops limit : ℕ) (m : Receiving Record) (kept : List Record) (before after : ℕ) (r : Result Ended E)
+    → ((xs : List Record) → m.StandsFor xs → kept ≡ xs) → m.stops ≡ 0 → ExploredFor net i hops limit 0 m before after r
+    → IfOk r (λ e. AreFound net i hops limit before after kept)
+kept_found net i hops limit m kept before after (Ok Whole) stands none h =
+    subst (λ (xs : List Record). AreFound net i hops limit before after xs) (sym (stands h.items h.stands)) (record { exact = h.exact; spent = h.spent })
+kept_found net i hops limit m kept before after (Ok Partial) stands none h =
+    subst (λ (xs : List Record). AreFound net i hops limit before after xs) (sym (stands h.items h.stands)) (record { exact = h.exact; spent = h.spent })
+kept_found net i hops limit m kept before after (Ok Stopped) stands none h = absurd (let c = h.cause in omega (arith, c, none))
+kept_found net i hops limit m kept before after (Err e) stands none h = tt
+
+-- what is carried where a run waits
+pub wait_carries : (net : Network) (wait : Wait) (x : Symbolic) (begun : ℕ) → (progress_of (wait_tree net wait x begun)).state ≡ x.carried
+wait_carries net (Asked gate question test frames) x begun = refl
+wait_carries net (Forked node hops ports) x begun = refl

@@ -1,0 +1,9 @@
+pub mod Growing
+pub mod Running
+pub mod Arrivals
+pub mod Asking
+pub mod Turns
+pub mod Bases
+pub mod Engaging
+pub mod Filling
+pub mod Explored

@@ -1,0 +1,20 @@
+use Rattle.std.proofs.Common.{◌≡◌, sym, subst, true}
+use Rattle.path_formula.specs.Formulas.{FormulaTree}
+use Rattle.path_formula.specs.Typed.{IsTyped}
+use Rattle.path_formula.specs.View.{view}
+use Rattle.symbolic_engine.specs.declared.stage.Wait.{Wait}
+use Rattle.symbolic_engine.specs.Stages.{has_typed_test}
+use Rattle.symbolic_engine.specs.Turning.{IsNoted}
+use Rattle.symbolic_engine.proofs.turning.with_decision.Goals as goal
+
+pub constrain-requires : goal.constrain-requires
+constrain-requires c =
+    let x = c.args.state in
+    let typed = subst (λ (wait : Wait). has_typed_test x wait ≡ true) c.in-Asked.is c.requires.typed in
+    subst (λ (f : FormulaTree). IsTyped x.condition.widths f) (sym c.in_ok-formula.ensures.same)
+    ((c.the_tests_of_types.ensures.formula x.condition.widths (view c.in-Asked.test.now)).0 typed)
+
+pub returns-in-Asked : goal.returns-in-Asked
+returns-in-Asked c =
+    subst (λ (wait : Wait). IsNoted wait c.args.state c.args.decision c.constrain.new.self) (sym c.in-Asked.is)
+    (c.in_ok-formula.formula, c.in_ok-formula.ensures.same, c.in_ok-constrain.ensures.decided)

@@ -1,0 +1,110 @@
+-- What explorations of a net and an injection answer.
+use Rattle.std.specs.Prelude.{ℕ, ◌≡◌, ◌<◌, ◌≤◌, ◌+◌, List, [], ◌∷◌, ◌++◌, reverse, Result, Ok, Err, Some}
+use Rattle.std.specs.Global.{Vec}
+use Rattle.std.specs.List.{AllByRecursion}
+use Rattle.sefl_meaning.specs.declared.walk.Decision.{Decision}
+use Rattle.sefl_meaning.specs.declared.walk.Place.{Place}
+use Rattle.sefl_meaning.specs.Network.{Network, Entry}
+use Rattle.sefl_meaning.specs.Routes.{IsFirstClosed, places_on, route}
+use Rattle.sefl_meaning.specs.Start.{progress_of}
+use Rattle.sefl_meaning.specs.Trees.{over}
+use Rattle.path_records.specs.declared.records.Record.{Record}
+use Rattle.exact_records.specs.Exact.{IsTried, IsUnexplored, SomeOne}
+use Rattle.exact_records.specs.Packets.{AreExactFor, AreExactSoFarFor, AreExactUpToFor, IsExplored}
+use Rattle.exact_records.specs.Records.{SymRoute, SymStart, SymTree, condition_on}
+use Rattle.exact_records.specs.View.{record_tree, record_trees}
+use Rattle.exact_records.specs.Work.{work_of}
+use Rattle.sym_state.specs.Symbolic.{Symbolic}
+use Rattle.path_exec.specs.declared.exploration.Ended.{Ended}
+use Rattle.path_exec.specs.declared.exploration.Ended.TheVariants.{Whole, Partial, Stopped}
+use Rattle.path_exec.specs.declared.guided.FollowFault.{FollowFault}
+use Rattle.path_exec.specs.declared.guided.FollowFault.TheVariants.{Impossible, NoMemory}
+use Rattle.path_exec.specs.Offers.{IsNode}
+use Rattle.path_exec.specs.Receiving.{Receiving}
+use Rattle.path_exec.specs.Visiting.{AreVisits}
+use Rattle.symbolic_engine.specs.declared.guiding.Led.{Led}
+use Rattle.symbolic_engine.specs.declared.guiding.Waits.{Waits}
+use Rattle.symbolic_engine.specs.declared.guiding.Waits.TheVariants.{Nothing, Decides}
+use Rattle.symbolic_engine.specs.Origins.{condition_seen, progress_in}
+
+module _ (net : Network) (i : Entry) (hops : ℕ) where
+  -- the receiver stands for exact records of the net, of which none is left out
+  pub record EndsWholeFor (limit : ℕ) (m : Receiving Record) (before after : ℕ) : Type 0 where
+    pub items : List Record
+    pub stands : m.StandsFor items
+    pub exact : AreExactFor net i hops limit (record_trees items)
+    pub tried : AllByRecursion IsTried (record_trees items)
+    pub spent : after ≤ before + work_of exact.start (record_trees items)
+
+  -- it stands for exact records, of which some is left out
+  pub record EndsPartialFor (limit : ℕ) (m : Receiving Record) (before after : ℕ) : Type 0 where
+    pub items : List Record
+    pub stands : m.StandsFor items
+    pub exact : AreExactFor net i hops limit (record_trees items)
+    pub untried : SomeOne IsUnexplored (record_trees items)
+    pub spent : after ≤ before + work_of exact.start (record_trees items)
+
+  -- it stopped in records that are exact up to the last one
+  pub record EndsStoppedFor (stops : ℕ) (m : Receiving Record) (before after : ℕ) : Type 0 where
+    pub items : List Record
+    pub last : Record
+    pub stopped : m.StoppedIn (items ++ last ∷ [])
+    pub exact : AreExactUpToFor net i hops (record_trees items) (record_tree last)
+    pub cause : stops < m.stops
+    pub spent : after ≤ before + work_of exact.start (record_trees (items ++ last ∷ []))
+
+  -- it stands for records that are exact so far
+  pub record EndsEarlyFor (m : Receiving Record) : Type 0 where
+    pub items : List Record
+    pub stands : m.StandsFor items
+    pub exact : AreExactSoFarFor net i hops (record_trees items)
+
+  -- how an exploration ends, where the receiver had stopped so often before it
+  abbrev pub ExploredFor : {E : Type 0} → ℕ → ℕ → Receiving Record → ℕ → ℕ → Result Ended E → Type 0
+  ExploredFor limit stops m before after (Ok Whole) = EndsWholeFor limit m before after
+  ExploredFor limit stops m before after (Ok Partial) = EndsPartialFor limit m before after
+  ExploredFor limit stops m before after (Ok Stopped) = EndsStoppedFor stops m before after
+  ExploredFor limit stops m before after (Err e) = EndsEarlyFor m
+
+  -- the list is exact for the net, and so much was spent
+  pub record AreFound (limit before after : ℕ) (records : List Record) : Type 0 where
+    pub exact : AreExactFor net i hops limit (record_trees records)
+    pub spent : after ≤ before + work_of exact.start (record_trees records)
+
+-- the run is over so, or waits so
+abbrev pub WaitsAs : Waits → SymTree → Symbolic → Type 0
+WaitsAs (Nothing how) t x = (begun : ℕ) × (t ≡ over (progress_in x begun) how)
+WaitsAs (Decides offer) t x = IsNode offer t
+
+-- these decisions lead to this state, by its ports and its formulas, and this waits there
+pub record LeadsThere (start : SymStart) (ds : List Decision) (led : Led) : Type 0 where
+  pub way : SymRoute
+  pub leads : route start.tree ds ≡ Some way
+  pub waits : WaitsAs led.waits way.left led.state
+  pub carries : (progress_of way.left).state ≡ led.state.carried
+  pub decisions : reverse led.state.decisions ≡ ds
+  pub places : reverse led.state.places ≡ places_on way
+  pub condition : condition_seen led.state ≡ condition_on start way
+
+-- by these states they arrive at the port
+pub record ArrivesBy (start : SymStart) (port : Place) (ds : List Decision) (states : List Symbolic) : Type 0 where
+  pub way : SymRoute
+  pub leads : route start.tree ds ≡ Some way
+  pub visits : AreVisits (λ (x : Symbolic). x.carried) port way.arrivals states
+
+module _ (net : Network) (i : Entry) (hops : ℕ) where
+  -- where decisions lead, or the first that is not offered
+  pub record FollowsTo (Holds : SymStart → Type 0) : Type 0 where
+    pub start : SymStart
+    pub explored : IsExplored net i hops start
+    pub holds : Holds start
+
+  abbrev pub FollowedFor : List Decision → Result Led FollowFault → Type 0
+  FollowedFor ds (Ok led) = FollowsTo (λ start. LeadsThere start ds led)
+  FollowedFor ds (Err (Impossible index)) = FollowsTo (λ start. IsFirstClosed start.tree ds index)
+  FollowedFor ds (Err NoMemory) = Unit {0}
+
+  abbrev pub ArrivedFor : Place → List Decision → Result (Vec Symbolic) FollowFault → Type 0
+  ArrivedFor port ds (Ok states) = FollowsTo (λ start. ArrivesBy start port ds states.items)
+  ArrivedFor port ds (Err (Impossible index)) = FollowsTo (λ start. IsFirstClosed start.tree ds index)
+  ArrivedFor port ds (Err NoMemory) = Unit {0}

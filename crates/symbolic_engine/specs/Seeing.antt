@@ -1,0 +1,42 @@
+-- What the engine's values are seen as.
+use Rattle.net_check.specs.Network.{Network}
+use Rattle.refutation_check.specs.declared.outcome.Verdict.{Verdict}
+use Rattle.sefl_meaning.specs.declared.walk.End.{End}
+use Rattle.sefl_meaning.specs.Trees.{over}
+use Rattle.path_records.specs.declared.records.Record.{Record}
+use Rattle.exact_records.specs.Records.{SymStart}
+use Rattle.exact_records.specs.View.{record_tree}
+use Rattle.sym_state.specs.Symbolic.{Symbolic}
+use Rattle.path_exec.specs.Here.{Here}
+use Rattle.path_exec.specs.Views.{Views}
+use Rattle.symbolic_engine.specs.declared.spots.Finished.{Finished}
+use Rattle.symbolic_engine.specs.declared.spots.Standing.{Standing}
+use Rattle.symbolic_engine.specs.declared.spots.Waiting.{Waiting}
+use Rattle.symbolic_engine.specs.declared.stage.Stage.{Stage}
+use Rattle.symbolic_engine.specs.declared.stage.Wait.{Wait}
+use Rattle.symbolic_engine.specs.Origins.{here_of, progress_in}
+use Rattle.symbolic_engine.specs.Stages.{stage_tree, wait_tree}
+
+module _ (s : SymStart) (net : Network) where
+  -- where a state is at a stage, where it waits, and where its run is over
+  abbrev pub standing_at : Symbolic → Stage → Here
+  standing_at x stage = here_of s x (stage_tree net stage x)
+
+  abbrev pub waiting_at : Symbolic → Wait → Here
+  waiting_at x wait = here_of s x (wait_tree net wait x)
+
+abbrev pub finished_at : SymStart → Symbolic → End → Here
+finished_at s x how = here_of s x (λ begun. over (progress_in x begun) how)
+
+-- a receiver of records takes each of them
+abbrev pub views_of : {B : Type 0} → SymStart → Network → Views (Standing B) (Finished B) (Waiting B) Verdict Record
+views_of s net = record {
+  start = s;
+  place_at = λ place. standing_at s net place.run place.stage;
+  carried_at = λ place. place.run.carried;
+  over_at = λ ended. finished_at s ended.run ended.how;
+  node_at = λ node. waiting_at s net node.run node.wait;
+  verdict_of = λ verdict. verdict;
+  record_of = record_tree;
+  IsOwn = λ made. Unit {0};
+}

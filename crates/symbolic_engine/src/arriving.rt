@@ -1,0 +1,257 @@
+//! Ports that a run arrives at, and what comes behind their code.
+
+ghost use Rattle.std.specs.Prelude.{◌≡◌, ℕ, reverse, IfOk};
+ghost use Rattle.lin_term.specs.Terms.{LinearTerm};
+ghost use Rattle.path_formula.specs.Formulas.{FormulaTree};
+ghost use Rattle.sefl_syntax.specs.Views.{code_tree};
+ghost use Rattle.sefl_syntax.specs.declared.net.Side.TheVariants.{Inward as AtInput, Outward as AtOutput};
+ghost use Rattle.net_check.specs.Network.{Network, code_at, network};
+ghost use Rattle.sefl_meaning.specs.Courses.{Progress};
+ghost use Rattle.sefl_meaning.specs.Network.{code_of};
+ghost use Rattle.sefl_meaning.specs.Trees.{leave, over, port_course};
+ghost use Rattle.sefl_meaning.specs.Values.{Values};
+ghost use Rattle.sefl_meaning.specs.Walks.{place_at};
+ghost use Rattle.sym_state.specs.Symbolic.{with_place};
+ghost use Rattle.sefl_meaning.specs.declared.walk.End.TheVariants.{Failed as FailedAt};
+ghost use Rattle.term_values.specs.TermValues.{terms};
+ghost use Rattle.code_frames.specs.Frames.{course_frames, exit_of};
+ghost use Rattle.path_exec.specs.Here.{spot_at};
+ghost use Rattle.path_exec.specs.Moves.{IsMove, Reaches};
+ghost use Rattle.symbolic_engine.specs.Origins.{here_of, progress_in};
+ghost use Rattle.symbolic_engine.specs.Stages.{behind_gate, behind_side, onward_of, wait_tree};
+ghost use Rattle.symbolic_engine.specs.declared.stage.Wait.TheVariants.{Forked as ForkedAt};
+ghost use Rattle.symbolic_engine.specs.Seeing.{standing_at, views_of};
+
+use crate::origin::{Origin, Run};
+use crate::spots::{Finished, Standing, Waiting};
+use crate::stage::{Gate, Stage, Wait};
+use code_frames::{Exit, Frame};
+use net_check::Net;
+use net_tables::behind_item;
+use path_exec::engine::{Moved, Next, Offer};
+use sefl_meaning::{End, Failure, Place};
+use sefl_syntax::{Instr, Side};
+use sn_tree::Shared;
+use sn_width::{NoMemory, NodeId, Site};
+use std::alloc::Global;
+
+/// The site of a port's code; 0 where it has none.
+fn code_site(net: &Net, node: NodeId, side: Side, port: u32) -> u32
+    ensures { result ≡ (code_of (network net.now) node side port).0 }
+{
+    match net.code_site(node, side, port) {
+        None => 0,
+        Some(site) => site.0,
+    }
+}
+
+/// The code of a port; none where there is no such node.
+fn code_of<'a>(net: &'a Net, node: NodeId, side: Side, port: u32) -> &'a [Instr]
+    ensures { code_tree result.now ≡ code_at (network net.now) node side port }
+{
+    if node.0 >= net.node_count() {
+        return &[];
+    }
+    net.code(node, side, port)
+}
+
+/// The code of a port, as it is to run.
+fn port_frames<'a>(
+    alloc: Global,
+    net: &'a Net,
+    node: NodeId,
+    side: Side,
+    port: u32,
+) -> Result<Vec<Frame<'a>>, NoMemory>
+    ensures { IfOk result (λ frames. (o : Values LinearTerm FormulaTree) (p : Progress LinearTerm)
+        → course_frames o (network net.now) node (reverse frames.items) p ≡ port_course o (network net.now) node side port p) }
+{
+    let site = behind_item(code_site(net, node, side, port))?;
+    let code = code_of(net, node, side, port);
+    let turns = Shared::empty();
+    let mut frames = Vec::new(alloc);
+    frames.push(Frame::Code { turns, site, code })?;
+    Ok(frames)
+}
+
+/// The run, with one port more that it arrived at.
+fn arrived<B: Origin>(
+    alloc: Global,
+    run: Run<B>,
+    node: NodeId,
+    side: Side,
+    port: u32,
+) -> Result<Run<B>, NoMemory>
+    ensures { IfOk result (λ there. there ≡ with_place run (place_at node side port)) }
+{
+    let mut state = run.into_state();
+    state.arrive(alloc, Place { node, side, port })?;
+    Ok(Run::<B>::of(state))
+}
+
+/// Arrives at an input port, with so many hops left.
+pub(crate) fn enter<'a, B: Origin>(
+    alloc: Global,
+    net: &'a Net,
+    run: Run<B>,
+    node: NodeId,
+    port: u32,
+    hops: u32,
+) -> Result<Standing<'a, B>, NoMemory>
+    ensures { IfOk result (λ there. (begun : ℕ) → Reaches
+        (spot_at begun (here_of B.start run (λ n. onward_of (network net.now) run.unknowns hops node port (progress_in run n))))
+        (spot_at begun (standing_at B.start (network net.now) there.run there.stage)) there.run.carried) }
+{
+    let side = Side::Inward;
+    let run = arrived(alloc, run, node, side, port)?;
+    if hops == 0 {
+        let stage = Stage::Cut;
+        return Ok(Standing { run, stage });
+    }
+    let frames = port_frames(alloc, net, node, side, port)?;
+    let gate = Gate {
+        node,
+        side,
+        port,
+        hops: hops - 1,
+    };
+    let left = None;
+    let stage = Stage::Inside { gate, left, frames };
+    Ok(Standing { run, stage })
+}
+
+/// Arrives at an output port, with so many hops left behind its link.
+pub(crate) fn leave<'a, B: Origin>(
+    alloc: Global,
+    net: &'a Net,
+    run: Run<B>,
+    node: NodeId,
+    port: u32,
+    hops: u32,
+) -> Result<Standing<'a, B>, NoMemory>
+    ensures { IfOk result (λ there. (begun : ℕ) → Reaches
+        (spot_at begun (here_of B.start run (λ n. leave (terms run.unknowns) (network net.now) (onward_of (network net.now) run.unknowns hops) node port (progress_in run n))))
+        (spot_at begun (standing_at B.start (network net.now) there.run there.stage)) there.run.carried) }
+{
+    let side = Side::Outward;
+    let run = arrived(alloc, run, node, side, port)?;
+    let frames = port_frames(alloc, net, node, side, port)?;
+    let gate = Gate {
+        node,
+        side,
+        port,
+        hops,
+    };
+    let left = None;
+    let stage = Stage::Inside { gate, left, frames };
+    Ok(Standing { run, stage })
+}
+
+/// The run is over.
+pub(crate) fn ended<'a, B: Origin>(
+    run: Run<B>,
+    how: End,
+) -> Moved<Standing<'a, B>, Finished<B>, Waiting<'a, B>>
+    ensures { (own : Network) (begun : ℕ) → IsMove (views_of B.start own) (spot_at begun (here_of B.start run (λ n. over (progress_in run n) how))) begun result }
+{
+    run.is_own();
+    let over = Finished { run, how };
+    let next = Next::AtEnd { over };
+    Moved::Stopped { next }
+}
+
+/// The run waits for a copy.
+fn forked<'a, B: Origin>(
+    run: Run<B>,
+    node: NodeId,
+    hops: u32,
+    ports: &'a [u32],
+) -> Result<Moved<Standing<'a, B>, Finished<B>, Waiting<'a, B>>, NoMemory>
+    ensures { IfOk result (λ moved. (own : Network) (begun : ℕ) → IsMove (views_of B.start own)
+        (spot_at begun (here_of B.start run (λ n. wait_tree own (ForkedAt node hops ports.entry) run n))) begun moved) }
+{
+    let Ok(copies) = u32::try_from(ports.len()) else {
+        return Err(NoMemory);
+    };
+    run.is_own();
+    let wait = Wait::Forked { node, hops, ports };
+    let node = Waiting { run, wait };
+    let offer = Offer::Fork { copies };
+    let next = Next::AtNode { node, offer };
+    Ok(Moved::Stopped { next })
+}
+
+/// The end of a run that failed at a site.
+fn failed_at(failure: Failure, site: u32) -> End
+    ensures { result ≡ FailedAt failure (record { 0 = site }) }
+{
+    End::Failed {
+        failure,
+        site: Site(site),
+    }
+}
+
+/// Goes on where the code of a port has come to its exit.
+pub(crate) fn behind<'a, B: Origin>(
+    alloc: Global,
+    net: &'a Net,
+    run: Run<B>,
+    gate: Gate,
+    exit: Exit<'a>,
+) -> Result<Moved<Standing<'a, B>, Finished<B>, Waiting<'a, B>>, NoMemory>
+    ensures { IfOk result (λ moved. (begun : ℕ) → IsMove (views_of B.start (network net.now))
+        (spot_at begun (here_of B.start run (λ n. behind_gate (network net.now) run.unknowns gate (exit_of exit.entry) (progress_in run n)))) begun moved) }
+{
+    match gate.side {
+        Side::Inward => passed(alloc, net, run, gate, exit),
+        Side::Outward => crossed(alloc, net, run, gate, exit),
+    }
+}
+
+/// Behind the code of an input port.
+fn passed<'a, B: Origin>(
+    alloc: Global,
+    net: &'a Net,
+    run: Run<B>,
+    gate: Gate,
+    exit: Exit<'a>,
+) -> Result<Moved<Standing<'a, B>, Finished<B>, Waiting<'a, B>>, NoMemory>
+    ensures { IfOk result (λ moved. (begun : ℕ) → IsMove (views_of B.start (network net.now))
+        (spot_at begun (here_of B.start run (λ n. behind_side (network net.now) run.unknowns gate.node gate.port gate.hops AtInput (exit_of exit.entry) (progress_in run n)))) begun moved) }
+{
+    match exit {
+        Exit::Off => Ok(ended(run, End::Stopped)),
+        Exit::Go(port) => {
+            let place = leave(alloc, net, run, gate.node, port, gate.hops)?;
+            Ok(Moved::Arrived { place })
+        }
+        Exit::Forked(ports) => forked(run, gate.node, gate.hops, ports),
+        Exit::Failed { failure, site } => Ok(ended(run, failed_at(failure, site))),
+    }
+}
+
+/// Behind the code of an output port.
+fn crossed<'a, B: Origin>(
+    alloc: Global,
+    net: &'a Net,
+    run: Run<B>,
+    gate: Gate,
+    exit: Exit<'a>,
+) -> Result<Moved<Standing<'a, B>, Finished<B>, Waiting<'a, B>>, NoMemory>
+    ensures { IfOk result (λ moved. (begun : ℕ) → IsMove (views_of B.start (network net.now))
+        (spot_at begun (here_of B.start run (λ n. behind_side (network net.now) run.unknowns gate.node gate.port gate.hops AtOutput (exit_of exit.entry) (progress_in run n)))) begun moved) }
+{
+    match exit {
+        Exit::Off => match net.link(gate.node, gate.port) {
+            None => Ok(ended(run, End::Delivered)),
+            Some((node, port)) => {
+                let place = enter(alloc, net, run, node, port, gate.hops)?;
+                Ok(Moved::Arrived { place })
+            }
+        },
+        Exit::Failed { failure, site } => Ok(ended(run, failed_at(failure, site))),
+        // Forward and Fork do not stand at an output port.
+        Exit::Go(_) => Ok(ended(run, End::Stopped)),
+        Exit::Forked(_) => Ok(ended(run, End::Stopped)),
+    }
+}

@@ -1,0 +1,141 @@
+//! The runs that decisions guide.
+
+ghost use Rattle.std.specs.Prelude.{◌≡◌, map, IfOk};
+ghost use Rattle.net_check.specs.Network.{entry, network};
+ghost use Rattle.net_check.specs.Sound.{AreOfOneJob};
+ghost use Rattle.exact_records.specs.Packets.{IsExplored};
+ghost use Rattle.symbolic_engine.specs.Origins.{IsFirstState};
+ghost use Rattle.symbolic_engine.specs.Exploring.{ArrivedFor, FollowedFor};
+
+use crate::engine::Explorer;
+use crate::origin::Origin;
+use crate::spots::{Finished, Standing, Waiting};
+use net_check::{Injection, Net};
+use path_exec::FollowFault;
+use path_exec::engine::{Next, Offer};
+use sefl_meaning::{Decision, End, Place};
+use sn_width::{NoMemory, Steps};
+use std::alloc::Global;
+use std::marker::Brand;
+use std::sync::ledger::Ledger;
+use sym_state::SymState;
+
+/// What waits where decisions lead.
+#[derive(Drop)]
+pub enum Waits {
+    /// Nothing, the run is over.
+    Nothing { how: End },
+    /// An instruction that takes one of these decisions.
+    Decides { offer: Offer },
+}
+
+/// Where decisions lead.
+#[derive(Drop)]
+pub struct Led {
+    pub state: SymState,
+    pub waits: Waits,
+}
+
+/// The state to which these decisions lead, and what waits there; or the first decision that is not offered.
+pub fn follow<L: Ledger>(
+    alloc: Global,
+    net: &Net,
+    injection: &Injection,
+    hops: u32,
+    decisions: &[Decision],
+    steps: &mut Steps<L>,
+) -> Result<Led, FollowFault>
+    requires { AreOfOneJob (network net.now) (entry injection.now) }
+    ensures { FollowedFor (network net.now) (entry injection.now) hops decisions.now result }
+{
+    let first = SymState::from_injection(alloc, net, injection)?;
+    follow_from::<Brand, L>(alloc, net, injection, hops, first, decisions, steps)
+}
+
+/// The same from the state that the injection begins with.
+fn follow_from<B: Origin, L: Ledger>(
+    alloc: Global,
+    net: &Net,
+    injection: &Injection,
+    hops: u32,
+    first: SymState,
+    decisions: &[Decision],
+    steps: &mut Steps<L>,
+) -> Result<Led, FollowFault>
+    requires net { network net.now ≡ B.net }
+    requires explored { IsExplored (network net.now) (entry injection.now) hops B.start }
+    requires first { IsFirstState B.start (network net.now) hops injection.now.node injection.now.raw.port first }
+    ensures { FollowedFor (network net.now) (entry injection.now) hops decisions.now result }
+{
+    let engine = Explorer::<B>::new(alloc, net, injection.place(), hops, first);
+    let next = path_exec::follow(alloc, &engine, decisions, steps)?;
+    match next {
+        Next::AtEnd { over } => {
+            let Finished { run, how } = over;
+            let state = run.into_state();
+            let waits = Waits::Nothing { how };
+            Ok(Led { state, waits })
+        }
+        Next::AtNode { node, offer } => {
+            let Waiting { run, wait: _ } = node;
+            let state = run.into_state();
+            let waits = Waits::Decides { offer };
+            Ok(Led { state, waits })
+        }
+    }
+}
+
+/// The states in which the run of these decisions arrives at the port, before the port's code, in order; or the first decision
+/// that is not offered.
+pub fn arrivals<L: Ledger>(
+    alloc: Global,
+    net: &Net,
+    injection: &Injection,
+    hops: u32,
+    decisions: &[Decision],
+    port: Place,
+    steps: &mut Steps<L>,
+) -> Result<Vec<SymState>, FollowFault>
+    requires { AreOfOneJob (network net.now) (entry injection.now) }
+    ensures { ArrivedFor (network net.now) (entry injection.now) hops port decisions.now result }
+{
+    let first = SymState::from_injection(alloc, net, injection)?;
+    arrivals_from::<Brand, L>(alloc, net, injection, hops, first, decisions, port, steps)
+}
+
+/// The same from the state that the injection begins with.
+fn arrivals_from<B: Origin, L: Ledger>(
+    alloc: Global,
+    net: &Net,
+    injection: &Injection,
+    hops: u32,
+    first: SymState,
+    decisions: &[Decision],
+    port: Place,
+    steps: &mut Steps<L>,
+) -> Result<Vec<SymState>, FollowFault>
+    requires net { network net.now ≡ B.net }
+    requires explored { IsExplored (network net.now) (entry injection.now) hops B.start }
+    requires first { IsFirstState B.start (network net.now) hops injection.now.node injection.now.raw.port first }
+    ensures { ArrivedFor (network net.now) (entry injection.now) hops port decisions.now result }
+{
+    let engine = Explorer::<B>::new(alloc, net, injection.place(), hops, first);
+    let places = path_exec::arrivals(alloc, &engine, decisions, port, steps)?;
+    let states = states_of(alloc, places)?;
+    Ok(states)
+}
+
+/// The states of places.
+fn states_of<B: Origin>(
+    alloc: Global,
+    places: Vec<Standing<'_, B>>,
+) -> Result<Vec<SymState>, NoMemory>
+    ensures { IfOk result (λ states. states.items ≡ map (λ place. place.run) places.entry.items) }
+{
+    let mut states = Vec::with_capacity(alloc, places.len())?;
+    for place in places {
+        let Standing { run, stage: _ } = place;
+        states.push(run.into_state())?;
+    }
+    Ok(states)
+}

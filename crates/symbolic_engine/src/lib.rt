@@ -1,0 +1,17 @@
+//! The engine of an exploration: the runs of a net on symbolic states, and the explorations of a net and an injection.
+#![tactic(auto)]
+
+mod arriving;
+mod deciding;
+mod engine;
+mod exploring;
+mod guiding;
+mod moving;
+mod origin;
+mod spots;
+mod stage;
+mod turning;
+mod writing;
+
+pub use exploring::{explore, explore_into};
+pub use guiding::{Led, Waits, arrivals, follow};

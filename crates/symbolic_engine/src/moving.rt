@@ -1,0 +1,112 @@
+//! The run up to its next port, its next decision or its end.
+
+ghost use Rattle.std.specs.Prelude.{◌≡◌, ℕ, None, reverse, IfOk};
+ghost use Rattle.path_formula.specs.Typed.{IsTyped};
+ghost use Rattle.path_formula.specs.View.{view};
+ghost use Rattle.net_check.specs.Network.{Network, network};
+ghost use Rattle.path_exec.specs.Here.{spot_at};
+ghost use Rattle.path_exec.specs.Moves.{IsMove, Moves};
+ghost use Rattle.symbolic_engine.specs.declared.stage.Wait.TheVariants.{Asked as AskedAt};
+ghost use Rattle.symbolic_engine.specs.Origins.{here_of};
+ghost use Rattle.symbolic_engine.specs.Stages.{inside_tree, wait_tree};
+ghost use Rattle.symbolic_engine.specs.Turning.{offer_of};
+ghost use Rattle.symbolic_engine.specs.Seeing.{standing_at, views_of};
+
+use crate::arriving::{behind, ended, enter, leave};
+use crate::origin::{Origin, Run};
+use crate::spots::{Finished, Standing, Waiting};
+use crate::stage::{Gate, Stage, Wait};
+use code_frames::{Frame, Move, Question, next};
+use net_check::Net;
+use path_exec::engine::{Moved, Next, Offer};
+use path_formula::Formula;
+use path_formula::laws::the_tests_of_types;
+use sefl_meaning::End;
+use sn_width::{NoMemory, Steps};
+use std::alloc::Global;
+use std::sync::ledger::Ledger;
+
+/// What the question offers.
+fn offer_of(question: &Question<'_>) -> Offer
+    ensures { result ≡ offer_of question.now }
+{
+    match question {
+        Question::If { .. } => Offer::If,
+        Question::Constrain { .. } => Offer::Constrain,
+    }
+}
+
+/// The run waits for the truth of a test.
+fn asked<'a, B: Origin>(
+    run: Run<B>,
+    gate: Gate,
+    question: Question<'a>,
+    test: Formula,
+    frames: Vec<Frame<'a>>,
+) -> Moved<Standing<'a, B>, Finished<B>, Waiting<'a, B>>
+    requires { IsTyped run.condition.widths (view test) }
+    ensures { (own : Network) (begun : ℕ) → IsMove (views_of B.start own)
+        (spot_at begun (here_of B.start run (λ n. wait_tree own (AskedAt gate question.entry test frames.entry) run n))) begun result }
+{
+    the_tests_of_types();
+    run.is_own();
+    let offer = offer_of(&question);
+    let wait = Wait::Asked {
+        gate,
+        question,
+        test,
+        frames,
+    };
+    let node = Waiting { run, wait };
+    let next = Next::AtNode { node, offer };
+    Moved::Stopped { next }
+}
+
+/// Runs what is on the frames, in the code of a port, and goes on behind it.
+fn run_on<'a, B: Origin, L: Ledger>(
+    alloc: Global,
+    net: &'a Net,
+    run: Run<B>,
+    gate: Gate,
+    frames: Vec<Frame<'a>>,
+    steps: &mut Steps<L>,
+) -> Result<Moved<Standing<'a, B>, Finished<B>, Waiting<'a, B>>, NoMemory>
+    ensures { IfOk result (Moves (views_of B.start (network net.now))
+        (here_of B.start run (λ n. inside_tree (network net.now) gate None (reverse frames.entry.items) run n)) steps.old steps.new) }
+{
+    let mut frames = frames;
+    let mut state = run.into_state();
+    let found = next(alloc, &mut state, net, gate.node, &mut frames, steps)?;
+    let run = Run::<B>::of(state);
+    match found {
+        Move::Ended(exit) => behind(alloc, net, run, gate, exit),
+        Move::Asked { question, test } => Ok(asked(run, gate, question, test, frames)),
+    }
+}
+
+/// Runs on from a stage, over one port at most.
+pub(crate) fn onward<'a, B: Origin, L: Ledger>(
+    alloc: Global,
+    net: &'a Net,
+    place: Standing<'a, B>,
+    steps: &mut Steps<L>,
+) -> Result<Moved<Standing<'a, B>, Finished<B>, Waiting<'a, B>>, NoMemory>
+    ensures { IfOk result (Moves (views_of B.start (network net.now)) (standing_at B.start (network net.now) place.entry.run place.entry.stage) steps.old steps.new) }
+{
+    let Standing { run, stage } = place;
+    match stage {
+        Stage::Entering { node, port, hops } => {
+            let place = enter(alloc, net, run, node, port, hops)?;
+            Ok(Moved::Arrived { place })
+        }
+        Stage::Leaving { node, port, hops } => {
+            let place = leave(alloc, net, run, node, port, hops)?;
+            Ok(Moved::Arrived { place })
+        }
+        Stage::Inside { gate, left, frames } => match left {
+            None => run_on(alloc, net, run, gate, frames, steps),
+            Some(exit) => behind(alloc, net, run, gate, exit),
+        },
+        Stage::Cut => Ok(ended(run, End::Cut)),
+    }
+}
