@@ -6,7 +6,6 @@ ghost use Rattle.std.specs.Option.{ForSome};
 ghost use Rattle.sn_width.specs.declared.ids.Site.{Site};
 ghost use Rattle.sefl_syntax.specs.Filled.{is_filled};
 ghost use Rattle.sefl_syntax.specs.Trees.{JobTree};
-ghost use Rattle.sefl_syntax.specs.declared.thin.Thin.{Thin};
 ghost use Rattle.net_check.specs.Sound.{IsSound};
 ghost use Rattle.run_answers.specs.Flaws.{Flaw, HasFlaw};
 ghost use Rattle.run_answers.specs.Inputs.{AllOpen, Given};
@@ -14,15 +13,13 @@ ghost use Rattle.run_answers.specs.Jobs.{IsRefusedAt, IsTextOf, first_bad};
 ghost use Rattle.run_answers.specs.Outside.{World, world};
 ghost use Rattle.run_answers.specs.Runs.{Outcome};
 ghost use Rattle.run_answers.specs.declared.limits.TheConstants.{FILE_LIMIT};
-ghost use Rattle.explore_command.specs.Thins.{HasBothSides, IsNotRun, IsThinJob};
 ghost use Rattle.symnet_program.specs.Commands.{inputs, work};
 ghost use Rattle.symnet_program.specs.Program.{IsCaused};
 ghost use Rattle.symnet_program.specs.Status.{IsStopped, MayStop, outcome_status};
 ghost use Rattle.symnet_program.specs.Words.{Command as CommandOf, explore, job_name};
 ghost use Rattle.symnet_program.specs.declared.status.Status.{Status as StatusOf};
-ghost use Rattle.symnet_program.specs.declared.status.Status.TheVariants.{BadPattern, Done, NoFile, NotBuilt, Refused, Syntax, TooBig};
+ghost use Rattle.symnet_program.specs.declared.status.Status.TheVariants.{BadPattern, Done, NoFile, NotBuilt, Partial, Refused, Syntax, TooBig};
 
-use explore_command::laws::reported_jobs_are_run;
 use run_answers::laws::{jobs_are_refused_once, worlds_decide};
 
 /// What is wrong with the job's file is told, unless the outside failed or there was no memory.
@@ -48,20 +45,13 @@ pub fn jobs_are_told()
     jobs_are_refused_once();
 }
 
-/// Of a job without tables that breaks no rule and none of whose patterns is bad, `explore` tells Done where it is run, and
-/// NotBuilt where it is not.
+/// Of a job without tables that breaks no rule and none of whose patterns is bad, `explore` tells Done or Partial.
 pub fn explored_jobs_are_told()
-    ensures run { (job : List ℕ) (w : World) (status : StatusOf) (bytes : List ℕ) (j : JobTree) (thin : Thin)
+    ensures { (job : List ℕ) (w : World) (status : StatusOf) (bytes : List ℕ) (j : JobTree)
         → IsCaused (world w) tt tt (Some (explore job)) status → w.at job ≡ Some bytes → length bytes ≤ FILE_LIMIT
-        → IsTextOf j bytes → is_filled j ≡ true → IsSound j → IsThinJob j thin → HasBothSides thin
-        → (status ≡ Done) ⊎ (IsStopped status ⊎ ((site : Site) × (status ≡ BadPattern site))) }
-    ensures other { (job : List ℕ) (w : World) (status : StatusOf) (bytes : List ℕ) (j : JobTree)
-        → IsCaused (world w) tt tt (Some (explore job)) status → w.at job ≡ Some bytes → length bytes ≤ FILE_LIMIT
-        → IsTextOf j bytes → is_filled j ≡ true → IsSound j → IsNotRun j
-        → (status ≡ NotBuilt) ⊎ (IsStopped status ⊎ ((site : Site) × (status ≡ BadPattern site))) }
-{
-    reported_jobs_are_run();
-}
+        → IsTextOf j bytes → is_filled j ≡ true → IsSound j
+        → ((status ≡ Done) ⊎ (status ≡ Partial)) ⊎ (IsStopped status ⊎ ((site : Site) × (status ≡ BadPattern site))) }
+{}
 
 /// Where all inputs are good, and it is told what the patterns find, the status tells what the own work comes to on them.
 pub fn own_work_is_told()
