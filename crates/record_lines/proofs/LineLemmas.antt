@@ -1,7 +1,7 @@
 -- What the pieces of records leave in a sink.
-use Rattle.std.proofs.Common.{◌≡◌, ◌∙◌, ap, sym, subst, refl, ℕ, ◌+◌, Bool, true, false, ◌||◌, List, [], ◌∷◌, ◌++◌, map, Option, append_assoc, arith}
+use Rattle.std.proofs.Common.{◌≡◌, ◌∙◌, ap, sym, subst, refl, ℕ, ◌+◌, Bool, true, false, ◌||◌, List, [], ◌∷◌, ◌++◌, map, Option, append_assoc}
 use Rattle.std.proofs.lemmas.List.{append-nil, map-append}
-use Rattle.std.specs.Prelude.{sum_by}
+use Rattle.std.specs.Prelude.{fold}
 use Rattle.std.specs.Io.KnownBytes.{append_known}
 use Rattle.serde_json.specs.Data.{Data}
 use Rattle.serde_json.specs.Written.{comma_if, compact_text}
@@ -41,9 +41,13 @@ has_some_with : {A : Type 0} (xs : List A) (x : A) → has_some (xs ++ x ∷ [])
 has_some_with [] x = refl
 has_some_with (y ∷ xs) x = refl
 
+counted_from : (first : ℕ) (items : List Record) (item : Record)
+    → fold (λ n x. n + refuted_by x) first (items ++ item ∷ []) ≡ fold (λ n x. n + refuted_by x) first items + refuted_by item
+counted_from first [] item = refl
+counted_from first (x ∷ items) item = counted_from (first + refuted_by x) items item
+
 count_with : (items : List Record) (item : Record) → refuted_count (items ++ item ∷ []) ≡ refuted_count items + refuted_by item
-count_with [] item = omega arith
-count_with (x ∷ items) item = let rest : refuted_count (items ++ item ∷ []) ≡ refuted_count items + refuted_by item = count_with items item in omega (arith, rest)
+count_with items item = counted_from 0 items item
 
 module _ (net : Network) (known before now : Option (List ℕ)) (some : Bool) (refuted : ℕ) (item : Record) where
   -- the piece was put
