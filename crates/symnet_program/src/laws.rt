@@ -25,7 +25,7 @@ ghost use Rattle.symnet_program.specs.Status.{IsStopped, IsWritten, MayBeBad, Ma
 ghost use Rattle.symnet_program.specs.Told.{TellsNet};
 ghost use Rattle.symnet_program.specs.Words.{Command as CommandOf, explore, job_name, walk};
 ghost use Rattle.symnet_program.specs.declared.status.Status.{Status as StatusOf};
-ghost use Rattle.symnet_program.specs.declared.status.Status.TheVariants.{BadPattern, Done, NoFile, NotBuilt, Syntax, TooBig};
+ghost use Rattle.symnet_program.specs.declared.status.Status.TheVariants.{BadPattern, NoFile, NotBuilt, Syntax, TooBig};
 
 use run_answers::laws::worlds_decide;
 use walk_command::laws::walks_have_one_outcome;
