@@ -8,11 +8,14 @@ use Rattle.sn_width.specs.declared.ids.Site.{Site}
 use Rattle.sefl_syntax.specs.Filled.{is_filled}
 use Rattle.sefl_syntax.specs.Trees.{AskTree, JobTree}
 use Rattle.sefl_reader.specs.Outcome.{Outcome as OutcomeOf, a_job as job_outcome, IsOutcome}
+use Rattle.job_items.specs.Rules.{refusal}
+use Rattle.job_items.specs.declared.rule.Rule.{Rule}
 use Rattle.net_check.specs.Network.{Network, Entry}
 use Rattle.net_check.specs.Sound.{IsSound}
 use Rattle.run_answers.specs.Files.{HasFile, LoadFails}
 use Rattle.run_answers.specs.Flaws.{Flaw, HasFlaw, flaw_of}
-use Rattle.run_answers.specs.Jobs.{AcceptFails, HasJob, IsOnlyFlaw, IsOnlyJob, IsRefusedAt, IsTextOf, ReadFails, TablesFail, first_bad}
+use Rattle.run_answers.specs.Refusals.{fault_by_number, fault_by_rule}
+use Rattle.run_answers.specs.Jobs.{AcceptFails, HasFilled, HasJob, IsOnlyFlaw, IsOnlyJob, IsRefusedAt, IsTextOf, ReadFails, TablesFail, first_bad}
 use Rattle.run_answers.specs.Outside.{World, world}
 use Rattle.run_answers.specs.Inputs.{Input, Given, a_job, a_file, a_net, some_bytes, AllOpen, FirstFails, Opens, Fails}
 use Rattle.run_answers.specs.Runs.{OwnWork, Outcome, text, refused}
@@ -24,7 +27,7 @@ use Rattle.run_answers.specs.declared.fault.OwnFault.TheVariants as working
 use Rattle.explore_command.specs.Explores.{ReportsOf}
 use Rattle.symnet_program.specs.Commands.{work}
 use Rattle.symnet_program.specs.Program.{Cause, Comes, IsCaused}
-use Rattle.symnet_program.specs.Status.{IsStopped, input_status, outcome_status}
+use Rattle.symnet_program.specs.Status.{IsStopped, IsWritten, MayBeBad, input_status, outcome_status}
 use Rattle.symnet_program.specs.Words.{Command, explore, walk, job_name}
 use Rattle.symnet_program.specs.declared.status.Status.{Status}
 use Rattle.symnet_program.specs.declared.status.Status.TheVariants.{Done, NoMemory, Usage, NoFile, ReadFault, WriteFault, TooBig, Syntax, BadPattern, Refused, BadTable, BadPacket, Partial, TooMany, BadReport, NotConfirmed, BadAsk, NotBuilt, BadCompare}
@@ -34,7 +37,7 @@ some_and None P h = absurd h
 some_and (Some x) P h = (x, refl, h)
 
 -- a job that breaks no rule is not refused
-sound_or_refused : (j : JobTree) (site : Site) (kind : ℕ) → IsSound j → IsRefusedAt j site kind → ⊥
+pub sound_or_refused : (j : JobTree) (site : Site) (kind : ℕ) → IsSound j → IsRefusedAt j site kind → ⊥
 sound_or_refused j site kind sound (rule, breaks, number) = none-some (site.0, rule) (sym sound ∙ breaks)
 
 abbrev tree_or : OutcomeOf → JobTree → JobTree
@@ -55,7 +58,7 @@ module _ (p : World) (name : List ℕ) (rest : List Input) (w : OwnWork) where
     has_tables : is_filled j ≡ false → status ≡ NotBuilt → JobCase j status
     breaks_rule : (site : Site) (kind : ℕ) → is_filled j ≡ true → IsRefusedAt j site kind → status ≡ Refused site kind → JobCase j status
     has_bad : (site : Site) → is_filled j ≡ true → (world p).refuses tt j site tt → status ≡ BadPattern site → JobCase j status
-    is_taken : (net : Network) (i : Entry) → is_filled j ≡ true → (world p).takes tt j net i tt → Behind (a_net net i j.asks) status → JobCase j status
+    is_taken : (net : Network) (i : Entry) → HasFilled (Some p.at) name j → (world p).takes tt j net i tt → Behind (a_net net i j.asks) status → JobCase j status
 
   -- with what is under the name
   pub data FileCase (status : Status) : Type 0 where
@@ -103,7 +106,7 @@ module _ (p : World) (name : List ℕ) (rest : List Input) (w : OwnWork) where
 
   of_opens : (status : Status) (g : Given) → Opens (world p) tt (a_job name) g tt → Behind g status → FileCase status
   of_opens status g (j, (has, filled), net, i, taken, is) behind =
-      with_job status j has (is_taken net i filled taken (subst (λ x. Behind x status) is behind))
+      with_job status j has (is_taken net i (has, filled) taken (subst (λ x. Behind x status) is behind))
 
   stops : (fault : InputFault) → FirstFails (world p) tt (a_job name ∷ rest) fault tt → FileCase (input_status fault)
   stops fault (inl h) = of_fault fault h
@@ -205,15 +208,25 @@ module _ (p : World) (name : List ℕ) (rest : List Input) (w : OwnWork) (status
   tables_in j tables (inl (has_tables own is)) = inl is
   tables_in j tables (inl (breaks_rule site kind filled breaks is)) = absurd (true≢false (sym filled ∙ tables))
   tables_in j tables (inl (has_bad site filled refuses is)) = absurd (true≢false (sym filled ∙ tables))
-  tables_in j tables (inl (is_taken net i filled taken behind)) = absurd (true≢false (sym filled ∙ tables))
+  tables_in j tables (inl (is_taken net i has taken behind)) = absurd (true≢false (sym has.1 ∙ tables))
 
-  pub refused_in : (j : JobTree) (site : Site) (kind : ℕ) → ((own : Site) (other : ℕ) → IsRefusedAt j own other → Refused own other ≡ Refused site kind)
-      → is_filled j ≡ true → IsRefusedAt j site kind → JobCase p name rest w j status ⊎ IsStopped status → (status ≡ Refused site kind) ⊎ IsStopped status
-  refused_in j site kind once filled breaks (inr h) = inr h
-  refused_in j site kind once filled breaks (inl (has_tables tables is)) = absurd (true≢false (sym filled ∙ tables))
-  refused_in j site kind once filled breaks (inl (breaks_rule own other own_filled own_breaks is)) = inl (is ∙ once own other own_breaks)
-  refused_in j site kind once filled breaks (inl (has_bad own own_filled refuses is)) = absurd (sound_or_refused j site kind refuses.0 breaks)
-  refused_in j site kind once filled breaks (inl (is_taken net i own_filled taken behind)) = absurd (sound_or_refused j site kind taken.0 breaks)
+  -- the first rule that is broken tells its number
+  by_rule : (j : JobTree) (site own : Site) (rule : Rule) (kind : ℕ) → refusal j ≡ Some (site.0, rule) → IsRefusedAt j own kind
+      → Refused own kind ≡ input_status (fault_by_rule site rule)
+  by_rule j site own rule kind breaks (other, own_breaks, number) =
+      let pairs : ◌≡◌ {A = ℕ × Rule} (own.0, other) (site.0, rule) = same_Some (own.0, other) (site.0, rule) (sym own_breaks ∙ breaks) in
+      ap (λ n. input_status (fault_by_number own n)) (sym number) ∙ (λ k. input_status (fault_by_rule (record { 0 = (pairs k).0 }) (pairs k).1))
+
+  sound_or_broken : (j : JobTree) (site : Site) (rule : Rule) → IsSound j → refusal j ≡ Some (site.0, rule) → ⊥
+  sound_or_broken j site rule sound breaks = none-some (site.0, rule) (sym sound ∙ breaks)
+
+  pub refused_in : (j : JobTree) (site : Site) (rule : Rule) → is_filled j ≡ true → refusal j ≡ Some (site.0, rule)
+      → JobCase p name rest w j status ⊎ IsStopped status → (status ≡ input_status (fault_by_rule site rule)) ⊎ IsStopped status
+  refused_in j site rule filled breaks (inr h) = inr h
+  refused_in j site rule filled breaks (inl (has_tables tables is)) = absurd (true≢false (sym filled ∙ tables))
+  refused_in j site rule filled breaks (inl (breaks_rule own kind own_filled own_breaks is)) = inl (is ∙ by_rule j site own rule kind breaks own_breaks)
+  refused_in j site rule filled breaks (inl (has_bad own own_filled refuses is)) = absurd (sound_or_broken j site rule refuses.0 breaks)
+  refused_in j site rule filled breaks (inl (is_taken net i has taken behind)) = absurd (sound_or_broken j site rule taken.0 breaks)
 
   pub bad_in : (j : JobTree) (site : Site) (is_bad : List ℕ → Bool) → is_filled j ≡ true → IsSound j → p.is_bad ≡ Some is_bad → first_bad is_bad j ≡ Some site.0
       → JobCase p name rest w j status ⊎ IsStopped status → (status ≡ BadPattern site) ⊎ IsStopped status
@@ -223,17 +236,9 @@ module _ (p : World) (name : List ℕ) (rest : List Input) (w : OwnWork) (status
   bad_in j site is_bad filled sound tells first (inl (has_bad own own_filled refuses is)) =
       let same : own.0 ≡ site.0 = same_Some own.0 site.0 (sym (refuses.1 is_bad tells) ∙ first) in
       inl (is ∙ (λ k. BadPattern (record { 0 = same k })))
-  bad_in j site is_bad filled sound tells first (inl (is_taken net i own_filled taken behind)) = absurd (none-some site.0 (sym (taken.4 is_bad tells) ∙ first))
+  bad_in j site is_bad filled sound tells first (inl (is_taken net i has taken behind)) = absurd (none-some site.0 (sym (taken.4 is_bad tells) ∙ first))
 
 -- ---- of a job that is explored
-
--- a pattern is refused, or the run was stopped
-abbrev pub MayBeBad : Status → Type 0
-MayBeBad status = IsStopped status ⊎ ((site : Site) × (status ≡ BadPattern site))
-
--- the text was written, whether something was left out or not
-abbrev pub IsWritten : Status → Type 0
-IsWritten status = (status ≡ Done) ⊎ (status ≡ Partial)
 
 module _ (p : World) (name : List ℕ) (status : Status) where
   abbrev pub Explored : JobTree → Type 0
@@ -255,7 +260,7 @@ module _ (p : World) (name : List ℕ) (status : Status) where
   explored_in j filled sound (inl (has_tables tables is)) = absurd (true≢false (sym filled ∙ tables))
   explored_in j filled sound (inl (breaks_rule own kind own_filled breaks is)) = absurd (sound_or_refused j own kind sound breaks)
   explored_in j filled sound (inl (has_bad own own_filled refuses is)) = inr (inr (own, is))
-  explored_in j filled sound (inl (is_taken net i own_filled taken (inl h))) = inr (inl h)
-  explored_in j filled sound (inl (is_taken net i own_filled taken (inr (inl (outcome, given, opened, h, is))))) =
+  explored_in j filled sound (inl (is_taken net i has taken (inl h))) = inr (inl h)
+  explored_in j filled sound (inl (is_taken net i has taken (inr (inl (outcome, given, opened, h, is))))) =
       inl (written net i outcome is (reported net i j.asks given outcome opened.0 h))
-  explored_in j filled sound (inl (is_taken net i own_filled taken (inr (inr (fault, h, is))))) = absurd h
+  explored_in j filled sound (inl (is_taken net i has taken (inr (inr (fault, h, is))))) = absurd h

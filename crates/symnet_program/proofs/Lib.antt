@@ -2,3 +2,4 @@ pub mod ToldLemmas
 pub mod ProgramLemmas
 pub mod CaseLemmas
 pub mod OwnLemmas
+pub mod WalkLemmas

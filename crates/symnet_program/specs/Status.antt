@@ -1,5 +1,6 @@
 -- Statuses: the one that tells how a command ended, their numbers, and their texts.
-use Rattle.std.specs.Prelude.{ℕ, ◌≡◌, List, [], ◌++◌, codes, decimal, None, Result, Ok, Err}
+use Rattle.std.specs.Prelude.{ℕ, ◌≡◌, ◌⊎◌, List, [], ◌++◌, codes, decimal, None, Result, Ok, Err}
+use Rattle.sn_width.specs.declared.ids.Site.{Site}
 use Rattle.run_answers.specs.Outside.{World}
 use Rattle.run_answers.specs.Runs.{Outcome, text, refused}
 use Rattle.run_answers.specs.declared.ending.Ending.{Ending}
@@ -60,6 +61,14 @@ IsStopped NoMemory = Unit {0}
 IsStopped (ReadFault name) = Unit {0}
 IsStopped WriteFault = Unit {0}
 IsStopped _ = ⊥
+
+-- or a pattern is refused
+abbrev pub MayBeBad : Status → Type 0
+MayBeBad status = IsStopped status ⊎ ((site : Site) × (status ≡ BadPattern site))
+
+-- the text was written whole, whether something was left out or not
+abbrev pub IsWritten : Status → Type 0
+IsWritten status = (status ≡ Done) ⊎ (status ≡ Partial)
 
 -- what the own work comes to
 abbrev pub outcome_status : Outcome → Status

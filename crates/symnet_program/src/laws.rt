@@ -6,21 +6,29 @@ ghost use Rattle.std.specs.Option.{ForSome};
 ghost use Rattle.sn_width.specs.declared.ids.Site.{Site};
 ghost use Rattle.sefl_syntax.specs.Filled.{is_filled};
 ghost use Rattle.sefl_syntax.specs.Trees.{JobTree};
+ghost use Rattle.job_items.specs.Rules.{refusal};
+ghost use Rattle.job_items.specs.declared.rule.Rule.{Rule};
+ghost use Rattle.net_check.specs.Network.{Entry, Network};
 ghost use Rattle.net_check.specs.Sound.{IsSound};
+ghost use Rattle.packet_file.specs.Packet.{packet_of};
 ghost use Rattle.run_answers.specs.Flaws.{Flaw, HasFlaw};
 ghost use Rattle.run_answers.specs.Inputs.{AllOpen, Given};
-ghost use Rattle.run_answers.specs.Jobs.{IsRefusedAt, IsTextOf, first_bad};
+ghost use Rattle.run_answers.specs.Jobs.{IsTextOf, first_bad};
 ghost use Rattle.run_answers.specs.Outside.{World, world};
+ghost use Rattle.run_answers.specs.Refusals.{fault_by_rule};
 ghost use Rattle.run_answers.specs.Runs.{Outcome};
-ghost use Rattle.run_answers.specs.declared.limits.TheConstants.{FILE_LIMIT};
+ghost use Rattle.run_answers.specs.declared.limits.TheConstants.{FILE_LIMIT, HOPS, LIMIT};
 ghost use Rattle.symnet_program.specs.Commands.{inputs, work};
 ghost use Rattle.symnet_program.specs.Program.{IsCaused};
-ghost use Rattle.symnet_program.specs.Status.{IsStopped, MayStop, outcome_status};
-ghost use Rattle.symnet_program.specs.Words.{Command as CommandOf, explore, job_name};
+ghost use Rattle.walk_command.specs.Walks.{WalksOf};
+ghost use Rattle.symnet_program.specs.Status.{IsStopped, IsWritten, MayBeBad, MayStop, input_status, outcome_status};
+ghost use Rattle.symnet_program.specs.Told.{TellsNet};
+ghost use Rattle.symnet_program.specs.Words.{Command as CommandOf, explore, job_name, walk};
 ghost use Rattle.symnet_program.specs.declared.status.Status.{Status as StatusOf};
-ghost use Rattle.symnet_program.specs.declared.status.Status.TheVariants.{BadPattern, Done, NoFile, NotBuilt, Partial, Refused, Syntax, TooBig};
+ghost use Rattle.symnet_program.specs.declared.status.Status.TheVariants.{BadPattern, NoFile, NotBuilt, Syntax, TooBig};
 
-use run_answers::laws::{jobs_are_refused_once, worlds_decide};
+use run_answers::laws::worlds_decide;
+use walk_command::laws::walks_have_one_outcome;
 
 /// What is wrong with the job's file is told, unless the outside failed or there was no memory.
 pub fn jobs_are_told()
@@ -34,24 +42,40 @@ pub fn jobs_are_told()
     ensures tables { (command : CommandOf) (w : World) (status : StatusOf) (bytes : List ℕ) (j : JobTree)
         → IsCaused (world w) tt tt (Some command) status → w.at (job_name command) ≡ Some bytes → length bytes ≤ FILE_LIMIT
         → IsTextOf j bytes → is_filled j ≡ false → (status ≡ NotBuilt) ⊎ IsStopped status }
-    ensures refused { (command : CommandOf) (w : World) (status : StatusOf) (bytes : List ℕ) (j : JobTree) (site : Site) (kind : ℕ)
+    ensures refused { (command : CommandOf) (w : World) (status : StatusOf) (bytes : List ℕ) (j : JobTree) (site : Site) (rule : Rule)
         → IsCaused (world w) tt tt (Some command) status → w.at (job_name command) ≡ Some bytes → length bytes ≤ FILE_LIMIT
-        → IsTextOf j bytes → is_filled j ≡ true → IsRefusedAt j site kind → (status ≡ Refused site kind) ⊎ IsStopped status }
+        → IsTextOf j bytes → is_filled j ≡ true → refusal j ≡ Some (site.0, rule)
+        → (status ≡ input_status (fault_by_rule site rule)) ⊎ IsStopped status }
     ensures bad { (command : CommandOf) (w : World) (status : StatusOf) (bytes : List ℕ) (j : JobTree) (site : Site)
         → IsCaused (world w) tt tt (Some command) status → w.at (job_name command) ≡ Some bytes → length bytes ≤ FILE_LIMIT
         → IsTextOf j bytes → is_filled j ≡ true → IsSound j
         → ForSome w.is_bad (λ is_bad. first_bad is_bad j ≡ Some site.0 → (status ≡ BadPattern site) ⊎ IsStopped status) }
-{
-    jobs_are_refused_once();
-}
+{}
 
 /// Of a job without tables that breaks no rule and none of whose patterns is bad, `explore` tells Done or Partial.
 pub fn explored_jobs_are_told()
     ensures { (job : List ℕ) (w : World) (status : StatusOf) (bytes : List ℕ) (j : JobTree)
         → IsCaused (world w) tt tt (Some (explore job)) status → w.at job ≡ Some bytes → length bytes ≤ FILE_LIMIT
-        → IsTextOf j bytes → is_filled j ≡ true → IsSound j
-        → ((status ≡ Done) ⊎ (status ≡ Partial)) ⊎ (IsStopped status ⊎ ((site : Site) × (status ≡ BadPattern site))) }
+        → IsTextOf j bytes → is_filled j ≡ true → IsSound j → IsWritten status ⊎ MayBeBad status }
 {}
+
+/// Of a job without tables that breaks no rule, `walk` tells what comes of the packet's file, where it is told what the
+/// patterns find; unless the run was stopped, or a pattern is bad.
+pub fn walked_jobs_are_told()
+    ensures absent { (job packet : List ℕ) (w : World) (status : StatusOf) (net : Network) (i : Entry)
+        → IsCaused (world w) tt tt (Some (walk job packet)) status → TellsNet w job net i
+        → w.at packet ≡ None → (status ≡ NoFile packet) ⊎ MayBeBad status }
+    ensures long { (job packet : List ℕ) (w : World) (status : StatusOf) (net : Network) (i : Entry) (bytes : List ℕ)
+        → IsCaused (world w) tt tt (Some (walk job packet)) status → TellsNet w job net i
+        → w.at packet ≡ Some bytes → FILE_LIMIT < length bytes → (status ≡ TooBig packet) ⊎ MayBeBad status }
+    ensures walked { (job packet : List ℕ) (w : World) (status : StatusOf) (net : Network) (i : Entry) (bytes : List ℕ) (outcome : Outcome)
+        → IsCaused (world w) tt tt (Some (walk job packet)) status → TellsNet w job net i
+        → w.at packet ≡ Some bytes → length bytes ≤ FILE_LIMIT → WalksOf HOPS LIMIT net i (packet_of bytes) outcome
+        → (status ≡ outcome_status outcome) ⊎ MayBeBad status }
+{
+    worlds_decide();
+    walks_have_one_outcome();
+}
 
 /// Where all inputs are good, and it is told what the patterns find, the status tells what the own work comes to on them.
 pub fn own_work_is_told()

@@ -1,6 +1,4 @@
-use Rattle.std.proofs.Common.{ap}
 use Rattle.symnet_program.specs.Commands.{work}
-use Rattle.symnet_program.specs.Status.{input_status}
 use Rattle.symnet_program.specs.Words.{job_name}
 use Rattle.symnet_program.proofs.CaseLemmas.{absent_in, bad_in, case_of, flawed_in, job_in, long_in, others_of, refused_in, tables_in}
 use Rattle.symnet_program.proofs.laws.jobs_are_told.Goals as goal
@@ -23,9 +21,8 @@ returns-clause-tables c command w status bytes j caused is short spells tables =
     (job_in w (job_name command) (others_of command) (work command) status bytes is j short spells (case_of w command status caused))
 
 pub returns-clause-refused : goal.returns-clause-refused
-returns-clause-refused c command w status bytes j site kind caused is short spells filled breaks =
-    refused_in w (job_name command) (others_of command) (work command) status j site kind
-    (λ own other h. ap input_status (c.jobs_are_refused_once.ensures j own site other kind h breaks)) filled breaks
+returns-clause-refused c command w status bytes j site rule caused is short spells filled breaks =
+    refused_in w (job_name command) (others_of command) (work command) status j site rule filled breaks
     (job_in w (job_name command) (others_of command) (work command) status bytes is j short spells (case_of w command status caused))
 
 pub returns-clause-bad : goal.returns-clause-bad

@@ -1,0 +1,121 @@
+-- What `walk` tells in a world of a job without tables that breaks no rule.
+use Rattle.std.proofs.Common.{◌≡◌, ◌⊎◌, inl, inr, refl, sym, ap, subst, ◌∙◌, ℕ, ◌<◌, ◌≤◌, List, [], ◌∷◌, length, Option, None, Some, true, false}
+use Rattle.std.proofs.lemmas.Bool.{true≢false}
+use Rattle.std.proofs.lemmas.Option.{same_Some}
+use Rattle.std.specs.Option.{ForSome}
+use Rattle.std.specs.Prelude.{Bool, IsSomeAnd}
+use Rattle.sn_width.specs.declared.ids.Site.{Site}
+use Rattle.sefl_syntax.specs.Trees.{JobTree}
+use Rattle.net_check.specs.Network.{Network, Entry}
+use Rattle.packet_file.specs.Packet.{packet_of}
+use Rattle.run_answers.specs.Files.{HasFile, LoadFails}
+use Rattle.run_answers.specs.Jobs.{HasFilled, ListsFound, first_bad}
+use Rattle.run_answers.specs.Outside.{World, world}
+use Rattle.run_answers.specs.Inputs.{Input, Given, a_job, a_file, a_net, some_bytes, AllOpen, FirstFails, Opens, IsSettled}
+use Rattle.run_answers.specs.Runs.{Outcome}
+use Rattle.run_answers.specs.declared.limits.TheConstants.{FILE_LIMIT, HOPS, LIMIT}
+use Rattle.run_answers.specs.declared.fault.InputFault.{InputFault}
+use Rattle.run_answers.specs.declared.fault.InputFault.TheVariants as input
+use Rattle.walk_command.specs.Walks.{WalksOf}
+use Rattle.symnet_program.specs.Commands.{inputs, work}
+use Rattle.symnet_program.specs.Program.{IsCaused}
+use Rattle.symnet_program.specs.Status.{IsStopped, MayBeBad, MayStop, input_status, outcome_status}
+use Rattle.symnet_program.specs.Told.{TellsNet}
+use Rattle.symnet_program.specs.Words.{walk}
+use Rattle.symnet_program.specs.declared.status.Status.{Status}
+use Rattle.symnet_program.specs.declared.status.Status.TheVariants.{NoMemory, NoFile, ReadFault, WriteFault, TooBig, BadPattern}
+use Rattle.symnet_program.proofs.CaseLemmas.{JobCase, case_of, has_bad, has_tables, breaks_rule, is_taken, job_in, sound_or_refused}
+use Rattle.symnet_program.proofs.OwnLemmas.{own_told}
+use Rattle.symnet_program.proofs.ProgramLemmas.{Decides, exact_of}
+
+stop_or_bad : (p : World) (status : Status) → MayStop p status → MayBeBad status
+stop_or_bad p NoMemory h = inl tt
+stop_or_bad p (ReadFault name) h = inl tt
+stop_or_bad p WriteFault h = inl tt
+stop_or_bad p (BadPattern site) h = inr (site, refl)
+stop_or_bad p status h = absurd h
+
+module _ (job packet : List ℕ) (p : World) (status : Status) (net : Network) (i : Entry)
+    (caused : IsCaused (world p) tt tt (Some (walk job packet)) status) (is : TellsNet p job net i) where
+  -- the file has the job, and no pattern is bad; or the status tells why not
+  abbrev IsGood : Type 0
+  IsGood = HasFilled (Some p.at) job is.tree × ForSome p.is_bad (λ b. first_bad b is.tree ≡ None)
+
+  good_or : JobCase p job (a_file FILE_LIMIT packet ∷ []) (work (walk job packet)) is.tree status ⊎ IsStopped status → IsGood ⊎ MayBeBad status
+  good_or (inr h) = inr (inl h)
+  good_or (inl (has_tables tables told)) = absurd (true≢false (sym is.filled ∙ tables))
+  good_or (inl (breaks_rule site kind filled breaks told)) = absurd (sound_or_refused is.tree site kind is.sound breaks)
+  good_or (inl (has_bad site filled refuses told)) = inr (inr (site, told))
+  good_or (inl (is_taken own o has taken behind)) = inl (has, taken.4)
+
+  good : IsGood ⊎ MayBeBad status
+  good =
+      good_or (job_in p job (a_file FILE_LIMIT packet ∷ []) (work (walk job packet)) status is.bytes is.file is.tree is.short is.text
+      (case_of p (walk job packet) status caused))
+
+  -- what is due of such a job, the run told, unless it was stopped or a pattern is bad
+  due : (told : Status) → (IsGood → (status ≡ told) ⊎ MayStop p status) → IsGood ⊎ MayBeBad status → (status ≡ told) ⊎ MayBeBad status
+  due told by (inr h) = inr h
+  due told by (inl h) = told_or (by h)
+    where
+      told_or : (status ≡ told) ⊎ MayStop p status → (status ≡ told) ⊎ MayBeBad status
+      told_or (inl h) = inl h
+      told_or (inr h) = inr (stop_or_bad p status h)
+
+  opens : IsGood → Opens (world p) tt (a_job job) (a_net net i is.tree.asks) tt
+  opens (has, good) = (
+    is.tree,
+    has,
+    net,
+    i,
+    (is.sound, is.of_net, is.of_entry, (λ finds told. subst (ListsFound is.tree net) (same_Some is.finds finds (sym is.told ∙ told)) is.lists), good),
+    refl,
+  )
+
+  -- the packet's file is refused
+  module _ (decides : Decides p) where
+    refused_file : (fault : InputFault) → IsSettled p fault → LoadFails (Some p.at) FILE_LIMIT packet fault → (status ≡ input_status fault) ⊎ MayBeBad status
+    refused_file fault settled fails =
+        due (input_status fault)
+        (λ h. exact_of (inputs (walk job packet)) (work (walk job packet)) p decides fault settled
+        (inr (a_net net i is.tree.asks, tt, opens h, inl (fails, refl))) status caused)
+        good
+
+    pub absent_packet : p.at packet ≡ None → (status ≡ NoFile packet) ⊎ MayBeBad status
+    absent_packet none = refused_file (input.NoFile packet) tt (refl, λ at told. subst (λ f. f packet ≡ None) (same_Some p.at at told) none)
+
+    pub long_packet : (bytes : List ℕ) → p.at packet ≡ Some bytes → FILE_LIMIT < length bytes → (status ≡ TooBig packet) ⊎ MayBeBad status
+    long_packet bytes has long =
+        refused_file (input.TooBig packet) tt
+        (refl, λ at told. subst (λ f. IsSomeAnd (f packet) (λ bs. FILE_LIMIT < length bs)) (same_Some p.at at told)
+        (subst (λ o. IsSomeAnd o (λ bs. FILE_LIMIT < length bs)) (sym has) long))
+
+  -- it has these bytes
+  module _ (once : (a b : List Given) → AllOpen (world p) tt (inputs (walk job packet)) a tt → AllOpen (world p) tt (inputs (walk job packet)) b tt → a ≡ b)
+      (decides : Decides p) (bytes : List ℕ) (has : p.at packet ≡ Some bytes) (short : length bytes ≤ FILE_LIMIT) (outcome : Outcome)
+      (comes : WalksOf HOPS LIMIT net i (packet_of bytes) outcome)
+      (alone : (other : Outcome) → WalksOf HOPS LIMIT net i (packet_of bytes) other → other ≡ outcome) where
+    all_open : IsGood → AllOpen (world p) tt (inputs (walk job packet)) (a_net net i is.tree.asks ∷ some_bytes bytes ∷ []) tt
+    all_open h = (
+      a_net net i is.tree.asks,
+      tt,
+      opens h,
+      some_bytes bytes ∷ [],
+      (some_bytes bytes, tt, (bytes, (short, λ at told. subst (λ f. f packet ≡ Some bytes) (same_Some p.at at told) has), refl, refl), [], (refl, refl), refl),
+      refl,
+    )
+
+    pub walked_packet : (status ≡ outcome_status outcome) ⊎ MayBeBad status
+    walked_packet = due (outcome_status outcome) (λ h. by (came h)) good
+      where
+        came : IsGood → ((other : Outcome) × (work (walk job packet)).comes (a_net net i is.tree.asks ∷ some_bytes bytes ∷ []) other × (status ≡ outcome_status other)) ⊎ MayStop p status
+        came h =
+            own_told (inputs (walk job packet)) (work (walk job packet)) p (a_net net i is.tree.asks ∷ some_bytes bytes ∷ [])
+            (λ other open. once other (a_net net i is.tree.asks ∷ some_bytes bytes ∷ []) open (all_open h))
+            (λ fault settled fails. decides.excludes (inputs (walk job packet)) (a_net net i is.tree.asks ∷ some_bytes bytes ∷ []) fault settled (all_open h) fails)
+            status caused
+
+        by : ((other : Outcome) × (work (walk job packet)).comes (a_net net i is.tree.asks ∷ some_bytes bytes ∷ []) other × (status ≡ outcome_status other)) ⊎ MayStop p status
+            → (status ≡ outcome_status outcome) ⊎ MayStop p status
+        by (inl (other, h, told)) = inl (told ∙ ap outcome_status (alone other h))
+        by (inr h) = inr h
