@@ -1,6 +1,4 @@
-pub mod ExactLemmas
-pub mod ExploreLemmas
-pub mod LawLemmas
-pub mod OutcomeLemmas
-pub mod ReportLemmas
-pub mod ThinLemmas
+pub mod CutLemmas
+pub mod HeadlineLemmas
+pub mod PutLemmas
+pub mod SoFarLemmas

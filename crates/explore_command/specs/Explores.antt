@@ -1,33 +1,99 @@
 -- What `explore` writes of an accepted job.
-use Rattle.std.specs.Prelude.{ℕ, ◌≡◌, List, [], ◌∷◌, Option, Some}
-use Rattle.std.specs.Option.{ForSome}
-use Rattle.sefl_syntax.specs.Trees.{JobTree}
-use Rattle.sefl_syntax.specs.declared.thin.Thin.{Thin}
-use Rattle.thin_paths.specs.Sides.{IsOneSided}
+use Rattle.std.specs.Prelude.{ℕ, ◌≡◌, ◌⊎◌, Bool, true, false, List, [], ◌∷◌, ◌++◌}
+use Rattle.std.specs.List.{AllByRecursion}
+use Rattle.sn_edge.specs.Pieces.{IsPrefix}
+use Rattle.net_check.specs.Network.{Network, Entry}
+use Rattle.path_records.specs.declared.records.Record.{Record}
+use Rattle.exact_records.specs.Exact.{IsTried, IsUnexplored, SomeOne}
+use Rattle.exact_records.specs.Packets.{AreExactFor, AreExactSoFarFor, AreExactUpToFor}
+use Rattle.exact_records.specs.Records.{RecordTree}
+use Rattle.exact_records.specs.View.{record_tree, record_trees}
+use Rattle.record_text.specs.Reports.{head_text, report_line, tail_text}
+use Rattle.record_lines.specs.Lines.{has_some, piece_text, records_text, refuted_count}
 use Rattle.run_answers.specs.Inputs.{Given, a_net}
-use Rattle.run_answers.specs.Runs.{Outcome, text, refused}
-use Rattle.run_answers.specs.declared.ending.Ending.TheVariants.{Done}
-use Rattle.run_answers.specs.declared.fault.OwnFault.{OwnFault}
-use Rattle.run_answers.specs.declared.fault.OwnFault.TheVariants.{NotBuilt, NoMemory}
-use Rattle.explore_command.specs.Thins.{IsNotRun, IsThinJob, IsThinReport, job_of}
+use Rattle.run_answers.specs.Runs.{Outcome, OwnWork, text, refused}
+use Rattle.run_answers.specs.declared.ending.Ending.{Ending}
+use Rattle.run_answers.specs.declared.ending.Ending.TheVariants.{Done, Partial}
 
--- the report of the job, where it is one that is explored so far
-abbrev pub ReportsOf : JobTree → Outcome → Type 0
-ReportsOf j (text ending whole) = (ending ≡ Done) × (thin : Thin) × IsThinJob j thin × IsThinReport thin whole
-ReportsOf j (refused NotBuilt) = IsNotRun j
-ReportsOf j _ = ⊥
+-- each record was tried; or one was not
+abbrev pub IsEnding : Ending → List RecordTree → Type 0
+IsEnding Done rs = AllByRecursion IsTried rs
+IsEnding Partial rs = SomeOne IsUnexplored rs
+
+abbrev pub is_done : Ending → Bool
+is_done Done = true
+is_done Partial = false
+
+-- the line of a report of records that end so
+abbrev pub line_of : ℕ → ℕ → Network → Ending → List Record → List ℕ
+line_of hops limit net ending records = report_line net hops limit records (refuted_count records) (is_done ending)
+
+-- what stands behind its records
+abbrev pub end_of : Ending → List Record → List ℕ
+end_of ending records = tail_text (refuted_count records) (is_done ending)
+
+-- the head of a report, and behind it such a part
+abbrev pub BehindHead : ℕ → ℕ → (List ℕ → Type 0) → List ℕ → Type 0
+BehindHead hops limit Is part = (own : List ℕ) × Is own × (part ≡ head_text hops limit ++ own)
+
+module _ (hops : ℕ) (net : Network) (i : Entry) where
+  -- the pieces of records that are exact so far
+  pub record IsSoFar (part : List ℕ) : Type 0 where
+    pub records : List Record
+    pub exact : AreExactSoFarFor net i hops (record_trees records)
+    pub pieces : part ≡ records_text net records
+
+  -- those of all but the last, and a beginning of the piece of that
+  pub record IsCutInRecord (part : List ℕ) : Type 0 where
+    pub done : List Record
+    pub last : Record
+    pub exact : AreExactUpToFor net i hops (record_trees done) (record_tree last)
+    pub own : List ℕ
+    pub begins : IsPrefix own (piece_text net (has_some done) last)
+    pub pieces : part ≡ records_text net done ++ own
+
+module _ (hops limit : ℕ) (net : Network) (i : Entry) where
+  -- the records are exact for the net and the injection, and end so
+  pub record AreFound (ending : Ending) (records : List Record) : Type 0 where
+    pub exact : AreExactFor net i hops limit (record_trees records)
+    pub ends : IsEnding ending (record_trees records)
+
+  -- the text is the report of such records
+  pub record IsReport (ending : Ending) (whole : List ℕ) : Type 0 where
+    pub records : List Record
+    pub found : AreFound ending records
+    pub line : whole ≡ line_of hops limit net ending records
+
+  abbrev pub ReportsOf : Outcome → Type 0
+  ReportsOf (text ending whole) = IsReport ending whole
+  ReportsOf (refused fault) = ⊥
+
+  -- the pieces of all records, and a beginning of the tail
+  pub record IsCutInTail (part : List ℕ) : Type 0 where
+    pub ending : Ending
+    pub records : List Record
+    pub found : AreFound ending records
+    pub own : List ℕ
+    pub begins : IsPrefix own (end_of ending records)
+    pub pieces : part ≡ records_text net records ++ own
+
+  -- where the sink failed: in the head, in the piece of a record, or in the tail
+  abbrev pub IsCut : List ℕ → Type 0
+  IsCut part = IsPrefix part (head_text hops limit) ⊎ BehindHead hops limit (λ own. IsCutInRecord hops net i own ⊎ IsCutInTail own) part
+
+  -- where memory ended: nothing was put, or whole pieces
+  abbrev pub IsLeft : List ℕ → Type 0
+  IsLeft part = (part ≡ []) ⊎ BehindHead hops limit (IsSoFar hops net i) part
+
+-- a fact of the net and the injection of a job
+abbrev pub OfJob : List Given → (Network → Entry → Type 0) → Type 0
+OfJob (a_net net i asks ∷ []) Fact = Fact net i
+OfJob _ Fact = ⊥
 
 -- `explore` of a job
-abbrev pub ExploreComes : List Given → Outcome → Type 0
-ExploreComes (a_net net i asks ∷ []) outcome = ReportsOf (job_of net i asks) outcome
-ExploreComes _ outcome = ⊥
-
--- the report of the thin job that was found
-abbrev pub IsReportOf : Option Thin → List ℕ → Type 0
-IsReportOf found whole = (thin : Thin) × (found ≡ Some thin) × IsThinReport thin whole
-
--- there is none to report
-abbrev pub IsThinRefusal : Option Thin → OwnFault → Type 0
-IsThinRefusal found NotBuilt = ForSome found (λ t. IsOneSided t.width t.rel t.bound)
-IsThinRefusal found NoMemory = Unit {0}
-IsThinRefusal found _ = ⊥
+abbrev pub explore_work : ℕ → ℕ → OwnWork
+explore_work hops limit = record {
+  comes = λ given outcome. OfJob given (λ net i. ReportsOf hops limit net i outcome);
+  cut = λ given part. OfJob given (λ net i. IsCut hops limit net i part);
+  left = λ given part. OfJob given (λ net i. IsLeft hops limit net i part);
+}

@@ -1,6 +1,3 @@
-pub mod Meaning
-pub mod Paths
-pub mod ReportText
-pub mod Thins
-pub mod Candidates
 pub mod Explores
+pub mod Headline
+pub mod Putting

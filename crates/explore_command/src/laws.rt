@@ -1,27 +1,33 @@
-//! Laws of what is explored so far. Each is the contract of a function that does nothing.
+//! Laws of what `explore` writes. Each is the contract of a function that does nothing.
 
-ghost use Rattle.std.specs.Prelude.{◌≡◌, ℕ, List};
-ghost use Rattle.sn_width.specs.declared.ids.Site.{Site};
-ghost use Rattle.sefl_syntax.specs.Trees.{JobTree};
-ghost use Rattle.sefl_syntax.specs.declared.thin.Thin.{Thin};
+ghost use Rattle.std.specs.Prelude.{◌⊎◌, ℕ, List, ◌++◌};
+ghost use Rattle.sn_edge.specs.Pieces.{IsPrefix};
 ghost use Rattle.net_check.specs.Network.{Entry, Network};
-ghost use Rattle.pattern_answers.specs.Asking.{IsStep};
-ghost use Rattle.run_answers.specs.Jobs.{IsBadAt, IsTaken};
-ghost use Rattle.explore_command.specs.Thins.{HasBothSides, IsNotRun, IsThinJob, IsThinReport};
-ghost use Rattle.thin_jobs.specs.Thins.{thin_job};
+ghost use Rattle.record_text.specs.Reports.{head_text};
+ghost use Rattle.run_answers.specs.declared.ending.Ending.{Ending as EndingOf};
+ghost use Rattle.run_answers.specs.declared.ending.Ending.TheVariants.{Done};
+ghost use Rattle.explore_command.specs.Explores.{BehindHead, IsCut, IsReport, IsSoFar};
+ghost use Rattle.explore_command.specs.Headline.{IsHeadline};
 
-use sn_edge::Patterns;
+use exact_records::laws::whole_records_have_one_path_a_walk;
+use record_lines::laws::a_record_comes_behind_the_others;
+use record_text::laws::lines_join;
 
-/// A thin job with a report has a packet on each side of its test; and then it is run.
-pub fn reported_jobs_are_run()
-    ensures sides { (thin : Thin) (whole : List ℕ) → IsThinReport thin whole → HasBothSides thin }
-    ensures run { (j : JobTree) (thin : Thin) → IsThinJob j thin → HasBothSides thin → IsNotRun j → ⊥ }
-{}
+/// The headline: where the report of a job is written whole and nothing was left out, it tells all walks of all packets that
+/// meet the injection.
+pub fn finished_reports_tell_all()
+    ensures { (hops limit : ℕ) (net : Network) (i : Entry) (whole : List ℕ) → IsReport hops limit net i Done whole → IsHeadline net i hops limit whole }
+{
+    whole_records_have_one_path_a_walk();
+}
 
-/// A thin job has no patterns: none is asked where it is accepted, and none is refused.
-pub fn thin_jobs_ask_nothing<P: Patterns>()
-    ensures taken { (u v : P) (thin : Thin) (net : Network) (i : Entry)
-        → IsTaken (IsStep P.matches P.bad_patterns P.refusals P.find_gives) P.matches P.bad_patterns u (thin_job thin) net i v → v ≡ u }
-    ensures refused { (u v : P) (thin : Thin) (site : Site)
-        → IsBadAt (IsStep P.matches P.bad_patterns P.refusals P.find_gives) P.matches P.bad_patterns u (thin_job thin) site v → ⊥ }
-{}
+/// What was written where the sink failed is a beginning of a report, or of the head and the pieces of records that are exact
+/// so far.
+pub fn cuts_are_beginnings()
+    ensures { (hops limit : ℕ) (net : Network) (i : Entry) (part : List ℕ) → IsCut hops limit net i part
+        → ((ending : EndingOf) × (whole : List ℕ) × IsReport hops limit net i ending whole × IsPrefix part whole)
+        ⊎ ((whole : List ℕ) × BehindHead hops limit (IsSoFar hops net i) whole × IsPrefix part whole) }
+{
+    lines_join();
+    a_record_comes_behind_the_others();
+}

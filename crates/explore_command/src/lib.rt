@@ -1,12 +1,10 @@
-//! The command `explore`, of jobs of the form that is explored so far: the report as JSON.
+//! The command `explore`: the report of a job, put as its records are found.
 #![tactic(auto)]
 
-mod candidate;
 mod explore;
 pub mod laws;
-mod path;
+mod limit;
 mod report;
-mod sided;
 
-pub use candidate::{Candidate, ThinFile};
 pub use explore::Explore;
+pub use limit::RecordLimit;

@@ -25,5 +25,3 @@ mod rules;
 mod syntax;
 #[cfg(test)]
 mod tables;
-#[cfg(test)]
-mod thin;

@@ -8,9 +8,10 @@ use Rattle.serde_json.specs.Written.{compact_text, items_text, comma_if}
 use Rattle.serde_json.proofs.OnLiterals.{serde_json_on_literals}
 use Rattle.net_check.specs.Network.{Network}
 use Rattle.run_text.specs.Forms.{list}
+use Rattle.path_records.specs.declared.records.Record.{Record}
 use Rattle.record_text.specs.declared.report.Report.{Report}
 use Rattle.record_text.specs.Records.{record_data, records_data}
-use Rattle.record_text.specs.Reports.{state_text, report_data, head_text, record_pieces, tail_text, report_text}
+use Rattle.record_text.specs.Reports.{state_text, report_data, head_text, record_pieces, tail_text, report_line, report_text}
 
 records_close : (later : Bool) (ds : List Data) → items_text later (items_of ds) ≡ record_pieces later ds ++ 93 ∷ []
 records_close later [] = refl
@@ -39,7 +40,11 @@ line hops limit records refuted complete =
     ∙ append_assoc (head_text hops limit) (record_pieces false records ++ tail refuted complete) (codes "\n")
     ∙ ap (λ s. head_text hops limit ++ s) (append_assoc (record_pieces false records) (tail refuted complete) (codes "\n") ∙ ap (λ s. record_pieces false records ++ s) (ended refuted complete))
 
+pub lines_join : (net : Network) (hops limit : ℕ) (records : List Record) (refuted : ℕ) (complete : Bool) →
+    report_line net hops limit records refuted complete ≡ head_text hops limit ++ (record_pieces false (map (record_data net) records) ++ tail_text refuted complete)
+unfolding records_data
+lines_join net hops limit records refuted complete = line hops limit (map (record_data net) records) refuted complete
+
 pub pieces_join : (net : Network) (report : Report) →
     report_text net report ≡ head_text report.hops report.limit ++ (record_pieces false (map (record_data net) report.records.items) ++ tail_text report.refuted report.complete)
-unfolding records_data
-pieces_join net report = line report.hops report.limit (map (record_data net) report.records.items) report.refuted report.complete
+pieces_join net report = lines_join net report.hops report.limit report.records.items report.refuted report.complete

@@ -3,6 +3,7 @@ use Rattle.std.specs.Prelude.{ℕ, Bool, true, if◌then◌else◌, List, [], �
 use Rattle.serde_json.specs.Data.{Data, string, object, member, no_members}
 use Rattle.serde_json.specs.Written.{compact_text, comma_if}
 use Rattle.net_check.specs.Network.{Network}
+use Rattle.path_records.specs.declared.records.Record.{Record}
 use Rattle.run_text.specs.Forms.{count}
 use Rattle.record_text.specs.Records.{records_data}
 use Rattle.record_text.specs.declared.report.Report.{Report}
@@ -26,6 +27,10 @@ data_of net report = report_data report.hops report.limit (records_data net repo
 -- the line of a report
 abbrev pub report_text : Network → Report → List ℕ
 report_text net report = compact_text (data_of net report) ++ codes "\n"
+
+-- the line of a report of these records
+abbrev pub report_line : Network → ℕ → ℕ → List Record → ℕ → Bool → List ℕ
+report_line net hops limit records refuted complete = compact_text (report_data hops limit (records_data net records) refuted complete) ++ codes "\n"
 
 -- up to the records
 abbrev pub head_text : ℕ → ℕ → List ℕ

@@ -1,13 +1,21 @@
 //! What follows from the definitions of the texts. These functions do nothing: their contracts are the laws.
 
-ghost use Rattle.std.specs.Prelude.{◌≡◌, ◌++◌, map, false};
+ghost use Rattle.std.specs.Prelude.{◌≡◌, ◌++◌, ℕ, Bool, List, map, false};
 ghost use Rattle.net_check.specs.Network.{Network};
+ghost use Rattle.path_records.specs.declared.records.Record.{Record};
 ghost use Rattle.record_text.specs.declared.report.Report.{Report};
 ghost use Rattle.record_text.specs.Records.{record_data};
-ghost use Rattle.record_text.specs.Reports.{head_text, record_pieces, tail_text, report_text};
+ghost use Rattle.record_text.specs.Reports.{head_text, record_pieces, tail_text, report_line, report_text};
 
 /// The head, the records, each but the first behind a comma, and the tail are the text of the report.
 pub fn pieces_join()
     ensures { (net : Network) (report : Report) → report_text net report
         ≡ head_text report.hops report.limit ++ (record_pieces false (map (record_data net) report.records.items) ++ tail_text report.refuted report.complete) }
+{}
+
+/// The same of the line of a report of any records.
+#[tactic(auto, using(crate::proofs::Pieces::lines_join))]
+pub fn lines_join()
+    ensures { (net : Network) (hops limit : ℕ) (records : List Record) (refuted : ℕ) (complete : Bool) → report_line net hops limit records refuted complete
+        ≡ head_text hops limit ++ (record_pieces false (map (record_data net) records) ++ tail_text refuted complete) }
 {}

@@ -5,8 +5,7 @@ use Rattle.std.proofs.lemmas.Option.{none-some, same_Some}
 use Rattle.std.specs.Prelude.{IsSomeAnd}
 use Rattle.sn_width.specs.declared.ids.Site.{Site}
 use Rattle.sefl_syntax.specs.Filled.{is_filled}
-use Rattle.sefl_syntax.specs.Trees.{JobTree}
-use Rattle.sefl_syntax.specs.declared.thin.Thin.{Thin}
+use Rattle.sefl_syntax.specs.Trees.{AskTree, JobTree}
 use Rattle.sefl_reader.specs.Outcome.{Outcome as OutcomeOf, a_job as job_outcome, IsOutcome}
 use Rattle.job_items.specs.Rules.{refusal}
 use Rattle.job_items.specs.declared.rule.Rule.{Rule}
@@ -19,16 +18,15 @@ use Rattle.run_answers.specs.Jobs.{AcceptFails, HasFilled, HasJob, IsOnlyFlaw, I
 use Rattle.run_answers.specs.Outside.{World, world}
 use Rattle.run_answers.specs.Inputs.{Input, Given, a_job, a_file, a_net, AllOpen, FirstFails, Opens, Fails}
 use Rattle.run_answers.specs.Runs.{OwnWork, Outcome, text, refused}
-use Rattle.run_answers.specs.declared.limits.TheConstants.{FILE_LIMIT}
+use Rattle.run_answers.specs.declared.limits.TheConstants.{FILE_LIMIT, HOPS, LIMIT}
 use Rattle.run_answers.specs.declared.ending.Ending.TheVariants as ending
 use Rattle.run_answers.specs.declared.fault.InputFault.{InputFault}
 use Rattle.run_answers.specs.declared.fault.InputFault.TheVariants as input
 use Rattle.run_answers.specs.declared.fault.OwnFault.TheVariants as working
 use Rattle.explore_command.specs.Explores.{ReportsOf}
-use Rattle.explore_command.specs.Thins.{HasBothSides, IsNotRun, IsThinJob, IsThinReport, job_of}
 use Rattle.symnet_program.specs.Commands.{work}
 use Rattle.symnet_program.specs.Program.{Cause, Comes, IsCaused}
-use Rattle.symnet_program.specs.Status.{IsStopped, MayBeBad, input_status, outcome_status}
+use Rattle.symnet_program.specs.Status.{IsStopped, IsWritten, MayBeBad, input_status, outcome_status}
 use Rattle.symnet_program.specs.Words.{Command, explore, walk, job_name}
 use Rattle.symnet_program.specs.declared.status.Status.{Status}
 use Rattle.symnet_program.specs.declared.status.Status.TheVariants.{Done, NoMemory, Usage, NoFile, ReadFault, WriteFault, TooBig, Syntax, BadPattern, Refused, BadTable, BadPacket, Partial, TooMany, BadReport, NotConfirmed, BadAsk, NotBuilt, BadCompare}
@@ -241,52 +239,27 @@ module _ (p : World) (name : List ℕ) (rest : List Input) (w : OwnWork) (status
 
 -- ---- of a job that is explored
 
--- which jobs are run, as the laws of `explore` say
-pub record RunLaws : Type 0 where
-  pub sides : (thin : Thin) (whole : List ℕ) → IsThinReport thin whole → HasBothSides thin
-  pub run : (j : JobTree) (thin : Thin) → IsThinJob j thin → HasBothSides thin → IsNotRun j → ⊥
-
--- the job of an accepted net and injection is the job itself
-own_job : (p : World) (j : JobTree) (net : Network) (i : Entry) → (world p).takes tt j net i tt → job_of net i j.asks ≡ j
-own_job p j net i (sound, of_net, of_entry, found, good) = λ k. record { net = of_net.own k; injection = of_entry.own k; asks = j.asks }
-
-module _ (laws : RunLaws) (p : World) (name : List ℕ) (status : Status) where
+module _ (p : World) (name : List ℕ) (status : Status) where
   abbrev pub Explored : JobTree → Type 0
   Explored j = JobCase p name [] (work (explore name)) j status
 
-  -- what the report of the job comes to
-  reported : (j : JobTree) (net : Network) (i : Entry) → (world p).takes tt j net i tt → (outcome : Outcome) (given : List Given)
-      → AllOpen (world p) tt [] given tt → (work (explore name)).comes (a_net net i j.asks ∷ given) outcome → ReportsOf j outcome
-  reported j net i taken outcome given opened h =
-      subst (λ (x : JobTree). ReportsOf x outcome) (own_job p j net i taken)
-      (subst (λ gs. (work (explore name)).comes (a_net net i j.asks ∷ gs) outcome) opened.0 h)
+  reported : (net : Network) (i : Entry) (asks : List AskTree) (given : List Given) (outcome : Outcome) → given ≡ []
+      → (work (explore name)).comes (a_net net i asks ∷ given) outcome → ReportsOf HOPS LIMIT net i outcome
+  reported net i asks given outcome none h = subst (λ gs. (work (explore name)).comes (a_net net i asks ∷ gs) outcome) none h
 
-  run_or_not : (j : JobTree) (thin : Thin) → IsThinJob j thin → HasBothSides thin → (outcome : Outcome) → ReportsOf j outcome → outcome_status outcome ≡ Done
-  run_or_not j thin is both (text e whole) h = ap (λ x. outcome_status (text x whole)) h.0
-  run_or_not j thin is both (refused working.NotBuilt) h = absurd (laws.run j thin is both h)
-  run_or_not j thin is both (refused fault) h = absurd h
-
-  not_or_run : (j : JobTree) → IsNotRun j → (outcome : Outcome) → ReportsOf j outcome → outcome_status outcome ≡ NotBuilt
-  not_or_run j unrun (text e whole) (ended, thin, is, report) = absurd (laws.run j thin is (laws.sides thin whole report) unrun)
-  not_or_run j unrun (refused working.NotBuilt) h = refl
-  not_or_run j unrun (refused fault) h = absurd h
+  -- each outcome is a text
+  written : (net : Network) (i : Entry) (outcome : Outcome) → status ≡ outcome_status outcome → ReportsOf HOPS LIMIT net i outcome → IsWritten status
+  written net i (text ending.Done whole) is h = inl is
+  written net i (text ending.Partial whole) is h = inr is
+  written net i (refused fault) is h = absurd h
 
   -- of a job without tables that breaks no rule
-  pub whole_in : (told : Status) (j : JobTree) → is_filled j ≡ true → IsSound j → ((outcome : Outcome) → ReportsOf j outcome → outcome_status outcome ≡ told)
-      → Explored j ⊎ IsStopped status → (status ≡ told) ⊎ MayBeBad status
-  whole_in told j filled sound ends (inr h) = inr (inl h)
-  whole_in told j filled sound ends (inl (has_tables tables is)) = absurd (true≢false (sym filled ∙ tables))
-  whole_in told j filled sound ends (inl (breaks_rule own kind own_filled breaks is)) =
-      absurd (sound_or_refused j own kind sound breaks)
-  whole_in told j filled sound ends (inl (has_bad own own_filled refuses is)) = inr (inr (own, is))
-  whole_in told j filled sound ends (inl (is_taken net i has taken (inl h))) = inr (inl h)
-  whole_in told j filled sound ends (inl (is_taken net i has taken (inr (inl (outcome, given, opened, h, is))))) =
-      inl (is ∙ ends outcome (reported j net i taken outcome given opened h))
-  whole_in told j filled sound ends (inl (is_taken net i has taken (inr (inr (fault, h, is))))) = absurd h
-
-  pub run_in : (j : JobTree) (thin : Thin) → is_filled j ≡ true → IsSound j → IsThinJob j thin → HasBothSides thin → Explored j ⊎ IsStopped status
-      → (status ≡ Done) ⊎ MayBeBad status
-  run_in j thin filled sound is both h = whole_in Done j filled sound (run_or_not j thin is both) h
-
-  pub other_in : (j : JobTree) → is_filled j ≡ true → IsSound j → IsNotRun j → Explored j ⊎ IsStopped status → (status ≡ NotBuilt) ⊎ MayBeBad status
-  other_in j filled sound unrun h = whole_in NotBuilt j filled sound (not_or_run j unrun) h
+  pub explored_in : (j : JobTree) → is_filled j ≡ true → IsSound j → Explored j ⊎ IsStopped status → IsWritten status ⊎ MayBeBad status
+  explored_in j filled sound (inr h) = inr (inl h)
+  explored_in j filled sound (inl (has_tables tables is)) = absurd (true≢false (sym filled ∙ tables))
+  explored_in j filled sound (inl (breaks_rule own kind own_filled breaks is)) = absurd (sound_or_refused j own kind sound breaks)
+  explored_in j filled sound (inl (has_bad own own_filled refuses is)) = inr (inr (own, is))
+  explored_in j filled sound (inl (is_taken net i has taken (inl h))) = inr (inl h)
+  explored_in j filled sound (inl (is_taken net i has taken (inr (inl (outcome, given, opened, h, is))))) =
+      inl (written net i outcome is (reported net i j.asks given outcome opened.0 h))
+  explored_in j filled sound (inl (is_taken net i has taken (inr (inr (fault, h, is))))) = absurd h

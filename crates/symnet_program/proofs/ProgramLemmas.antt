@@ -1,10 +1,11 @@
 -- What a status says of a run, once for all commands.
-use Rattle.std.proofs.Common.{◌≡◌, ◌⊎◌, inl, inr, ◌∙◌, ap, sym, subst, refl, List, [], ℕ, Option, Some, None, Bool, Result, Ok, Err}
+use Rattle.std.proofs.Common.{◌≡◌, ◌⊎◌, inl, inr, ◌∙◌, ap, sym, subst, refl, List, [], ◌∷◌, ℕ, Option, Some, None, Bool, Result, Ok, Err}
 use Rattle.std.proofs.lemmas.List.{append-nil}
 use Rattle.std.specs.Io.KnownBytes.{append_known}
 use Rattle.sn_edge.specs.declared.patterns.Found.{Found}
 use Rattle.run_answers.specs.Outside.{Outside, World, Tells, outside, world}
-use Rattle.run_answers.specs.Inputs.{Input, Given, AllOpen, FirstFails, IsSettled}
+use Rattle.net_check.specs.Network.{Network, Entry}
+use Rattle.run_answers.specs.Inputs.{Input, Given, a_net, AllOpen, FirstFails, IsSettled}
 use Rattle.run_answers.specs.Runs.{OwnWork, Outcome, text, refused, InputShows, IsRefusal, Runs, Shows}
 use Rattle.run_answers.specs.declared.fault.InputFault.{InputFault}
 use Rattle.run_answers.specs.declared.fault.InputFault.TheVariants as input
@@ -13,11 +14,15 @@ use Rattle.run_answers.specs.declared.fault.OwnFault.TheVariants as own
 use Rattle.run_answers.specs.declared.ending.Ending.{Ending}
 use Rattle.run_answers.specs.declared.ending.Ending.TheVariants as ending
 use Rattle.run_answers.specs.declared.ending.Stop.{Stop}
+use Rattle.run_answers.specs.declared.limits.TheConstants.{HOPS, LIMIT}
 use Rattle.run_answers.specs.declared.ending.Stop.TheVariants.{Input as ByInput, Own, Write, NoMemory as NoRoom}
 use Rattle.symnet_program.proofs.ToldLemmas.{first_told, all_told}
 use Rattle.symnet_program.specs.Status.{MayStop, input_status, own_status, status_of}
 use Rattle.symnet_program.specs.Commands.{inputs, work}
-use Rattle.symnet_program.specs.Words.{Command}
+use Rattle.explore_command.specs.Explores.{IsReport}
+use Rattle.explore_command.specs.Headline.{IsHeadline}
+use Rattle.symnet_program.specs.Headline.{TellsJob}
+use Rattle.symnet_program.specs.Words.{Command, explore}
 use Rattle.symnet_program.specs.Program.{Cause, Comes, IsAnswered, IsCaused, MayWrite, RefusesInput, Shown, Stops, Writes}
 use Rattle.symnet_program.specs.declared.status.Status.{Status}
 use Rattle.symnet_program.specs.declared.status.Status.TheVariants.{Done, NoMemory, Usage, NoFile, ReadFault, WriteFault, TooBig, Syntax, BadPattern, Refused, BadTable, BadPacket, Partial, TooMany, BadReport, NotConfirmed, BadAsk, NotBuilt, BadCompare}
@@ -197,6 +202,21 @@ module _ (is : List Input) (w : OwnWork) (p : World) (decides : Decides p) (faul
   exact_of NotBuilt (inr h) = none (refused own.NotBuilt) h
   exact_of (BadCompare kind one other) h = none (refused (own.BadCompare kind one other)) h
 
+-- ---- what a finished exploration tells
+
+module _ {S : Type 0} (o : Outside S) (u v : S)
+    (law : (net : Network) (i : Entry) (whole : List ℕ) → IsReport HOPS LIMIT net i ending.Done whole → IsHeadline net i HOPS LIMIT whole) where
+  pub job_told : (job whole : List ℕ) → MayWrite o u v (Some (explore job)) Done whole → TellsJob o u v job whole
+  job_told job whole (given, (g, m, (j, has, net, i, taken, is), rest, (none, last), all), comes) = record {
+    job = j;
+    in_file = has;
+    net = net;
+    injection = i;
+    accepted = subst (λ s. o.takes u j net i s) (sym last) taken;
+    headline = law net i whole
+        (subst (λ gs. (work (explore job)).comes gs (text ending.Done whole)) (all ∙ (ap (λ x. x ∷ rest) is ∙ ap (λ r. a_net net i j.asks ∷ r) none)) comes);
+  }
+
 -- ---- of the call: the words said the command c, and the run of it came to the answer that the status tells
 
 module _ {S : Type 0} (files : Option (List ℕ → Option (List ℕ))) (matches : S → Option (List ℕ → List ℕ → Bool)) (bad : S → Option (List ℕ → Bool)) (refusals : S → ℕ) (gives : S → List ℕ → List ℕ → Found → S → Type 0) (u v : S)
@@ -216,6 +236,18 @@ module _ {S : Type 0} (files : Option (List ℕ → Option (List ℕ))) (matches
         part,
         subst (λ r. MayWrite (outside files matches bad refusals gives) u v r status part) named
             (subst (λ s. Writes (outside files matches bad refusals gives) u v (inputs c) (work c) s part) (sym tells) writes),
+        gained,
+      )
+
+  pub headline_said : ((net : Network) (i : Entry) (whole : List ℕ) → IsReport HOPS LIMIT net i ending.Done whole → IsHeadline net i HOPS LIMIT whole)
+      → (job : List ℕ) → said ≡ Some (explore job) → status ≡ Done
+      → (whole : List ℕ) × TellsJob (outside files matches bad refusals gives) u v job whole × (now ≡ append_known known whole)
+  headline_said law job is done =
+      let (part, writes, gained) = written_said in (
+        part,
+        job_told (outside files matches bad refusals gives) u v law job part
+            (subst (λ r. MayWrite (outside files matches bad refusals gives) u v r Done part) is
+            (subst (λ s. MayWrite (outside files matches bad refusals gives) u v said s part) done writes)),
         gained,
       )
 

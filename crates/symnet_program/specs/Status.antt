@@ -66,6 +66,10 @@ IsStopped _ = ⊥
 abbrev pub MayBeBad : Status → Type 0
 MayBeBad status = IsStopped status ⊎ ((site : Site) × (status ≡ BadPattern site))
 
+-- the text was written whole, whether something was left out or not
+abbrev pub IsWritten : Status → Type 0
+IsWritten status = (status ≡ Done) ⊎ (status ≡ Partial)
+
 -- what the own work comes to
 abbrev pub outcome_status : Outcome → Status
 outcome_status (text ending.Done whole) = Done

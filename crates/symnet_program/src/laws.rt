@@ -6,7 +6,6 @@ ghost use Rattle.std.specs.Option.{ForSome};
 ghost use Rattle.sn_width.specs.declared.ids.Site.{Site};
 ghost use Rattle.sefl_syntax.specs.Filled.{is_filled};
 ghost use Rattle.sefl_syntax.specs.Trees.{JobTree};
-ghost use Rattle.sefl_syntax.specs.declared.thin.Thin.{Thin};
 ghost use Rattle.job_items.specs.Rules.{refusal};
 ghost use Rattle.job_items.specs.declared.rule.Rule.{Rule};
 ghost use Rattle.net_check.specs.Network.{Entry, Network};
@@ -19,17 +18,15 @@ ghost use Rattle.run_answers.specs.Outside.{World, world};
 ghost use Rattle.run_answers.specs.Refusals.{fault_by_rule};
 ghost use Rattle.run_answers.specs.Runs.{Outcome};
 ghost use Rattle.run_answers.specs.declared.limits.TheConstants.{FILE_LIMIT, HOPS, LIMIT};
-ghost use Rattle.explore_command.specs.Thins.{HasBothSides, IsNotRun, IsThinJob};
 ghost use Rattle.symnet_program.specs.Commands.{inputs, work};
 ghost use Rattle.symnet_program.specs.Program.{IsCaused};
 ghost use Rattle.walk_command.specs.Walks.{WalksOf};
-ghost use Rattle.symnet_program.specs.Status.{IsStopped, MayBeBad, MayStop, input_status, outcome_status};
+ghost use Rattle.symnet_program.specs.Status.{IsStopped, IsWritten, MayBeBad, MayStop, input_status, outcome_status};
 ghost use Rattle.symnet_program.specs.Told.{TellsNet};
 ghost use Rattle.symnet_program.specs.Words.{Command as CommandOf, explore, job_name, walk};
 ghost use Rattle.symnet_program.specs.declared.status.Status.{Status as StatusOf};
-ghost use Rattle.symnet_program.specs.declared.status.Status.TheVariants.{BadPattern, Done, NoFile, NotBuilt, Syntax, TooBig};
+ghost use Rattle.symnet_program.specs.declared.status.Status.TheVariants.{BadPattern, NoFile, NotBuilt, Syntax, TooBig};
 
-use explore_command::laws::reported_jobs_are_run;
 use run_answers::laws::worlds_decide;
 use walk_command::laws::walks_have_one_outcome;
 
@@ -55,19 +52,12 @@ pub fn jobs_are_told()
         → ForSome w.is_bad (λ is_bad. first_bad is_bad j ≡ Some site.0 → (status ≡ BadPattern site) ⊎ IsStopped status) }
 {}
 
-/// Of a job without tables that breaks no rule and none of whose patterns is bad, `explore` tells Done where it is run, and
-/// NotBuilt where it is not.
+/// Of a job without tables that breaks no rule and none of whose patterns is bad, `explore` tells Done or Partial.
 pub fn explored_jobs_are_told()
-    ensures run { (job : List ℕ) (w : World) (status : StatusOf) (bytes : List ℕ) (j : JobTree) (thin : Thin)
+    ensures { (job : List ℕ) (w : World) (status : StatusOf) (bytes : List ℕ) (j : JobTree)
         → IsCaused (world w) tt tt (Some (explore job)) status → w.at job ≡ Some bytes → length bytes ≤ FILE_LIMIT
-        → IsTextOf j bytes → is_filled j ≡ true → IsSound j → IsThinJob j thin → HasBothSides thin
-        → (status ≡ Done) ⊎ MayBeBad status }
-    ensures other { (job : List ℕ) (w : World) (status : StatusOf) (bytes : List ℕ) (j : JobTree)
-        → IsCaused (world w) tt tt (Some (explore job)) status → w.at job ≡ Some bytes → length bytes ≤ FILE_LIMIT
-        → IsTextOf j bytes → is_filled j ≡ true → IsSound j → IsNotRun j → (status ≡ NotBuilt) ⊎ MayBeBad status }
-{
-    reported_jobs_are_run();
-}
+        → IsTextOf j bytes → is_filled j ≡ true → IsSound j → IsWritten status ⊎ MayBeBad status }
+{}
 
 /// Of a job without tables that breaks no rule, `walk` tells what comes of the packet's file, where it is told what the
 /// patterns find; unless the run was stopped, or a pattern is bad.

@@ -7,16 +7,18 @@ ghost use Rattle.run_answers.specs.Outside.{Tells, World, outside, world};
 ghost use Rattle.run_answers.specs.Runs.{Runs, Shows};
 ghost use Rattle.run_answers.specs.declared.fault.InputFault.{InputFault as InputFaultOf};
 ghost use Rattle.symnet_program.specs.Commands.{inputs, work};
+ghost use Rattle.symnet_program.specs.Headline.{TellsJob};
 ghost use Rattle.symnet_program.specs.Program.{Cause, IsAnswered, IsCaused, MayWrite, RefusesInput, Shown};
 ghost use Rattle.symnet_program.specs.Status.{MayStop, input_status};
-ghost use Rattle.symnet_program.specs.Words.{Command as CommandOf, command_of, reading};
+ghost use Rattle.symnet_program.specs.Words.{Command as CommandOf, command_of, explore, reading};
 ghost use Rattle.symnet_program.specs.declared.status.Status.{Status as StatusOf};
-ghost use Rattle.symnet_program.specs.declared.status.Status.TheVariants.{Usage};
+ghost use Rattle.symnet_program.specs.declared.status.Status.TheVariants.{Done, Usage};
 
 use crate::status::{Status, status_of};
 use crate::words::{Command, reading};
 use command_runs::{Piece, run};
-use explore_command::{Explore, ThinFile};
+use explore_command::laws::finished_reports_tell_all;
+use explore_command::{Explore, RecordLimit};
 use job_files::{Both, ByteFile, JobFile};
 use run_answers::laws::worlds_decide;
 use run_answers::{Ending, FILE_LIMIT, HOPS, LIMIT, Stop};
@@ -49,7 +51,9 @@ fn run_command<F: Folder, P: Patterns, K: Sink>(
     match command {
         Command::Explore { job } => {
             let command = Explore {
-                source: ThinFile { name: job },
+                source: JobFile { name: job },
+                hops: HOPS,
+                limit: RecordLimit::new(LIMIT),
             };
             run(alloc, &command, folder, patterns, out)
         }
@@ -102,6 +106,13 @@ pub fn symnet<F: Folder, P: Patterns, K: Sink>(
         × MayWrite (outside (F.files folder.old) P.matches P.bad_patterns P.refusals P.find_gives) patterns.old patterns.new (reading words.now) result part
         × (K.taken out.new ≡ append_known (K.taken out.old) part) }
 
+    // The headline: with Done `explore` wrote the report of the job in the file, and this tells all walks of all packets that
+    // meet the injection.
+    ensures headline { (job : List ℕ) → reading words.now ≡ Some (explore job) → result ≡ Done
+        → (whole : List ℕ)
+        × TellsJob (outside (F.files folder.old) P.matches P.bad_patterns P.refusals P.find_gives) patterns.old patterns.new job whole
+        × (K.taken out.new ≡ append_known (K.taken out.old) whole) }
+
     // Where the outside tells a world, the cause is one in that world; and an input that is refused there is refused.
     ensures told { (w : World) → Tells (F.files folder.old) P.matches P.bad_patterns patterns.old w
         → IsCaused (world w) tt tt (reading words.now) result }
@@ -118,6 +129,7 @@ pub fn symnet<F: Folder, P: Patterns, K: Sink>(
         → IsAnswered result }
 {
     worlds_decide();
+    finished_reports_tell_all();
     match reading(words) {
         Some(command) => status_of(run_command(alloc, command, folder, patterns, out)),
         None => Status::Usage,

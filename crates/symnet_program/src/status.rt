@@ -31,7 +31,7 @@ pub enum Status {
     BadTable { name: Text, line: u64, kind: u8 },
     /// The packet does not start, or its file has no packet; the kind is 1 to 4, as in `OwnFault`.
     BadPacket { kind: u8 },
-    /// The text was written whole, and says that some was left out. No command leaves out anything yet.
+    /// The text was written whole, and says that some was left out.
     Partial,
     /// The packet has more walks than the limit, which is one less than the count.
     TooMany { count: u64 },
@@ -41,7 +41,7 @@ pub enum Status {
     NotConfirmed { number: u64, kind: u8 },
     /// The question of this number cannot be asked. No command asks one yet.
     BadAsk { number: u64, kind: u8 },
-    /// The job is not of the form that is built so far.
+    /// The job has tables, which are not read yet.
     NotBuilt,
     /// The two jobs cannot be compared. No command compares jobs yet.
     BadCompare { kind: u8, one: u64, other: u64 },

@@ -12,8 +12,6 @@ mod runs;
 #[cfg(test)]
 mod scopes;
 #[cfg(test)]
-mod sides;
-#[cfg(test)]
 mod stacks;
 #[cfg(test)]
 mod steps;

@@ -1,6 +1,7 @@
 use Rattle.std.proofs.Common.{◌<◌, arith}
+use Rattle.run_answers.specs.declared.limits.TheConstants.{HOPS, LIMIT}
 use Rattle.symnet_program.specs.Words.{command_of}
-use Rattle.symnet_program.proofs.ProgramLemmas.{cause_said, complete_said, exact_said, shown_said, told_said, written_said}
+use Rattle.symnet_program.proofs.ProgramLemmas.{cause_said, complete_said, exact_said, headline_said, shown_said, told_said, written_said}
 use Rattle.symnet_program.proofs.program.symnet.Goals as goal
 
 pub returns-in-Some-clause-cause : goal.returns-in-Some-clause-cause
@@ -12,6 +13,12 @@ pub returns-in-Some-clause-written : goal.returns-in-Some-clause-written
 returns-in-Some-clause-written g c =
     written_said (g.F.Folder.files c.args.folder.now) g.P.Patterns.matches g.P.Patterns.bad_patterns g.P.Patterns.refusals g.P.Patterns.find_gives c.args.patterns.now c.run_command.new.patterns
     (g.K.Sink.taken c.args.out.now) (g.K.Sink.taken c.run_command.new.out) _ (command_of c.in-Some.command) c.in-Some.ensures c.run_command.result c.status_of.result c.status_of.ensures c.run_command.ensures.ran
+
+pub returns-in-Some-clause-headline : goal.returns-in-Some-clause-headline
+returns-in-Some-clause-headline g c job named done =
+    headline_said (g.F.Folder.files c.args.folder.now) g.P.Patterns.matches g.P.Patterns.bad_patterns g.P.Patterns.refusals g.P.Patterns.find_gives c.args.patterns.now c.run_command.new.patterns
+    (g.K.Sink.taken c.args.out.now) (g.K.Sink.taken c.run_command.new.out) _ (command_of c.in-Some.command) c.in-Some.ensures c.run_command.result c.status_of.result c.status_of.ensures c.run_command.ensures.ran
+    (c.finished_reports_tell_all.ensures HOPS LIMIT) job named done
 
 pub returns-in-Some-clause-told : goal.returns-in-Some-clause-told
 returns-in-Some-clause-told g c w told =

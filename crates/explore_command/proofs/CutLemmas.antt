@@ -1,0 +1,68 @@
+-- What was written where the sink failed is a beginning of one text.
+use Rattle.std.proofs.Common.{◌≡◌, ◌∙◌, ◌⊎◌, inl, inr, ap, refl, sym, subst, ℕ, List, [], ◌∷◌, ◌++◌, map, append_assoc}
+use Rattle.std.proofs.lemmas.List.{append-nil, map-append}
+use Rattle.sn_edge.specs.Pieces.{IsPrefix, IsPrefix-append, IsPrefix-behind}
+use Rattle.net_check.specs.Network.{Network, Entry}
+use Rattle.path_records.specs.declared.records.Record.{Record}
+use Rattle.exact_records.specs.View.{record_tree, record_trees}
+use Rattle.record_text.specs.Reports.{head_text}
+use Rattle.record_lines.specs.Lines.{has_some, piece_text, records_text, refuted_count}
+use Rattle.run_answers.specs.declared.ending.Ending.{Ending}
+use Rattle.explore_command.specs.Explores.{BehindHead, IsCut, IsCutInRecord, IsCutInTail, IsReport, IsSoFar, end_of, is_done}
+use Rattle.explore_command.proofs.PutLemmas.{Joins}
+
+-- the piece of a record comes behind those of the others
+abbrev pub ComesBehind : Type 0
+ComesBehind = (net : Network) (items : List Record) (item : Record) → records_text net (items ++ item ∷ [])
+    ≡ records_text net items ++ piece_text net (has_some items) item
+
+module _ (joins : Joins) (behind : ComesBehind) (hops limit : ℕ) (net : Network) (i : Entry) where
+  abbrev pub Begins : List ℕ → Type 0
+  Begins part =
+      ((ending : Ending) × (whole : List ℕ) × IsReport hops limit net i ending whole × IsPrefix part whole)
+      ⊎ ((whole : List ℕ) × BehindHead hops limit (IsSoFar hops net i) whole × IsPrefix part whole)
+
+  none_so_far : IsSoFar hops net i []
+  none_so_far = record { records = []; exact = record { is = inl refl }; pieces = refl }
+
+  in_head : (part : List ℕ) → IsPrefix part (head_text hops limit) → Begins part
+  in_head part h = inr (head_text hops limit ++ [], ([], none_so_far, refl), IsPrefix-append part (head_text hops limit) [] h)
+
+  with_last : (own : List ℕ) → (cut : IsCutInRecord hops net i own) → IsSoFar hops net i (records_text net (cut.done ++ cut.last ∷ []))
+  with_last own cut = record {
+    records = cut.done ++ cut.last ∷ [];
+    exact = record { is = inr (record_trees cut.done, record_tree cut.last, map-append record_tree cut.done (cut.last ∷ []), cut.exact) };
+    pieces = refl;
+  }
+
+  in_record : (own : List ℕ) → IsCutInRecord hops net i own → Begins (head_text hops limit ++ own)
+  in_record own cut =
+      let before = records_text net cut.done in
+      let piece = piece_text net (has_some cut.done) cut.last in
+      let all = records_text net (cut.done ++ cut.last ∷ []) in
+      let begins : IsPrefix own all =
+      subst (λ s. IsPrefix s all) (sym cut.pieces)
+      (subst (IsPrefix (before ++ cut.own)) (sym (behind net cut.done cut.last)) (IsPrefix-behind before cut.own piece cut.begins)) in
+      inr (head_text hops limit ++ all, (all, with_last own cut, refl), IsPrefix-behind (head_text hops limit) own all begins)
+
+  in_tail : (own : List ℕ) → IsCutInTail hops limit net i own → Begins (head_text hops limit ++ own)
+  in_tail own cut =
+      let before = records_text net cut.records in
+      let tail = end_of cut.ending cut.records in
+      let begins : IsPrefix own (before ++ tail) =
+      subst (λ s. IsPrefix s (before ++ tail)) (sym cut.pieces) (IsPrefix-behind before cut.own tail cut.begins) in
+      inl (
+        cut.ending,
+        head_text hops limit ++ (before ++ tail),
+        record {
+          records = cut.records;
+          found = cut.found;
+          line = sym (joins net hops limit cut.records (refuted_count cut.records) (is_done cut.ending));
+        },
+        IsPrefix-behind (head_text hops limit) own (before ++ tail) begins,
+      )
+
+  pub cut_begins : (part : List ℕ) → IsCut hops limit net i part → Begins part
+  cut_begins part (inl h) = in_head part h
+  cut_begins part (inr (own, inl cut, is)) = subst Begins (sym is) (in_record own cut)
+  cut_begins part (inr (own, inr cut, is)) = subst Begins (sym is) (in_tail own cut)

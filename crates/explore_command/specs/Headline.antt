@@ -1,0 +1,38 @@
+-- What the report of a finished exploration tells of the packets of a job.
+use Rattle.std.specs.Prelude.{ℕ, ◌≡◌, List}
+use Rattle.std.specs.List.{AllByRecursion}
+use Rattle.net_check.specs.Network.{Network, Entry}
+use Rattle.sefl_meaning.specs.Walks.{Trail}
+use Rattle.path_records.specs.declared.records.Record.{Record}
+use Rattle.exact_records.specs.Exact.{ExactlyOne, IsTried}
+use Rattle.exact_records.specs.Packets.{HasPacket, IsExplored, IsNotTaken, IsWalkOf}
+use Rattle.exact_records.specs.Records.{IsPruned, RecordTree, SymStart, path, pruned, unexplored}
+use Rattle.exact_records.specs.View.{record_trees}
+use Rattle.exact_records.specs.Whole.{IsPathOf}
+use Rattle.run_answers.specs.declared.ending.Ending.TheVariants.{Done}
+use Rattle.explore_command.specs.Explores.{line_of}
+
+-- the checker accepts the refutation of a refuted side, for the condition of its decisions
+abbrev pub IsRefuted : SymStart → RecordTree → Type 0
+IsRefuted start (path ds places ended fields verdict) = Unit {0}
+IsRefuted start (pruned ds before refutation) = IsPruned start ds before refutation
+IsRefuted start (unexplored ds) = Unit {0}
+
+module _ (net : Network) (i : Entry) (hops : ℕ) where
+  -- Each packet that meets the injection walks, on every fork, exactly one of the paths: by the same ports, to the same end with
+  -- the same fault, and with the same tags and fields. Each path that is marked satisfiable has the values of a packet that
+  -- takes it. Each refuted side has a refutation that the checker accepts, and no packet takes it. Nothing was left out.
+  pub record TellsAll (rs : List RecordTree) : Type 0 where
+    pub walks : (v : List ℕ) (w : Trail) → IsWalkOf net i hops v w → ExactlyOne (IsPathOf v w) rs
+    pub packets : AllByRecursion (HasPacket net i hops) rs
+    pub start : SymStart
+    pub explored : IsExplored net i hops start
+    pub refuted : AllByRecursion (IsRefuted start) rs
+    pub not_taken : AllByRecursion (IsNotTaken net i hops) rs
+    pub tried : AllByRecursion IsTried rs
+
+  -- the text is the report of records that tell all this
+  pub record IsHeadline (limit : ℕ) (whole : List ℕ) : Type 0 where
+    pub records : List Record
+    pub line : whole ≡ line_of hops limit net Done records
+    pub tells : TellsAll (record_trees records)

@@ -1,0 +1,66 @@
+-- What each part of a report leaves in the sink.
+use Rattle.std.specs.Prelude.{ℕ, ◌≡◌, ◌⊎◌, List, ◌++◌, Option, Result, Ok, Err}
+use Rattle.std.specs.Io.KnownBytes.{append_known}
+use Rattle.sn_edge.specs.Pieces.{IsPrefix}
+use Rattle.net_check.specs.Network.{Network, Entry}
+use Rattle.path_records.specs.declared.records.Record.{Record}
+use Rattle.path_exec.specs.declared.exploration.Ended.{Ended}
+use Rattle.path_exec.specs.declared.exploration.Ended.TheVariants as ended
+use Rattle.record_text.specs.Reports.{tail_text}
+use Rattle.record_lines.specs.Lines.{records_text, refuted_count}
+use Rattle.run_answers.specs.Runs.{Gains}
+use Rattle.run_answers.specs.declared.ending.Ending.{Ending}
+use Rattle.run_answers.specs.declared.ending.Ending.TheVariants.{Done, Partial}
+use Rattle.run_answers.specs.declared.ending.Stop.{Stop}
+use Rattle.run_answers.specs.declared.ending.Stop.TheVariants.{Input, Own, Write, NoMemory}
+use Rattle.explore_command.specs.Explores.{AreFound, IsCutInRecord, IsCutInTail, IsSoFar, end_of, is_done}
+use Rattle.explore_command.specs.declared.report.Tail.{Tail}
+
+-- what the tail says where an exploration ended so; or why there is none
+abbrev pub tail_of : {E : Type 0} → Result Ended E → ℕ → Result Tail Stop
+tail_of (Ok ended.Whole) refuted = Ok (record { ending = Done; refuted = refuted })
+tail_of (Ok ended.Partial) refuted = Ok (record { ending = Partial; refuted = refuted })
+tail_of (Ok ended.Stopped) refuted = Err Write
+tail_of (Err e) refuted = Err NoMemory
+
+-- the count that rose where a put failed
+abbrev pub StopShows : Type 0 → Stop → Type 0
+StopShows broken Write = broken
+StopShows broken NoMemory = Unit {0}
+StopShows broken _ = ⊥
+
+-- the tail was put
+abbrev pub PutsEnd : Option (List ℕ) → Option (List ℕ) → Tail → Result Ending Stop → Type 0
+PutsEnd known now tail (Ok ending) = (ending ≡ tail.ending) × (now ≡ append_known known (tail_text tail.refuted (is_done tail.ending)))
+PutsEnd known now tail (Err Write) = Gains known now (λ part. IsPrefix part (tail_text tail.refuted (is_done tail.ending)))
+PutsEnd known now tail (Err NoMemory) = now ≡ known
+PutsEnd known now tail _ = ⊥
+
+module _ (hops limit : ℕ) (net : Network) (i : Entry) where
+  -- the pieces of all records, of which so many are refuted sides
+  pub record AreAll (tail : Tail) (part : List ℕ) : Type 0 where
+    pub records : List Record
+    pub found : AreFound hops limit net i tail.ending records
+    pub counted : tail.refuted ≡ refuted_count records
+    pub pieces : part ≡ records_text net records
+
+  -- and the tail
+  pub record AreRest (ending : Ending) (part : List ℕ) : Type 0 where
+    pub records : List Record
+    pub found : AreFound hops limit net i ending records
+    pub pieces : part ≡ records_text net records ++ end_of ending records
+
+  module _ (known now : Option (List ℕ)) where
+    -- the records were put
+    abbrev pub PutsRecords : Result Tail Stop → Type 0
+    PutsRecords (Ok tail) = Gains known now (AreAll tail)
+    PutsRecords (Err Write) = Gains known now (IsCutInRecord hops net i)
+    PutsRecords (Err NoMemory) = Gains known now (IsSoFar hops net i)
+    PutsRecords _ = ⊥
+
+    -- the records and the tail were put
+    abbrev pub PutsRest : Result Ending Stop → Type 0
+    PutsRest (Ok ending) = Gains known now (AreRest ending)
+    PutsRest (Err Write) = Gains known now (λ part. IsCutInRecord hops net i part ⊎ IsCutInTail hops limit net i part)
+    PutsRest (Err NoMemory) = Gains known now (IsSoFar hops net i)
+    PutsRest _ = ⊥

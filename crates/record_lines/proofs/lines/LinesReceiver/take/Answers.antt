@@ -1,0 +1,20 @@
+use Rattle.std.proofs.Common.{◌∙◌, ap, subst}
+use Rattle.std.specs.Io.KnownBytes.{append_known}
+use Rattle.sn_edge.specs.Pieces.{IsPrefix}
+use Rattle.net_check.specs.Network.{network}
+use Rattle.record_lines.proofs.LineLemmas.{one_more, stops_in}
+use Rattle.record_lines.proofs.lines.LinesReceiver.take.Goals as goal
+
+pub returns-in-All-clause-took : goal.returns-in-All-clause-took
+returns-in-All-clause-took g c =
+    one_more (network c.args.self.now.net.now) g.M.Mark.known (g.K.Sink.taken c.args.self.now.out.now) (g.K.Sink.taken c.put_piece.new.out)
+    c.args.self.now.some c.args.self.now.refuted c.args.item c.in-Some.refuted c.in-Some.ensures
+    (c.in-All.ensures.puts ∙ ap (append_known (g.K.Sink.taken c.args.self.now.out.now)) (c.deref.ensures ∙ c.in-Ok.ensures))
+
+pub returns-in-Failed-clause-took : goal.returns-in-Failed-clause-took
+returns-in-Failed-clause-took g c =
+    let (part, begins, gained) = c.in-Failed.ensures.puts in (
+      c.in-Failed.ensures.failed,
+      stops_in (network c.args.self.now.net.now) g.M.Mark.known (g.K.Sink.taken c.args.self.now.out.now) (g.K.Sink.taken c.put_piece.new.out)
+          c.args.self.now.some c.args.self.now.refuted c.args.item (part, subst (IsPrefix part) (c.deref.ensures ∙ c.in-Ok.ensures) begins, gained),
+    )

@@ -1,0 +1,56 @@
+-- What a sink has gained of the records of a report.
+use Rattle.std.specs.Prelude.{ℕ, ◌≡◌, Bool, true, false, List, [], ◌∷◌, ◌++◌, map, sum_by, Option}
+use Rattle.std.specs.Io.KnownBytes.{append_known}
+use Rattle.serde_json.specs.Written.{comma_if, compact_text}
+use Rattle.net_check.specs.Network.{Network}
+use Rattle.path_records.specs.declared.records.Record.{Record}
+use Rattle.path_records.specs.declared.records.Record.TheVariants.{Path, Pruned, Unexplored}
+use Rattle.record_text.specs.Records.{record_data}
+use Rattle.record_text.specs.Reports.{record_pieces}
+use Rattle.sn_edge.specs.Pieces.{IsPrefix}
+use Rattle.sn_edge.specs.declared.sink.Put.{Put}
+use Rattle.sn_edge.specs.declared.sink.Put.TheVariants.{All, Failed, NoMemory}
+
+-- 1 for a refuted side
+abbrev pub refuted_by : Record → ℕ
+refuted_by (Path decisions places ended fields verdict) = 0
+refuted_by (Pruned decisions before refutation) = 1
+refuted_by (Unexplored decisions) = 0
+
+-- how many are refuted sides
+abbrev pub refuted_count : List Record → ℕ
+refuted_count records = sum_by refuted_by records
+
+abbrev pub has_some : {A : Type 0} → List A → Bool
+has_some [] = false
+has_some (x ∷ xs) = true
+
+-- the piece of a record: its text, behind a comma where another one was put before it
+abbrev pub piece_text : Network → Bool → Record → List ℕ
+piece_text net later item = comma_if later ++ compact_text (record_data net item)
+
+-- the pieces of records
+abbrev pub records_text : Network → List Record → List ℕ
+records_text net records = record_pieces false (map (record_data net) records)
+
+-- what a put of this piece leaves of what was known: all of it came to that, a beginning of it, or nothing
+abbrev pub PutAs : Option (List ℕ) → Option (List ℕ) → List ℕ → Put → Type 0
+PutAs known now piece All = now ≡ append_known known piece
+PutAs known now piece Failed = (part : List ℕ) × IsPrefix part piece × (now ≡ append_known known part)
+PutAs known now piece NoMemory = now ≡ known
+
+module _ (net : Network) (known now : Option (List ℕ)) where
+  -- behind what was known there are the pieces of these records; whether there is any, and how many are refuted sides
+  pub record HasLines (some : Bool) (refuted : ℕ) (items : List Record) : Type 0 where
+    pub taken : now ≡ append_known known (records_text net items)
+    pub has : some ≡ has_some items
+    pub counted : refuted ≡ refuted_count items
+
+  -- or those of all but the last, and a beginning of the piece of that
+  pub record StopsInLine (items : List Record) : Type 0 where
+    pub done : List Record
+    pub last : Record
+    pub is : items ≡ done ++ last ∷ []
+    pub part : List ℕ
+    pub begins : IsPrefix part (piece_text net (has_some done) last)
+    pub taken : now ≡ append_known known (records_text net done ++ part)

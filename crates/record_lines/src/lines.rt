@@ -1,0 +1,93 @@
+//! Records that are put as they are found.
+
+ghost use Rattle.std.specs.Prelude.{◌≡◌, ◌+◌, ℕ, List, Option, None, string_bytes, IfOk, IfSome};
+ghost use Rattle.net_check.specs.Network.{network};
+ghost use Rattle.path_records.specs.declared.records.Record.{Record as RecordOf};
+ghost use Rattle.record_lines.specs.Lines.{HasLines, StopsInLine, piece_text, refuted_by};
+
+use crate::ends::put_piece;
+use net_check::Net;
+use path_exec::{Receiver, Took};
+use path_records::Record;
+use record_text::record_text;
+use sn_edge::{Put, Sink};
+use sn_width::NoMemory;
+use std::alloc::Global;
+use std::marker::{Brand, PhantomData};
+
+/// What a sink held before the first record.
+pub trait Mark {
+    ghost use Rattle.std.specs.Prelude.{ℕ, List, Option};
+
+    ghost known: { Option (List ℕ) };
+}
+
+impl Mark for Brand {
+    ghost use Rattle.std.specs.Prelude.{None};
+
+    ghost known = { None };
+}
+
+/// Puts each record of a net into a sink, behind a comma where another one was put before it. It keeps none of them.
+#[derive(Drop)]
+pub struct Lines<'a, M: Mark, K: Sink> {
+    pub alloc: Global,
+    pub net: &'a Net,
+    pub out: &'a mut K,
+    /// Whether a record was put.
+    pub some: bool,
+    /// How many of those that were put are refuted sides.
+    pub refuted: u64,
+    pub of: PhantomData<M>,
+}
+
+/// The piece of a record.
+fn piece_of(alloc: Global, net: &Net, later: bool, item: &Record) -> Result<String, NoMemory>
+    ensures { IfOk result (λ piece. string_bytes piece ≡ piece_text (network net.now) later item.now) }
+{
+    let text = record_text(alloc, net, item)?;
+    if later {
+        return Ok(format!(in alloc; ",{text}")?);
+    }
+    Ok(text)
+}
+
+/// The number of refuted sides with this record; None where it cannot rise any more.
+fn refuted_with(refuted: u64, item: &Record) -> Option<u64>
+    ensures { IfSome result (λ count. count ≡ refuted + refuted_by item.now) }
+{
+    match item {
+        Record::Pruned { .. } => refuted.checked_add(1),
+        Record::Path { .. } | Record::Unexplored { .. } => Some(refuted),
+    }
+}
+
+impl<M: Mark, K: Sink> Receiver for Lines<'_, M, K> {
+    type Item = Record;
+
+    ghost seen = { λ lines. record {
+      StandsFor = HasLines (network lines.net.now) M.known (K.taken lines.out.now) lines.some lines.refuted;
+      StoppedIn = StopsInLine (network lines.net.now) M.known (K.taken lines.out.now);
+      stops = K.faults lines.out.now;
+      target = lines.out.ghost_name;
+      Takes = λ item. Unit {0};
+    } };
+
+    fn take(&mut self, item: Record) -> Took {
+        let Some(refuted) = refuted_with(self.refuted, &item) else {
+            return Took::NoMemory;
+        };
+        let Ok(piece) = piece_of(self.alloc, self.net, self.some, &item) else {
+            return Took::NoMemory;
+        };
+        match put_piece(&piece, self.out) {
+            Put::All => {
+                self.some = true;
+                self.refuted = refuted;
+                Took::More
+            }
+            Put::Failed => Took::Stop,
+            Put::NoMemory => Took::NoMemory,
+        }
+    }
+}

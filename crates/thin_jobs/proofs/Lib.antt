@@ -1,5 +1,0 @@
-mod Blocks
-mod Found
-mod Whole
-mod Rules
-mod Spelling

@@ -1,2 +1,0 @@
-pub mod Thins
-pub mod Parts

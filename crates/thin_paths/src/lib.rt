@@ -1,6 +1,0 @@
-//! Symbolic execution of paths.
-#![tactic(auto)]
-
-mod comparison;
-
-pub use comparison::sides;
