@@ -20,10 +20,8 @@ use Rattle.sefl_meaning.specs.Runs.{Progress, off, go, forked, failed}
 use Rattle.sefl_meaning.specs.Courses.{Course, ends, asks, after}
 use Rattle.sefl_meaning.specs.Trees.{arrives, copies, leave, over, passed, crossed, port_course, then_tree}
 use Rattle.term_values.specs.TermValues.{terms}
-use Rattle.code_frames.specs.declared.frame.Exit.{Exit}
 use Rattle.code_frames.specs.declared.frame.Frame.{Frame}
 use Rattle.code_frames.specs.declared.frame.Move.{Move}
-use Rattle.code_frames.specs.declared.frame.Move.TheVariants.{Ended}
 use Rattle.code_frames.specs.Frames as code
 use Rattle.code_frames.specs.Frames.{course_after, course_frames, course_left, exit_of, from, of_frame}
 use Rattle.sym_state.specs.Symbolic.{Rest, Symbolic, choices_of, rest_of, with_place}
@@ -115,11 +113,6 @@ count_of_copies net u hops node (port ∷ ports) p = ap suc (count_of_copies net
 abbrev pub move_tree : Network → Gate → Move Formula → List Frame → Symbolic → ℕ → SymTree
 move_tree net gate move frames x begun =
     then_tree (course_after (terms x.unknowns) net gate.node view move frames (progress_in x begun)) (behind_gate net x.unknowns gate)
-
--- at an end
-pub at_end : (net : Network) (gate : Gate) (exit : Exit) (frames : List Frame) (x : Symbolic) (begun : ℕ)
-    → move_tree net gate (Ended exit) frames x begun ≡ behind_gate net x.unknowns gate (exit_of exit) (progress_in x begun)
-at_end net gate exit frames x begun = refl
 
 module _ {P O N D T : Type 0} (v : Views P O N D T) (net : Network) (gate : Gate) (x y : Symbolic) (old new : List Frame) (move : Move Formula)
     (before after : ℕ) where
