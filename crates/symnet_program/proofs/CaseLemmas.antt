@@ -2,7 +2,6 @@
 use Rattle.std.proofs.Common.{◌≡◌, ◌⊎◌, inl, inr, refl, sym, ap, subst, ◌∙◌, ℕ, ◌<◌, ◌≤◌, List, [], ◌∷◌, length, Bool, Option, None, Some, true, false, arith}
 use Rattle.std.proofs.lemmas.Bool.{true≢false}
 use Rattle.std.proofs.lemmas.Option.{none-some, same_Some}
-use Rattle.std.specs.Option.{ForSome}
 use Rattle.std.specs.Prelude.{IsSomeAnd}
 use Rattle.sn_width.specs.declared.ids.Site.{Site}
 use Rattle.sefl_syntax.specs.Filled.{is_filled}
@@ -17,7 +16,7 @@ use Rattle.run_answers.specs.Flaws.{Flaw, HasFlaw, flaw_of}
 use Rattle.run_answers.specs.Refusals.{fault_by_number, fault_by_rule}
 use Rattle.run_answers.specs.Jobs.{AcceptFails, HasFilled, HasJob, IsOnlyFlaw, IsOnlyJob, IsRefusedAt, IsTextOf, ReadFails, TablesFail, first_bad}
 use Rattle.run_answers.specs.Outside.{World, world}
-use Rattle.run_answers.specs.Inputs.{Input, Given, a_job, a_file, a_net, some_bytes, AllOpen, FirstFails, Opens, Fails}
+use Rattle.run_answers.specs.Inputs.{Input, Given, a_job, a_file, a_net, AllOpen, FirstFails, Opens, Fails}
 use Rattle.run_answers.specs.Runs.{OwnWork, Outcome, text, refused}
 use Rattle.run_answers.specs.declared.limits.TheConstants.{FILE_LIMIT, HOPS, LIMIT}
 use Rattle.run_answers.specs.declared.ending.Ending.TheVariants as ending

@@ -1,17 +1,15 @@
 -- What `walk` tells in a world of a job without tables that breaks no rule.
-use Rattle.std.proofs.Common.{◌≡◌, ◌⊎◌, inl, inr, refl, sym, ap, subst, ◌∙◌, ℕ, ◌<◌, ◌≤◌, List, [], ◌∷◌, length, Option, None, Some, true, false}
+use Rattle.std.proofs.Common.{◌≡◌, ◌⊎◌, inl, inr, refl, sym, ap, subst, ◌∙◌, ℕ, ◌<◌, ◌≤◌, List, [], ◌∷◌, length, None, Some}
 use Rattle.std.proofs.lemmas.Bool.{true≢false}
 use Rattle.std.proofs.lemmas.Option.{same_Some}
 use Rattle.std.specs.Option.{ForSome}
-use Rattle.std.specs.Prelude.{Bool, IsSomeAnd}
-use Rattle.sn_width.specs.declared.ids.Site.{Site}
-use Rattle.sefl_syntax.specs.Trees.{JobTree}
+use Rattle.std.specs.Prelude.{IsSomeAnd}
 use Rattle.net_check.specs.Network.{Network, Entry}
 use Rattle.packet_file.specs.Packet.{packet_of}
-use Rattle.run_answers.specs.Files.{HasFile, LoadFails}
+use Rattle.run_answers.specs.Files.{LoadFails}
 use Rattle.run_answers.specs.Jobs.{HasFilled, ListsFound, first_bad}
 use Rattle.run_answers.specs.Outside.{World, world}
-use Rattle.run_answers.specs.Inputs.{Input, Given, a_job, a_file, a_net, some_bytes, AllOpen, FirstFails, Opens, IsSettled}
+use Rattle.run_answers.specs.Inputs.{Given, a_job, a_file, a_net, some_bytes, AllOpen, Opens, IsSettled}
 use Rattle.run_answers.specs.Runs.{Outcome}
 use Rattle.run_answers.specs.declared.limits.TheConstants.{FILE_LIMIT, HOPS, LIMIT}
 use Rattle.run_answers.specs.declared.fault.InputFault.{InputFault}
@@ -86,9 +84,11 @@ module _ (job packet : List ℕ) (p : World) (status : Status) (net : Network) (
 
     pub long_packet : (bytes : List ℕ) → p.at packet ≡ Some bytes → FILE_LIMIT < length bytes → (status ≡ TooBig packet) ⊎ MayBeBad status
     long_packet bytes has long =
-        refused_file (input.TooBig packet) tt
-        (refl, λ at told. subst (λ f. IsSomeAnd (f packet) (λ bs. FILE_LIMIT < length bs)) (same_Some p.at at told)
-        (subst (λ o. IsSomeAnd o (λ bs. FILE_LIMIT < length bs)) (sym has) long))
+        refused_file (input.TooBig packet) tt (
+          refl,
+          λ at told. subst (λ f. IsSomeAnd (f packet) (λ bs. FILE_LIMIT < length bs)) (same_Some p.at at told)
+              (subst (λ o. IsSomeAnd o (λ bs. FILE_LIMIT < length bs)) (sym has) long),
+        )
 
   -- it has these bytes
   module _ (once : (a b : List Given) → AllOpen (world p) tt (inputs (walk job packet)) a tt → AllOpen (world p) tt (inputs (walk job packet)) b tt → a ≡ b)
@@ -111,7 +111,7 @@ module _ (job packet : List ℕ) (p : World) (status : Status) (net : Network) (
         came : IsGood → ((other : Outcome) × (work (walk job packet)).comes (a_net net i is.tree.asks ∷ some_bytes bytes ∷ []) other × (status ≡ outcome_status other)) ⊎ MayStop p status
         came h =
             own_told (inputs (walk job packet)) (work (walk job packet)) p (a_net net i is.tree.asks ∷ some_bytes bytes ∷ [])
-            (λ other open. once other (a_net net i is.tree.asks ∷ some_bytes bytes ∷ []) open (all_open h))
+            (λ other opened. once other (a_net net i is.tree.asks ∷ some_bytes bytes ∷ []) opened (all_open h))
             (λ fault settled fails. decides.excludes (inputs (walk job packet)) (a_net net i is.tree.asks ∷ some_bytes bytes ∷ []) fault settled (all_open h) fails)
             status caused
 
