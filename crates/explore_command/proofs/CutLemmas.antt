@@ -1,6 +1,6 @@
 -- What was written where the sink failed is a beginning of one text.
-use Rattle.std.proofs.Common.{◌≡◌, ◌∙◌, ◌⊎◌, inl, inr, ap, refl, sym, subst, ℕ, List, [], ◌∷◌, ◌++◌, map, append_assoc}
-use Rattle.std.proofs.lemmas.List.{append-nil, map-append}
+use Rattle.std.proofs.Common.{◌≡◌, ◌⊎◌, inl, inr, refl, sym, subst, ℕ, List, [], ◌∷◌, ◌++◌}
+use Rattle.std.proofs.lemmas.List.{map-append}
 use Rattle.sn_edge.specs.Pieces.{IsPrefix, IsPrefix-append, IsPrefix-behind}
 use Rattle.net_check.specs.Network.{Network, Entry}
 use Rattle.path_records.specs.declared.records.Record.{Record}

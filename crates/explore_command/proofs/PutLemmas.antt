@@ -1,5 +1,5 @@
 -- What the parts of a report come to together.
-use Rattle.std.proofs.Common.{◌≡◌, ◌∙◌, inl, inr, ap, refl, sym, subst, ℕ, ◌<◌, Bool, List, [], ◌∷◌, ◌++◌, map, Option, Some, None, Result, Ok, Err, append_assoc}
+use Rattle.std.proofs.Common.{◌≡◌, ◌∙◌, inl, inr, ap, refl, sym, subst, ℕ, Bool, List, [], ◌∷◌, ◌++◌, Option, Some, None, Result, Ok, Err}
 use Rattle.std.proofs.lemmas.List.{append-nil, same_from_push}
 use Rattle.std.specs.Prelude.{IfErr}
 use Rattle.std.specs.Io.KnownBytes.{append_known}
@@ -13,17 +13,16 @@ use Rattle.path_exec.specs.declared.exploration.Ended.TheVariants as ended
 use Rattle.path_exec.specs.Receiving.{Receiving}
 use Rattle.exact_records.specs.Packets.{AreExactUpToFor}
 use Rattle.exact_records.specs.View.{record_tree, record_trees}
-use Rattle.record_text.specs.Records.{record_data}
-use Rattle.record_text.specs.Reports.{head_text, record_pieces, report_line, tail_text}
+use Rattle.record_text.specs.Reports.{head_text, report_line, tail_text}
 use Rattle.record_lines.specs.Lines.{HasLines, PutAs, StopsInLine, records_text, refuted_count}
 use Rattle.symbolic_engine.specs.Exploring.{ExploredFor}
 use Rattle.run_answers.specs.Inputs.{a_net}
-use Rattle.run_answers.specs.Runs.{Gains, Performs, WriteShows}
+use Rattle.run_answers.specs.Runs.{Performs, WriteShows}
 use Rattle.run_answers.specs.declared.ending.Ending.{Ending}
 use Rattle.run_answers.specs.declared.ending.Stop.{Stop}
 use Rattle.run_answers.specs.declared.ending.Stop.TheVariants.{Input, Own, Write, NoMemory}
-use Rattle.explore_command.specs.Explores.{AreFound, IsCut, IsCutInRecord, IsCutInTail, IsLeft, IsReport, IsSoFar, end_of, explore_work, is_done, line_of}
-use Rattle.explore_command.specs.Putting.{AreAll, AreRest, PutsEnd, PutsRecords, PutsRest, StopShows, tail_of}
+use Rattle.explore_command.specs.Explores.{AreFound, end_of, explore_work, is_done}
+use Rattle.explore_command.specs.Putting.{PutsEnd, PutsRecords, PutsRest, StopShows, tail_of}
 use Rattle.explore_command.specs.declared.report.Tail.{Tail}
 use Rattle.explore_command.proofs.SoFarLemmas.{so_far}
 
@@ -54,10 +53,10 @@ module _ (hops limit : ℕ) (net : Network) (i : Entry) where
       (subst (λ rs. AreExactUpToFor net i hops (record_trees rs) (record_tree end')) fronts h)
 
   -- an exploration over lines ended so
-  module _ {E : Type 0} (known now : Option (List ℕ)) (some : Bool) (refuted : ℕ) (m : Receiving Record)
-    (stands : (items : List Record) → m.StandsFor items → HasLines net known now some refuted items)
-    (stopped : (items : List Record) → m.StoppedIn items → StopsInLine net known now items)
-    (stops before after : ℕ) where
+  module _ {E : Type 0} (known now : Option (List ℕ)) (own : Network) (some : Bool) (refuted : ℕ) (m : Receiving Record)
+      (stands : (items : List Record) → m.StandsFor items → HasLines net known now own some refuted items)
+      (stopped : (items : List Record) → m.StoppedIn items → StopsInLine net known now items)
+      (stops before after : ℕ) where
     pub records_put : (answer : Result Ended E) → ExploredFor net i hops limit stops m before after answer → PutsRecords hops limit net i known now (tail_of answer refuted)
     records_put (Ok ended.Whole) h =
         let has = stands h.items h.stands in (
@@ -86,12 +85,6 @@ module _ (hops limit : ℕ) (net : Network) (i : Entry) where
         )
     records_put (Err e) h =
         (records_text net h.items, record { records = h.items; exact = h.exact; pieces = refl }, (stands h.items h.stands).taken)
-
-    pub records_show : (answer : Result Ended E) → ExploredFor net i hops limit stops m before after answer → IfErr (tail_of answer refuted) (StopShows (stops < m.stops))
-    records_show (Ok ended.Whole) h = tt
-    records_show (Ok ended.Partial) h = tt
-    records_show (Ok ended.Stopped) h = h.cause
-    records_show (Err e) h = tt
 
   -- the tail comes behind all records
   module _ (known mid now : Option (List ℕ)) where

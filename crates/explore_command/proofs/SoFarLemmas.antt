@@ -22,7 +22,7 @@ module _ (net : Network) (i : Entry) (hops limit : ℕ) where
       ascend = h.exact.ascend;
       good = h.exact.good;
       once = λ v ds takes within. h.exact.once v ds takes;
-      begun = λ p c d rest some open within. h.exact.begun p c d rest some open tt;
+      begun = λ p c d rest some offered within. h.exact.begun p c d rest some offered tt;
     };
     walks = λ v w walk within. h.walks v w walk;
     packets = h.packets;

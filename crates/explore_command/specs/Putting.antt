@@ -12,7 +12,7 @@ use Rattle.run_answers.specs.Runs.{Gains}
 use Rattle.run_answers.specs.declared.ending.Ending.{Ending}
 use Rattle.run_answers.specs.declared.ending.Ending.TheVariants.{Done, Partial}
 use Rattle.run_answers.specs.declared.ending.Stop.{Stop}
-use Rattle.run_answers.specs.declared.ending.Stop.TheVariants.{Input, Own, Write, NoMemory}
+use Rattle.run_answers.specs.declared.ending.Stop.TheVariants.{Write, NoMemory}
 use Rattle.explore_command.specs.Explores.{AreFound, IsCutInRecord, IsCutInTail, IsSoFar, end_of, is_done}
 use Rattle.explore_command.specs.declared.report.Tail.{Tail}
 

@@ -11,6 +11,7 @@ ghost use Rattle.explore_command.specs.Putting.{PutsEnd, PutsRecords, PutsRest, 
 use net_check::Accepted;
 use path_exec::Ended;
 use record_lines::{Lines, Mark, put_head, put_tail};
+use record_text::laws::lines_join;
 use run_answers::{Ending, Stop};
 use sn_edge::{Put, Sink};
 use sn_width::{NoMemory, Steps};
@@ -66,6 +67,7 @@ fn put_records<M: Mark, K: Sink, L: Ledger>(
 ) -> Result<Tail, Stop>
     requires job { AreOfOneJob (network job.now.net) (entry job.now.injection) }
     requires limit { 0 < limit }
+    requires net { network job.now.net ≡ M.net }
     requires known { K.taken out.old ≡ M.known }
     requires name { blank.name ≡ L.name }
     requires parts { blank.parts ≡ L.parts }
@@ -122,8 +124,7 @@ fn put_rest<K: Sink>(
     ensures puts { PutsRest hops limit (network job.now.net) (entry job.now.injection) (K.taken out.old) (K.taken out.new) result }
     ensures shows { IfErr result (StopShows (K.faults out.old < K.faults out.new)) }
 {
-    let tail =
-        put_records::<Brand, K, Brand>(alloc, job, hops, limit, out, Blank::new(1))?;
+    let tail = put_records::<Brand, K, Brand>(alloc, job, hops, limit, out, Blank::new(1))?;
     put_end(alloc, tail, out)
 }
 
@@ -141,6 +142,7 @@ pub(crate) fn put_report<K: Sink>(
     ensures performs { Performs (K.taken out.old) (K.taken out.new) (explore_work hops limit) (given_of job.now ∷ []) result }
     ensures shows { WriteShows (K.faults out.old < K.faults out.new) result }
 {
+    lines_join();
     match put_head(alloc, hops, limit, out) {
         Put::All => put_rest(alloc, job, hops, limit, out),
         Put::Failed => Err(Stop::Write),

@@ -49,27 +49,29 @@ counted_from first (x ∷ items) item = counted_from (first + refuted_by x) item
 count_with : (items : List Record) (item : Record) → refuted_count (items ++ item ∷ []) ≡ refuted_count items + refuted_by item
 count_with items item = counted_from 0 items item
 
-module _ (net : Network) (known before now : Option (List ℕ)) (some : Bool) (refuted : ℕ) (item : Record) where
+module _ (net own : Network) (known before now : Option (List ℕ)) (some : Bool) (refuted : ℕ) (item : Record) where
   -- the piece was put
-  pub one_more : (count : ℕ) → count ≡ refuted + refuted_by item → now ≡ append_known before (piece_text net some item)
-      → (items : List Record) → HasLines net known before some refuted items → HasLines net known now true count (items ++ item ∷ [])
+  pub one_more : (count : ℕ) → count ≡ refuted + refuted_by item → now ≡ append_known before (piece_text own some item)
+      → (items : List Record) → HasLines net known before own some refuted items → HasLines net known now own true count (items ++ item ∷ [])
   one_more count counts gained items has = record {
-    taken = gained ∙ (ap (λ b. append_known before (piece_text net b item)) has.has
-    ∙ (ap (λ k. append_known k (piece_text net (has_some items) item)) has.taken
-    ∙ (append_known-append known (records_text net items) (piece_text net (has_some items) item)
-    ∙ ap (append_known known) (sym (text_with net items item)))));
+    same = has.same;
+    taken = gained ∙ (ap (λ n. append_known before (piece_text n some item)) has.same
+        ∙ (ap (λ b. append_known before (piece_text net b item)) has.has
+        ∙ (ap (λ k. append_known k (piece_text net (has_some items) item)) has.taken
+        ∙ (append_known-append known (records_text net items) (piece_text net (has_some items) item)
+        ∙ ap (append_known known) (sym (text_with net items item))))));
     has = sym (has_some_with items item);
     counted = counts ∙ (ap (λ n. n + refuted_by item) has.counted ∙ sym (count_with items item));
   }
 
   -- or a beginning of it
-  pub stops_in : ((part : List ℕ) × IsPrefix part (piece_text net some item) × (now ≡ append_known before part))
-      → (items : List Record) → HasLines net known before some refuted items → StopsInLine net known now (items ++ item ∷ [])
+  pub stops_in : ((part : List ℕ) × IsPrefix part (piece_text own some item) × (now ≡ append_known before part))
+      → (items : List Record) → HasLines net known before own some refuted items → StopsInLine net known now (items ++ item ∷ [])
   stops_in (part, begins, gained) items has = record {
     done = items;
     last = item;
     is = refl;
     part = part;
-    begins = subst (λ b. IsPrefix part (piece_text net b item)) has.has begins;
+    begins = subst (λ b. IsPrefix part (piece_text net b item)) has.has (subst (λ n. IsPrefix part (piece_text n some item)) has.same begins);
     taken = gained ∙ (ap (λ k. append_known k part) has.taken ∙ append_known-append known (records_text net items) part);
   }

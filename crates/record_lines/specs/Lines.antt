@@ -40,8 +40,10 @@ PutAs known now piece Failed = (part : List ℕ) × IsPrefix part piece × (now 
 PutAs known now piece NoMemory = now ≡ known
 
 module _ (net : Network) (known now : Option (List ℕ)) where
-  -- behind what was known there are the pieces of these records; whether there is any, and how many are refuted sides
-  pub record HasLines (some : Bool) (refuted : ℕ) (items : List Record) : Type 0 where
+  -- behind what was known there are the pieces of these records, which are of the net; whether there is any, and how many are refuted
+  -- sides
+  pub record HasLines (own : Network) (some : Bool) (refuted : ℕ) (items : List Record) : Type 0 where
+    pub same : own ≡ net
     pub taken : now ≡ append_known known (records_text net items)
     pub has : some ≡ has_some items
     pub counted : refuted ≡ refuted_count items
@@ -54,3 +56,11 @@ module _ (net : Network) (known now : Option (List ℕ)) where
     pub part : List ℕ
     pub begins : IsPrefix part (piece_text net (has_some done) last)
     pub taken : now ≡ append_known known (records_text net done ++ part)
+
+-- a net without nodes, whose records nobody writes
+abbrev pub no_net : Network
+no_net = record {
+  own = record { nodes = []; links = [] };
+  names = record { metas = []; tags = []; patterns = [] };
+  found = [];
+}

@@ -1,8 +1,7 @@
 //! Records that are put as they are found.
 
-ghost use Rattle.std.specs.Prelude.{◌≡◌, ◌+◌, ℕ, List, Option, None, string_bytes, IfOk, IfSome};
+ghost use Rattle.std.specs.Prelude.{◌≡◌, ◌+◌, string_bytes, IfOk, IfSome};
 ghost use Rattle.net_check.specs.Network.{network};
-ghost use Rattle.path_records.specs.declared.records.Record.{Record as RecordOf};
 ghost use Rattle.record_lines.specs.Lines.{HasLines, StopsInLine, piece_text, refuted_by};
 
 use crate::ends::put_piece;
@@ -15,15 +14,21 @@ use sn_width::NoMemory;
 use std::alloc::Global;
 use std::marker::{Brand, PhantomData};
 
-/// What a sink held before the first record.
+/// The net that records are of, and what a sink held before the first of them.
 pub trait Mark {
     ghost use Rattle.std.specs.Prelude.{ℕ, List, Option};
+    ghost use Rattle.net_check.specs.Network.{Network};
+
+    ghost net: { Network };
 
     ghost known: { Option (List ℕ) };
 }
 
 impl Mark for Brand {
     ghost use Rattle.std.specs.Prelude.{None};
+    ghost use Rattle.record_lines.specs.Lines.{no_net};
+
+    ghost net = { no_net };
 
     ghost known = { None };
 }
@@ -66,8 +71,8 @@ impl<M: Mark, K: Sink> Receiver for Lines<'_, M, K> {
     type Item = Record;
 
     ghost seen = { λ lines. record {
-      StandsFor = HasLines (network lines.net.now) M.known (K.taken lines.out.now) lines.some lines.refuted;
-      StoppedIn = StopsInLine (network lines.net.now) M.known (K.taken lines.out.now);
+      StandsFor = HasLines M.net M.known (K.taken lines.out.now) (network lines.net.now) lines.some lines.refuted;
+      StoppedIn = StopsInLine M.net M.known (K.taken lines.out.now);
       stops = K.faults lines.out.now;
       target = lines.out.ghost_name;
       Takes = λ item. Unit {0};

@@ -7,7 +7,7 @@ use Rattle.record_lines.proofs.lines.LinesReceiver.take.Goals as goal
 
 pub returns-in-All-clause-took : goal.returns-in-All-clause-took
 returns-in-All-clause-took g c =
-    one_more (network c.args.self.now.net.now) g.M.Mark.known (g.K.Sink.taken c.args.self.now.out.now) (g.K.Sink.taken c.put_piece.new.out)
+    one_more g.M.Mark.net (network c.args.self.now.net.now) g.M.Mark.known (g.K.Sink.taken c.args.self.now.out.now) (g.K.Sink.taken c.put_piece.new.out)
     c.args.self.now.some c.args.self.now.refuted c.args.item c.in-Some.refuted c.in-Some.ensures
     (c.in-All.ensures.puts ∙ ap (append_known (g.K.Sink.taken c.args.self.now.out.now)) (c.deref.ensures ∙ c.in-Ok.ensures))
 
@@ -15,6 +15,6 @@ pub returns-in-Failed-clause-took : goal.returns-in-Failed-clause-took
 returns-in-Failed-clause-took g c =
     let (part, begins, gained) = c.in-Failed.ensures.puts in (
       c.in-Failed.ensures.failed,
-      stops_in (network c.args.self.now.net.now) g.M.Mark.known (g.K.Sink.taken c.args.self.now.out.now) (g.K.Sink.taken c.put_piece.new.out)
+      stops_in g.M.Mark.net (network c.args.self.now.net.now) g.M.Mark.known (g.K.Sink.taken c.args.self.now.out.now) (g.K.Sink.taken c.put_piece.new.out)
           c.args.self.now.some c.args.self.now.refuted c.args.item (part, subst (IsPrefix part) (c.deref.ensures ∙ c.in-Ok.ensures) begins, gained),
     )
