@@ -4,7 +4,6 @@ use Rattle.std.proofs.lemmas.List.{reverse-append, reverse-reverse}
 use Rattle.sn_tree.specs.Ends.{first}
 use Rattle.sn_width.specs.declared.ids.NodeId.{NodeId}
 use Rattle.lin_term.specs.Terms.{LinearTerm}
-use Rattle.path_formula.specs.Formulas.{FormulaTree}
 use Rattle.path_cond.specs.Conditions.{Condition, Entry}
 use Rattle.path_cond.specs.Seen.{AllTyped, itself}
 use Rattle.net_check.specs.Network.{Network}
@@ -23,12 +22,13 @@ use Rattle.term_values.specs.TermValues.{terms}
 use Rattle.code_frames.specs.Frames.{progress_at}
 use Rattle.path_records.specs.declared.records.Record.{Record}
 use Rattle.sym_state.specs.Symbolic.{Symbolic}
-use Rattle.exact_records.specs.Records.{IsRefutedBy, IsVerdictOn, SymCondition, SymStart, path}
+use Rattle.exact_records.specs.Records.{IsRefutedBy, IsVerdictOn, SymCondition, SymStart, SymTree, path}
 use Rattle.exact_records.specs.Spots.{IsKnown, Spot, condition_at, filled_verdict, first_spot}
 use Rattle.exact_records.specs.View.{record_tree}
 use Rattle.path_exec.specs.Here.{EndsWith, spot_at}
 use Rattle.path_exec.specs.Offers.{next_spot}
 use Rattle.path_exec.specs.Trials.{IsOpenAt, IsPathOf}
+use Rattle.symbolic_engine.specs.declared.origin.Origin.{Ghosts}
 use Rattle.symbolic_engine.specs.declared.spots.Standing.{Standing}
 use Rattle.symbolic_engine.specs.declared.stage.Stage.{Stage}
 use Rattle.symbolic_engine.specs.declared.stage.Stage.TheVariants.{Entering}
@@ -71,8 +71,8 @@ module _ (s : SymStart) (net : Network) (x : Symbolic) (stage : Stage) (begun : 
   condition_there = ap (condition_at s) (sym stands) ∙ condition_here s x (stage_tree net stage x) begun run
 
   -- the verdict there is that on the state's condition
-  pub open_there : {B : Type 0} (place : Standing B) (verdict : Verdict) → place.run ≡ x → place.stage ≡ stage → IsOpenBy (condition_seen x) verdict
-      → IsOpenAt (views_of {B} s net) begun c place verdict
+  pub open_there : {B : Type 0} {origin : Ghosts B} (place : Standing B) (verdict : Verdict) → place.run ≡ x → place.stage ≡ stage → IsOpenBy (condition_seen x) verdict
+      → IsOpenAt (views_of {B = B} {origin = origin} s net) begun c place verdict
   open_there place verdict is at open' = record {
     stands = (λ i. spot_at begun (standing_at s net (is i) (at i))) ∙ stands;
     typed = subst (λ (k : SymCondition). AllTyped itself k.widths k.entries) (sym condition_there) open'.typed;
@@ -113,12 +113,12 @@ base_behind stays wait x d y noted (Some b) h = base_noted stays wait x d y b no
 
 -- ---- records
 
-over_same : (p q : Progress LinearTerm) (e f : End) → over {F = FormulaTree} p e ≡ over q f → (p ≡ q) × (e ≡ f)
+over_same : (p q : Progress LinearTerm) (e f : End) → ◌≡◌ {A = SymTree} (over p e) (over q f) → (p ≡ q) × (e ≡ f)
 over_same p q e f h = (cc h, cc h)
 
-pub path_there : {B : Type 0} (s : SymStart) (net : Network) (x : Symbolic) (how : End) (verdict : Verdict) (made : Record)
+pub path_there : {B : Type 0} {origin : Ghosts B} (s : SymStart) (net : Network) (x : Symbolic) (how : End) (verdict : Verdict) (made : Record)
     → record_tree made ≡ path (reverse x.decisions) (reverse x.places) how (fields_of x.carried) (filled_verdict (length x.condition.widths) verdict)
-    → (begun : ℕ) → IsPathOf (views_of {B} s net) (spot_at begun (finished_at s x how)) verdict made
+    → (begun : ℕ) → IsPathOf (views_of {B = B} {origin = origin} s net) (spot_at begun (finished_at s x how)) verdict made
 path_there s net x how verdict made is begun p end' e =
     let same = over_same (progress_in x begun) p how end' e in
     record {

@@ -1,5 +1,6 @@
 -- What explorations answer, for the net.
-use Rattle.std.proofs.Common.{◌≡◌, ℕ, ◌+◌, ◌≤◌, inl, inr, true, List, [], ◌∷◌, ◌++◌, length, map, Result, Ok, Err, IfOk, arith, refl, sym, ap, subst, ◌∙◌}
+use Rattle.std.proofs.Common.{◌≡◌, ℕ, ◌+◌, ◌≤◌, inl, inr, true, List, [], ◌∷◌, ◌++◌, length, map, Result, Ok, Err, IfOk, IsErrAnd, arith, refl, sym, ap, subst, ◌∙◌}
+use Rattle.std.specs.Global.{Vec}
 use Rattle.sefl_meaning.specs.declared.walk.Decision.{Decision}
 use Rattle.sefl_meaning.specs.declared.walk.Place.{Place}
 use Rattle.sefl_meaning.specs.Courses.{Progress}
@@ -20,20 +21,25 @@ use Rattle.sym_state.specs.Symbolic.{Symbolic}
 use Rattle.path_exec.specs.declared.engine.Offer.{Offer}
 use Rattle.path_exec.specs.declared.exploration.Ended.{Ended}
 use Rattle.path_exec.specs.declared.exploration.Ended.TheVariants.{Whole, Partial, Stopped}
+use Rattle.path_exec.specs.declared.guided.FollowFault.{FollowFault}
+use Rattle.path_exec.specs.declared.guided.FollowFault.TheVariants.{Impossible, NoMemory}
 use Rattle.path_exec.specs.Ending.{Explored}
-use Rattle.path_exec.specs.Following.{IsLed}
+use Rattle.path_exec.specs.Following.{Followed, IsLed}
 use Rattle.path_exec.specs.Here.{spot_at}
 use Rattle.path_exec.specs.Offers.{IsNode}
 use Rattle.path_exec.specs.Receiving.{Receiving}
-use Rattle.path_exec.specs.Visiting.{AreVisits}
+use Rattle.path_exec.specs.Views.{Views}
+use Rattle.path_exec.specs.Visiting.{ArrivedAs, AreVisits}
+use Rattle.symbolic_engine.specs.declared.origin.Origin.{Ghosts}
 use Rattle.symbolic_engine.specs.declared.spots.Standing.{Standing}
+use Rattle.symbolic_engine.specs.declared.guiding.Led.{Led}
 use Rattle.symbolic_engine.specs.declared.guiding.Waits.{Waits}
 use Rattle.symbolic_engine.specs.declared.stage.Wait.{Wait}
 use Rattle.symbolic_engine.specs.declared.stage.Wait.TheVariants.{Asked, Forked}
 use Rattle.symbolic_engine.specs.Stages.{wait_tree}
 use Rattle.symbolic_engine.specs.Origins.{IsFirstState, IsRunOf, condition_seen, here_of}
 use Rattle.symbolic_engine.specs.Seeing.{views_of}
-use Rattle.symbolic_engine.specs.Exploring.{AreFound, ExploredFor, LeadsThere, WaitsAs}
+use Rattle.symbolic_engine.specs.Exploring.{AreFound, ArrivedFor, ExploredFor, FollowedFor, LeadsThere, WaitsAs}
 use Rattle.symbolic_engine.proofs.Running.{all_tests}
 
 -- ---- the start
@@ -50,7 +56,7 @@ first_of net i hops x begins = record {
   places = begins.places;
 }
 
-ok_same : {A E : Type 0} {x y : A} → Ok {E = E} x ≡ Ok y → x ≡ y
+ok_same : {A E : Type 0} {x y : A} → ◌≡◌ {A = Result A E} (Ok x) (Ok y) → x ≡ y
 ok_same e = cc e
 
 -- ---- records
@@ -63,17 +69,18 @@ module _ (net : Network) (i : Entry) (hops : ℕ) where
       → after ≤ before + work_of s (record_trees xs) → after ≤ before + work_of t (record_trees xs)
   spent_for s t xs before after a b h = subst (λ (u : SymStart). after ≤ before + work_of u (record_trees xs)) (one_start s t a b) h
 
-  module _ {B E : Type 0} (own : Network) (s : SymStart) (laws : ExactRecordsShowWalks net i hops) (is : IsExplored net i hops s) (limit stops : ℕ)
+  module _ {E : Type 0} (own : Network) (s : SymStart) (laws : ExactRecordsShowWalks net i hops) (is : IsExplored net i hops s) (limit stops : ℕ)
       (m : Receiving Record) (before after : ℕ) where
     -- what is exact for the start is exact for the net
-    pub explored_for : (r : Result Ended E) → Explored (views_of {B} s own) limit stops m before after r → ExploredFor net i hops limit stops m before after r
-    explored_for (Ok Whole) h =
+    pub explored_for : (B : Type 0) (origin : Ghosts B) (r : Result Ended E) → Explored (views_of {B = B} {origin = origin} s own) limit stops m before after r
+        → ExploredFor net i hops limit stops m before after r
+    explored_for B origin (Ok Whole) h =
         let exact = laws.exact s limit (record_trees h.items) is h.exact in
         record { items = h.items; stands = h.stands; exact = exact; tried = h.tried; spent = spent_for s exact.start h.items before after is exact.explored h.spent }
-    explored_for (Ok Partial) h =
+    explored_for B origin (Ok Partial) h =
         let exact = laws.exact s limit (record_trees h.items) is h.exact in
         record { items = h.items; stands = h.stands; exact = exact; untried = h.untried; spent = spent_for s exact.start h.items before after is exact.explored h.spent }
-    explored_for (Ok Stopped) h =
+    explored_for B origin (Ok Stopped) h =
         let exact = laws.up_to s (record_trees h.items) (record_tree h.last) is h.exact in
         record {
           items = h.items;
@@ -83,7 +90,7 @@ module _ (net : Network) (i : Entry) (hops : ℕ) where
           cause = h.cause;
           spent = spent_for s exact.start (h.items ++ h.last ∷ []) before after is exact.explored h.spent;
         }
-    explored_for (Err e) h = record { items = h.items; stands = h.stands; exact = laws.so_far s (record_trees h.items) is h.exact }
+    explored_for B origin (Err e) h = record { items = h.items; stands = h.stands; exact = laws.so_far s (record_trees h.items) is h.exact }
 
 -- ---- where decisions lead
 
@@ -107,6 +114,27 @@ module _ (s : SymStart) (ds : List Decision) (x : Symbolic) (tree : ℕ → SymT
     condition = condition_led;
   }
 
+-- the first decision that is not offered, or want of memory, for the net
+module _ {P O N D T : Type 0} (x : Views P O N D T) (net : Network) (i : Entry) (hops : ℕ) (is : IsExplored net i hops x.start) (ds : List Decision) where
+  follow_fault : (fault : FollowFault) → Followed x ds (Err fault) → FollowedFor net i hops ds (Err fault)
+  follow_fault (Impossible index) h = record { start = x.start; explored = is; holds = h }
+  follow_fault NoMemory h = tt
+
+  pub not_followed : (r : Result Led FollowFault) (fault : FollowFault) → IsErrAnd r (λ e. e ≡ fault) → Followed x ds (Err fault)
+      → FollowedFor net i hops ds r
+  not_followed (Ok led) fault same h = absurd same
+  not_followed (Err e) fault same h = subst (λ (k : FollowFault). FollowedFor net i hops ds (Err k)) (sym same) (follow_fault fault h)
+
+  arrival_fault : (port : Place) (fault : FollowFault) → ArrivedAs x port ds (Err fault) → ArrivedFor net i hops port ds (Err fault)
+  arrival_fault port (Impossible index) h = record { start = x.start; explored = is; holds = h }
+  arrival_fault port NoMemory h = tt
+
+  pub not_arrived : (port : Place) (r : Result (Vec Symbolic) FollowFault) (fault : FollowFault) → IsErrAnd r (λ e. e ≡ fault)
+      → ArrivedAs x port ds (Err fault) → ArrivedFor net i hops port ds r
+  not_arrived port (Ok states) fault same h = absurd same
+  not_arrived port (Err e) fault same h =
+      subst (λ (k : FollowFault). ArrivedFor net i hops port ds (Err k)) (sym same) (arrival_fault port fault h)
+
 -- the states of places that were visited
 pub states_visit : {B : Type 0} (port : Place) (arrivals : List (Place × Progress LinearTerm)) (places : List (Standing B)) (states : List Symbolic)
     → states ≡ map (λ (place : Standing B). place.run) places
@@ -125,6 +153,12 @@ states_visit port (arrival ∷ arrivals) places states is (inr v) = inr (v.0, st
 -- a node stays what it is
 pub at_wait : (offer : Offer) (t u : SymTree) → t ≡ u → IsNode offer u → IsNode offer t
 at_wait offer t u e h = subst (IsNode offer) (sym e) h
+
+-- what nothing was handed over to is, where there was no memory
+pub nothing_yet : {E : Type 0} (net : Network) (i : Entry) (hops limit stops : ℕ) (m : Receiving Record) (before after : ℕ) (r : Result Ended E) (Q : E → Type 0)
+    → IsErrAnd r Q → m.StandsFor [] → ExploredFor net i hops limit stops m before after r
+nothing_yet net i hops limit stops m before after (Ok how) Q h stands = absurd h
+nothing_yet net i hops limit stops m before after (Err e) Q h stands = record { items = []; stands = stands; exact = record { is = inl refl } }
 
 -- what a list that was kept is
 pub kept_found : {E : Type 0} (net : Network) (i : Entry) (hops limit : ℕ) (m : Receiving Record) (kept : List Record) (before after : ℕ) (r : Result Ended E)

@@ -2,7 +2,7 @@
 use Rattle.std.proofs.Common.{◌≡◌, ℕ, zero, suc, ◌+◌, ◌-◌, ◌≤◌, List, [], ◌∷◌, ◌++◌, replicate, refl, sym, ap, ◌∙◌, append_assoc, arith}
 use Rattle.std.proofs.lemmas.List.{append-nil}
 
-more_zeros : (n : ℕ) → replicate n 0 ++ 0 ∷ [] ≡ replicate (suc n) 0
+more_zeros : (n : ℕ) → replicate n zero ++ zero ∷ [] ≡ replicate (suc n) zero
 more_zeros zero = refl
 more_zeros (suc n) = ap (λ (l : List ℕ). 0 ∷ l) (more_zeros n)
 

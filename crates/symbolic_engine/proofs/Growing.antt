@@ -1,19 +1,18 @@
 -- Choices are only added on the way through code.
-use Rattle.std.proofs.Common.{◌≡◌, ℕ, suc, ◌+◌, List, [], ◌∷◌, ◌++◌, length, Result, Ok, Err, refl, sym, ap, subst, ◌∙◌, append_assoc}
+use Rattle.std.proofs.Common.{◌≡◌, ℕ, suc, ◌+◌, List, [], ◌∷◌, ◌++◌, Result, Ok, Err, refl, sym, ap, subst, ◌∙◌, append_assoc}
 use Rattle.std.proofs.lemmas.List.{append-nil}
 use Rattle.sn_width.specs.declared.faults.LayoutFault.{LayoutFault}
 use Rattle.sn_width.specs.declared.ids.NodeId.{NodeId}
 use Rattle.sefl_syntax.specs.Trees.{InstrTree, CodeTree, allocate, deallocate, assign, assign_any, create_tag, set_tag, destroy_tag, constrain, fail, branch, each, forward, fork, block, no_op, no_code, instr_and}
 use Rattle.sefl_syntax.specs.Views.{code_tree}
-use Rattle.job_items.specs.AtomRules.{width_of}
 use Rattle.sefl_meaning.specs.declared.walk.Failure.TheVariants.{Constraint}
 use Rattle.sefl_meaning.specs.Values.{Values}
 use Rattle.sefl_meaning.specs.Network.{Network, code_size, inner_size}
 use Rattle.sefl_meaning.specs.Carried.{Carried, Scene, Key}
 use Rattle.sefl_meaning.specs.Terms.{truth_in}
-use Rattle.sefl_meaning.specs.Steps.{allocated, deallocated, assigned, evaluated, tag_created, tag_set, tag_destroyed}
+use Rattle.sefl_meaning.specs.Steps.{allocated, deallocated, evaluated, tag_created, tag_set, tag_destroyed}
 use Rattle.sefl_meaning.specs.Runs.{Progress, off, go, forked, failed, in_turn, turns_of}
-use Rattle.sefl_meaning.specs.Courses.{Course, ends, asks, after, begin, chosen, course_code, course_in, course_turns, step, unless_fault, with_state}
+use Rattle.sefl_meaning.specs.Courses.{Course, ends, asks, at_if, at_constrain, after, begin, chosen, course_code, course_in, course_turns, step, unless_fault, with_state}
 use Rattle.code_frames.specs.declared.frame.Frame.{Frame}
 use Rattle.code_frames.specs.declared.frame.Frame.TheVariants.{Code, Turns}
 use Rattle.code_frames.specs.declared.frame.Move.{Move}
@@ -69,27 +68,29 @@ module _ {V F : Type 0} where
   grows_unless site (Err fault) p next h = grown_none p.choices
 
 module _ {V F : Type 0} (o : Values V F) where
-  grows_step : (site : ℕ) (r : Result (Carried V) LayoutFault) (p : Progress V) → Grows {V} {F} p.choices (step site r p)
+  grows_step : (site : ℕ) (r : Result (Carried V) LayoutFault) (p : Progress V) → Grows {V = V} {F = F} p.choices (step site r p)
   grows_step site r p = grows_unless site r p (λ next. ends (with_state p next) off) (λ next. grown_none p.choices)
+
+  grows_choice : (site width : ℕ) (r : Result (Carried V) LayoutFault) (p : Progress V)
+      → Grows {V = V} {F = F} p.choices (unless_fault site r p (λ next. ends (chosen p width next) off))
+  grows_choice site width r p = grows_unless site r p (λ next. ends (chosen p width next) off) (λ next. (width ∷ [], refl))
 
   mutual
     grows_in : (i : InstrTree) (at : Scene) (site : ℕ) (p : Progress V) → Grows p.choices (course_in o at site i p)
     grows_in (allocate target) at site p = grows_step site (allocated at target p.state) p
     grows_in (deallocate target) at site p = grows_step site (deallocated at target p.state) p
     grows_in (assign target value) at site p = grows_step site (evaluated o at target value p.state) p
-    grows_in (assign_any target) at site p =
-        grows_unless site (assigned at target (o.choice (width_of target) (length p.choices)) p.state) p
-        (λ next. ends (chosen p (width_of target) next) off) (λ next. (width_of target ∷ [], refl))
+    grows_in (assign_any target) at site p = grows_choice site _ _ p
     grows_in (create_tag name addr) at site p = grows_step site (tag_created at name addr p.state) p
     grows_in (set_tag name addr) at site p = grows_step site (tag_set at name addr p.state) p
     grows_in (destroy_tag name) at site p = grows_step site (tag_destroyed at name p.state) p
     grows_in (constrain test) at site p =
-        grows_unless site (truth_in o at test p.state) p (λ f. asks _ p f (ends p off) (ends p (failed Constraint site)))
+        grows_unless site (truth_in o at test p.state) p (λ f. asks at_constrain p f (ends p off) (ends p (failed Constraint site)))
         (λ f. (grown_none p.choices, grown_none p.choices, grown_none p.choices))
     grows_in (fail text) at site p = grown_none p.choices
     grows_in (branch test first other) at site p =
         grows_unless site (truth_in o at test p.state) p
-        (λ f. asks _ p f (course_code o at (suc site) first p) (course_code o at (suc site + code_size first) other p))
+        (λ f. asks at_if p f (course_code o at (suc site) first p) (course_code o at (suc site + code_size first) other p))
         (λ f. (grown_none p.choices, grows_code first at (suc site) p, grows_code other at (suc site + code_size first) p))
     grows_in (each var pattern body) at site p =
         grows_turns (λ key q. course_code o (in_turn at var key) (suc site) body q) (λ key q. grows_code body (in_turn at var key) (suc site) q)

@@ -1,9 +1,10 @@
 pub mod Growing
 pub mod Running
-pub mod Arrivals
+pub mod Ports
 pub mod Asking
 pub mod Turns
 pub mod Bases
 pub mod Engaging
 pub mod Filling
+pub mod Copying
 pub mod Explored

@@ -1,5 +1,5 @@
 -- States of runs, and the spots where they stand.
-use Rattle.std.proofs.Common.{◌≡◌, ℕ, zero, suc, ◌+◌, ◌≤◌, true, List, [], ◌∷◌, ◌++◌, drop, length, map, reverse, take, Some, refl, sym, ap, ◌∙◌, append_assoc, arith}
+use Rattle.std.proofs.Common.{◌≡◌, ℕ, zero, suc, ◌≤◌, true, List, [], ◌∷◌, ◌++◌, drop, length, map, take, Some, refl, sym, ap, ◌∙◌, append_assoc, arith}
 use Rattle.std.proofs.lemmas.List.{append-nil, length-map, map-append, reverse-append, take-append-drop, take-append-le, drop-append-le, take_all}
 use Rattle.sn_width.specs.declared.ids.NodeId.{NodeId}
 use Rattle.lin_term.specs.Terms.{LinearTerm}
@@ -71,10 +71,11 @@ tests_same s x y same = ap (λ (r : Rest). drop (length s.tests) (map (entry_see
 
 pub wider_by : (s : SymStart) (x y : Symbolic) → rest_of y ≡ rest_of x → IsRunOf s x → Grown (choices_of x) (choices_of y)
     → Grown x.condition.widths y.condition.widths
-wider_by s x y same run grown =
-    (grown.0,
-    all_widths s y (run_on s x y same run) ∙ ap (λ l. s.unknowns ++ l) grown.1 ∙ sym (append_assoc s.unknowns (choices_of x) grown.0)
-    ∙ ap (λ l. l ++ grown.0) (sym (all_widths s x run)))
+wider_by s x y same run grown = (
+  grown.0,
+  all_widths s y (run_on s x y same run) ∙ ap (λ l. s.unknowns ++ l) grown.1 ∙ sym (append_assoc s.unknowns (choices_of x) grown.0)
+      ∙ ap (λ l. l ++ grown.0) (sym (all_widths s x run)),
+)
 
 pub run_placed : (s : SymStart) (x : Symbolic) (place : Place) → IsRunOf s x → IsRunOf s (with_place x place)
 run_placed s x place run = record { unknowns = run.unknowns; fields = run.fields; tests = run.tests }
@@ -107,13 +108,10 @@ true_tests : (entries : List Entry) → MustBeTrue entries → map (entry_seen v
 true_tests [] h = refl
 true_tests (entry ∷ entries) h = λ i. (view entry.0, h.0 i) ∷ true_tests entries h.1 i
 
-none_left : {A : Type 0} (n : ℕ) → drop n ([] {A = A}) ≡ []
-none_left zero = refl
-none_left (suc n) = refl
-
 -- behind all of a list there is nothing
 none_behind : {A : Type 0} (n : ℕ) (xs : List A) → length xs ≤ n → drop n xs ≡ []
-none_behind n [] h = none_left n
+none_behind zero [] h = refl
+none_behind (suc n) [] h = refl
 none_behind zero (y ∷ ys) h = absurd (omega (arith, h))
 none_behind (suc n) (y ∷ ys) h = none_behind n ys (omega (arith, h))
 

@@ -1,7 +1,7 @@
 -- What a decision makes of a node.
-use Rattle.std.proofs.Common.{◌≡◌, ℕ, zero, suc, ◌+◌, ◌<◌, Bool, true, false, if◌then◌else◌, List, [], ◌∷◌, ◌++◌, drop, length, reverse, Option, None, Some, refl, sym, ap, subst, ◌∙◌, arith}
+use Rattle.std.proofs.Common.{◌≡◌, ℕ, zero, suc, ◌<◌, Bool, true, false, if◌then◌else◌, List, [], ◌∷◌, ◌++◌, drop, length, reverse, Option, None, Some, Bor, slice_index_or, refl, sym, ap, subst, ◌∙◌, arith}
 use Rattle.std.proofs.lemmas.List.{reverse-append}
-use Rattle.std.specs.Prelude.{option_map, slice_get}
+use Rattle.std.specs.Prelude.{option_map}
 use Rattle.std.specs.Global.{Vec}
 use Rattle.sn_width.specs.declared.ids.NodeId.{NodeId}
 use Rattle.lin_term.specs.Terms.{LinearTerm}
@@ -28,11 +28,12 @@ use Rattle.path_exec.specs.Here.{spot_at}
 use Rattle.path_exec.specs.Offers.{IsOffered, copied_by, next_spot}
 use Rattle.symbolic_engine.specs.declared.stage.Gate.{Gate}
 use Rattle.symbolic_engine.specs.declared.stage.Stage.{Stage}
+use Rattle.symbolic_engine.specs.declared.stage.Stage.TheVariants.{Leaving}
 use Rattle.symbolic_engine.specs.declared.stage.Wait.{Wait}
 use Rattle.symbolic_engine.specs.declared.stage.Wait.TheVariants.{Asked, Forked}
 use Rattle.symbolic_engine.specs.Origins.{IsRunOf, entries_seen, here_of, progress_in}
 use Rattle.symbolic_engine.specs.Stages.{behind_gate, inside_tree, onward_of, side_tree, stage_tree, wait_tree}
-use Rattle.symbolic_engine.specs.Turning.{IsAwaited, IsNoted, IsStageBehind, copy_of, tree_behind}
+use Rattle.symbolic_engine.specs.Turning.{IsAwaited, IsCopyOf, IsNoted, IsStageBehind, copy_of, tree_behind}
 use Rattle.symbolic_engine.specs.Seeing.{standing_at, waiting_at}
 use Rattle.symbolic_engine.proofs.Running.{run_copied, run_decided, some_same, tests_decided}
 
@@ -79,11 +80,11 @@ module _ (net : Network) (u hops : ℕ) (node : NodeId) (p : Progress LinearTerm
   copy_below (port ∷ ports) (suc n) t e = let h = copy_below ports n t e in omega (arith, h)
 
   -- the copy of this number leaves by the port of this number
-  pub copy_leaves : (ports : List ℕ) (n port : ℕ) → slice_get ports n ≡ Some port
-      → copy_at (branches_of ports) n ≡ Some (leave (terms u) net (onward_of net u hops) node port p)
-  copy_leaves [] n port e = absurd (cc e)
-  copy_leaves (first ∷ ports) zero port e = ap (λ (k : ℕ). Some (leave (terms u) net (onward_of net u hops) node k p)) (cc e)
-  copy_leaves (first ∷ ports) (suc n) port e = copy_leaves ports n port e
+  pub copy_leaves : (ports : List ℕ) (n : ℕ) → n < length ports
+      → copy_at (branches_of ports) n ≡ Some (leave (terms u) net (onward_of net u hops) node (slice_index_or ports n 0) p)
+  copy_leaves [] n h = absurd (omega (arith, h))
+  copy_leaves (port ∷ ports) zero h = refl
+  copy_leaves (port ∷ ports) (suc n) h = copy_leaves ports n (omega (arith, h))
 
 copied_there : (a : Spot) (branches : Copies LinearTerm FormulaTree) (o : Option ℕ) (c : Spot) → copied_by a branches o ≡ Some c
     → (n : ℕ) × (o ≡ Some n) × ((t : SymTree) × (copy_at branches n ≡ Some t) × (copied a n t ≡ c))
@@ -97,7 +98,7 @@ awaited s net x (Asked gate question test frames) d h =
     let found = there _ (truth_of (asking_of question) d) h.1 h.2 in (found.0, found.1)
 awaited s net x (Forked node hops ports) d h =
     let p : Progress LinearTerm = progress_in x h.0 in
-    let found = copied_there _ (branches_of net x.unknowns hops node p ports.now) (number_of d) h.1 h.2 in
+    let found = copied_there (spot_at h.0 (waiting_at s net x (Forked node hops ports))) (branches_of net x.unknowns hops node p ports.now) (number_of d) h.1 h.2 in
     record { number = found.0; is = found.1; below = copy_below net x.unknowns hops node p ports.now found.0 found.2.0 found.2.1 }
 
 -- ---- the spot behind a decision
@@ -139,7 +140,7 @@ module _ (s : SymStart) (net : Network) (x : Symbolic) (d : Decision) where
       )
   noted_spot y (Forked node hops ports) run noted begun c e =
       let wait = Forked node hops ports in
-      let found = copied_there _ (branches_of net x.unknowns hops node (progress_in x begun) ports.now) (number_of d) c e in (
+      let found = copied_there (spot_at begun (waiting_at s net x wait)) (branches_of net x.unknowns hops node (progress_in x begun) ports.now) (number_of d) c e in (
         found.2.0,
         ap (λ (z : Symbolic). spot_at begun (here_of s z (λ n. found.2.0))) noted
             ∙ copy_spot found.0 (wait_tree net wait x) found.2.0 begun found.1 ∙ found.2.2,
@@ -157,7 +158,7 @@ module _ (s : SymStart) (net : Network) (x : Symbolic) (d : Decision) where
       ∙ sym (by_either found.0 (λ b. side_tree net gate question (reverse frames.items) b x begun)) ∙ ap (λ (a : Spot). a.tree) found.2
   stage_spot y (Forked node hops ports) stage noted at begun c e =
       let branches = branches_of net x.unknowns hops node (progress_in x begun) ports.now in
-      let found = copied_there _ branches (number_of d) c e in
+      let found = copied_there (spot_at begun (waiting_at s net x (Forked node hops ports))) branches (number_of d) c e in
       let z : Symbolic = with_decision x d in
       let side : found.2.0 ≡ stage_tree net stage z begun = some_same (sym found.2.1 ∙ ap (copy_of branches) (sym found.1) ∙ at z begun) in
       ap (λ (w : Symbolic). stage_tree net stage w begun) noted ∙ sym side ∙ ap (λ (a : Spot). a.tree) found.2.2
@@ -190,3 +191,18 @@ module _ (net : Network) (gate : Gate) (question : Question) (test : Formula) (x
       ap (option_map (λ truth. side_tree net gate question (reverse held.items) truth x begun)) takes
       ∙ ap (λ (c : Course LinearTerm FormulaTree). Some (then_tree c (behind_gate net x.unknowns gate)))
       ((λ i. course_behind (terms x.unknowns) net gate.node question (sym so i) (sym frames i) (progress_in x begun)) ∙ sym course)
+
+-- an awaited copy is one of those that there are
+within_copies : (count n : ℕ) → IsCopyOf count (Copy n) → n < count
+within_copies count n h = let e : n ≡ h.number = cc h.is in omega (arith, e, h.below)
+
+-- a copy leaves by the port of its number
+pub leaves_by : (net : Network) (wait : Wait) (d : Decision) (node : NodeId) (hops n : ℕ) (ports : Bor (List ℕ)) → IsAwaited wait d
+    → wait ≡ Forked node hops ports → d ≡ Copy n → IsStageBehind net wait d (Leaving node (slice_index_or ports.now n 0) hops)
+leaves_by net wait d node hops n ports awaits is copy =
+    let stage : Stage = Leaving node (slice_index_or ports.now n 0) hops in
+    let within : n < length ports.now =
+    within_copies (length ports.now) n (subst (IsCopyOf (length ports.now)) copy (subst (λ (w : Wait). IsAwaited w d) is awaits)) in
+    subst (λ (w : Wait). IsStageBehind net w d stage) (sym is)
+    (subst (λ (e : Decision). IsStageBehind net (Forked node hops ports) e stage) (sym copy)
+    (λ x begun. copy_leaves net x.unknowns hops node (progress_in x begun) ports.now n within))

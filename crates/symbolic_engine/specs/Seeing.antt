@@ -9,6 +9,7 @@ use Rattle.exact_records.specs.View.{record_tree}
 use Rattle.sym_state.specs.Symbolic.{Symbolic}
 use Rattle.path_exec.specs.Here.{Here}
 use Rattle.path_exec.specs.Views.{Views}
+use Rattle.symbolic_engine.specs.declared.origin.Origin.{Ghosts}
 use Rattle.symbolic_engine.specs.declared.spots.Finished.{Finished}
 use Rattle.symbolic_engine.specs.declared.spots.Standing.{Standing}
 use Rattle.symbolic_engine.specs.declared.spots.Waiting.{Waiting}
@@ -29,7 +30,7 @@ abbrev pub finished_at : SymStart → Symbolic → End → Here
 finished_at s x how = here_of s x (λ begun. over (progress_in x begun) how)
 
 -- a receiver of records takes each of them
-abbrev pub views_of : {B : Type 0} → SymStart → Network → Views (Standing B) (Finished B) (Waiting B) Verdict Record
+abbrev pub views_of : {B : Type 0} {origin : Ghosts B} → SymStart → Network → Views (Standing B) (Finished B) (Waiting B origin) Verdict Record
 views_of s net = record {
   start = s;
   place_at = λ place. standing_at s net place.run place.stage;

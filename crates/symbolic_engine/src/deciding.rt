@@ -27,11 +27,7 @@ pub(crate) enum Found {
 }
 
 /// Decides the condition of a state, where a base of it is known or none.
-pub(crate) fn find(
-    alloc: Global,
-    state: &SymState,
-    base: Option<&Base>,
-) -> Result<Found, NoMemory>
+pub(crate) fn find(alloc: Global, state: &SymState, base: Option<&Base>) -> Result<Found, NoMemory>
     requires { IfSome base (λ b. IsBaseOf state.now.condition b.now) }
     ensures { IfOk result (IsFoundOf (condition_seen state.now)) }
 {

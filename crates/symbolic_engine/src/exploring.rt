@@ -47,7 +47,6 @@ pub fn explore_into<K: Receiver<Item = Record>, L: Ledger>(
     ensures explored { ExploredFor (network net.now) (entry injection.now) hops limit (K.seen out.old).stops (K.seen out.new) steps.old steps.new result }
 {
     net.keeps_the_rules();
-    exact_records_show_each_walk();
     accepted_forks_have_copies::<Term, Formulas>();
     let first = SymState::from_injection(alloc, net, injection)?;
     explore_from::<Brand, K, L>(alloc, net, injection, hops, limit, first, out, steps)

@@ -3,8 +3,8 @@
 ghost use Rattle.std.specs.Prelude.{◌≡◌, IfOk};
 ghost use Rattle.symbolic_engine.specs.Origins.{IsRunOf};
 
-use std::marker::{Brand, Model, PhantomData};
 use sn_width::NoMemory;
+use std::marker::{Brand, Model, PhantomData};
 use sym_state::SymState;
 
 /// What is explored. Each exploration picks it, so that a state of one is no state of another.

@@ -1,13 +1,12 @@
 use Rattle.std.proofs.Common.{ap}
 use Rattle.std.proofs.lemmas.Result.{IfOk-weaker}
 use Rattle.sefl_syntax.specs.declared.net.Side.{Side}
-use Rattle.sefl_syntax.specs.declared.net.Side.TheVariants.{Inward, Outward}
 use Rattle.net_check.specs.Network.{network}
 use Rattle.code_frames.specs.Frames.{exit_of}
 use Rattle.symbolic_engine.specs.Origins.{progress_in}
 use Rattle.symbolic_engine.specs.Stages.{behind_side}
 use Rattle.symbolic_engine.specs.Seeing.{views_of}
-use Rattle.symbolic_engine.proofs.Arrivals.{other_tree}
+use Rattle.symbolic_engine.proofs.Ports.{other_tree}
 use Rattle.symbolic_engine.proofs.arriving.behind.Goals as goal
 
 pub returns-in-Inward : goal.returns-in-Inward
@@ -17,7 +16,7 @@ returns-in-Inward g c =
     let x = c.args.run in
     let gate = c.args.gate in
     IfOk-weaker c.passed.result _ _
-    (λ moved m begun. other_tree (views_of s net) s x _ (λ n. behind_side net x.unknowns gate.node gate.port gate.hops Inward (exit_of c.args.exit) (progress_in x n)) begun moved
+    (λ moved m begun. other_tree (views_of {origin = g.B.Origin} s net) s x _ _ begun begun moved
     (ap (λ (side : Side). behind_side net x.unknowns gate.node gate.port gate.hops side (exit_of c.args.exit) (progress_in x begun)) c.in-Inward.is) (m begun))
     c.passed.ensures
 
@@ -28,6 +27,6 @@ returns-in-Outward g c =
     let x = c.args.run in
     let gate = c.args.gate in
     IfOk-weaker c.crossed.result _ _
-    (λ moved m begun. other_tree (views_of s net) s x _ (λ n. behind_side net x.unknowns gate.node gate.port gate.hops Outward (exit_of c.args.exit) (progress_in x n)) begun moved
+    (λ moved m begun. other_tree (views_of {origin = g.B.Origin} s net) s x _ _ begun begun moved
     (ap (λ (side : Side). behind_side net x.unknowns gate.node gate.port gate.hops side (exit_of c.args.exit) (progress_in x begun)) c.in-Outward.is) (m begun))
     c.crossed.ensures

@@ -3,6 +3,7 @@ use Rattle.sefl_syntax.specs.declared.net.Side.TheVariants.{Outward}
 use Rattle.net_check.specs.Network.{network}
 use Rattle.code_frames.specs.declared.frame.Exit.{Exit}
 use Rattle.code_frames.specs.Frames.{exit_of}
+use Rattle.path_exec.specs.declared.engine.Moved.TheVariants.{Arrived}
 use Rattle.symbolic_engine.specs.Origins.{progress_in}
 use Rattle.symbolic_engine.specs.Stages.{behind_side}
 use Rattle.symbolic_engine.specs.Seeing.{views_of}
@@ -10,33 +11,34 @@ use Rattle.std.proofs.Common.{ℕ, Option}
 use Rattle.sn_width.specs.declared.ids.NodeId.{NodeId}
 use Rattle.sefl_meaning.specs.Network.{link_of}
 use Rattle.sefl_meaning.specs.Runs.{off}
-use Rattle.sefl_meaning.specs.Trees.{crossed}
+use Rattle.sefl_meaning.specs.declared.walk.End.{End}
+use Rattle.sefl_meaning.specs.Trees.{crossed, over}
 use Rattle.term_values.specs.TermValues.{terms}
 use Rattle.symbolic_engine.specs.Stages.{onward_of}
-use Rattle.symbolic_engine.proofs.Arrivals.{crossed_failed, crossed_forked, crossed_go, link_known, other_tree}
+use Rattle.symbolic_engine.proofs.Ports.{crossed_failed, crossed_forked, crossed_go, link_known, other_tree}
 use Rattle.symbolic_engine.proofs.arriving.crossed.Goals as goal
 
-pub returns-in-Off-None : goal.returns-in-Off-None
-returns-in-Off-None g c = λ begun.
+pub returns-in-None : goal.returns-in-None
+returns-in-None g c = λ begun.
     let s = g.B.Origin.start in
     let net = network c.args.net.now in
     let x = c.args.run in
     let gate = c.args.gate in
-    other_tree (views_of s net) s x _ _ begun c.ended.result
+    other_tree (views_of {origin = g.B.Origin} s net) s x _ _ begun begun c.ended.result
     (ap (λ (e : Exit). behind_side net x.unknowns gate.node gate.port gate.hops Outward (exit_of e) (progress_in x begun)) c.in-Off.is
-    ∙ ap (λ (l : Option (NodeId × ℕ)). crossed (terms x.unknowns) net (onward_of net x.unknowns gate.hops) l off (progress_in x begun)) (sym (link_known c.link.result _ c.link.ensures) ∙ c.in-Off-None.is))
+    ∙ ap (λ (l : Option (NodeId × ℕ)). crossed (terms x.unknowns) net (onward_of net x.unknowns gate.hops) l off (progress_in x begun)) (sym (link_known c.link.result _ c.link.ensures) ∙ c.in-None.is))
     (c.ended.ensures net begun)
 
-pub returns-in-Off-Some : goal.returns-in-Off-Some
-returns-in-Off-Some g c = λ begun.
+pub returns-in_ok-place-in-Some : goal.returns-in_ok-place-in-Some
+returns-in_ok-place-in-Some g c = λ begun.
     let s = g.B.Origin.start in
     let net = network c.args.net.now in
     let x = c.args.run in
     let gate = c.args.gate in
-    other_tree (views_of s net) s x _ _ begun _
+    other_tree (views_of {origin = g.B.Origin} s net) s x _ _ begun begun (Arrived c.in_ok-place-in-Some.place)
     (ap (λ (e : Exit). behind_side net x.unknowns gate.node gate.port gate.hops Outward (exit_of e) (progress_in x begun)) c.in-Off.is
-    ∙ ap (λ (l : Option (NodeId × ℕ)). crossed (terms x.unknowns) net (onward_of net x.unknowns gate.hops) l off (progress_in x begun)) (sym (link_known c.link.result _ c.link.ensures) ∙ c.in-Off-Some.is))
-    (c.in_ok-place-in-Off-Some.ensures begun)
+    ∙ ap (λ (l : Option (NodeId × ℕ)). crossed (terms x.unknowns) net (onward_of net x.unknowns gate.hops) l off (progress_in x begun)) (sym (link_known c.link.result _ c.link.ensures) ∙ c.in-Some.is))
+    (c.in_ok-place-in-Some.ensures begun)
 
 pub returns-in-Failed : goal.returns-in-Failed
 returns-in-Failed g c = λ begun.
@@ -44,8 +46,9 @@ returns-in-Failed g c = λ begun.
     let net = network c.args.net.now in
     let x = c.args.run in
     let gate = c.args.gate in
-    other_tree (views_of s net) s x _ _ begun c.ended-in-Failed.result
-    (ap (λ (e : Exit). behind_side net x.unknowns gate.node gate.port gate.hops Outward (exit_of e) (progress_in x begun)) c.in-Failed.is ∙ crossed_failed net x.unknowns gate.hops (progress_in x begun) (link_of net gate.node gate.port) c.in-Failed.failure c.in-Failed.site)
+    other_tree (views_of {origin = g.B.Origin} s net) s x _ _ begun begun c.ended-in-Failed.result
+    (ap (λ (e : Exit). behind_side net x.unknowns gate.node gate.port gate.hops Outward (exit_of e) (progress_in x begun)) c.in-Failed.is ∙ crossed_failed net x.unknowns gate.hops (progress_in x begun) (link_of net gate.node gate.port) c.in-Failed.failure c.in-Failed.site
+    ∙ ap (λ (how : End). over (progress_in x begun) how) (sym c.failed_at.ensures))
     (c.ended-in-Failed.ensures net begun)
 
 pub returns-in-Go : goal.returns-in-Go
@@ -54,8 +57,8 @@ returns-in-Go g c = λ begun.
     let net = network c.args.net.now in
     let x = c.args.run in
     let gate = c.args.gate in
-    other_tree (views_of s net) s x _ _ begun c.ended-in-Go.result
-    (ap (λ (e : Exit). behind_side net x.unknowns gate.node gate.port gate.hops Outward (exit_of e) (progress_in x begun)) c.in-Go.is ∙ crossed_go net x.unknowns gate.hops (progress_in x begun) (link_of net gate.node gate.port) _)
+    other_tree (views_of {origin = g.B.Origin} s net) s x _ _ begun begun c.ended-in-Go.result
+    (ap (λ (e : Exit). behind_side net x.unknowns gate.node gate.port gate.hops Outward (exit_of e) (progress_in x begun)) c.in-Go.is ∙ crossed_go net x.unknowns gate.hops (progress_in x begun) (link_of net gate.node gate.port) c.in-Go.field-0)
     (c.ended-in-Go.ensures net begun)
 
 pub returns-in-Forked : goal.returns-in-Forked
@@ -64,6 +67,6 @@ returns-in-Forked g c = λ begun.
     let net = network c.args.net.now in
     let x = c.args.run in
     let gate = c.args.gate in
-    other_tree (views_of s net) s x _ _ begun c.ended-in-Forked.result
-    (ap (λ (e : Exit). behind_side net x.unknowns gate.node gate.port gate.hops Outward (exit_of e) (progress_in x begun)) c.in-Forked.is ∙ crossed_forked net x.unknowns gate.hops (progress_in x begun) (link_of net gate.node gate.port) _)
+    other_tree (views_of {origin = g.B.Origin} s net) s x _ _ begun begun c.ended-in-Forked.result
+    (ap (λ (e : Exit). behind_side net x.unknowns gate.node gate.port gate.hops Outward (exit_of e) (progress_in x begun)) c.in-Forked.is ∙ crossed_forked net x.unknowns gate.hops (progress_in x begun) (link_of net gate.node gate.port) c.in-Forked.field-0.now)
     (c.ended-in-Forked.ensures net begun)

@@ -3,7 +3,7 @@ use Rattle.net_check.specs.Network.{network}
 use Rattle.sefl_meaning.specs.Courses.{course_code}
 use Rattle.sefl_meaning.specs.Network.{code_of}
 use Rattle.code_frames.specs.Frames.{scene_in}
-use Rattle.symbolic_engine.proofs.Arrivals.{one_frame}
+use Rattle.symbolic_engine.proofs.Ports.{one_frame}
 use Rattle.symbolic_engine.proofs.arriving.port_frames.Goals as goal
 
 pub returns : goal.returns

@@ -1,12 +1,12 @@
 use Rattle.std.proofs.Common.{◌≡◌, Some, sym, ap, ◌∙◌}
 use Rattle.std.specs.Prelude.{option_map}
-use Rattle.symbolic_engine.proofs.Bases.{base_known}
+use Rattle.symbolic_engine.proofs.Bases.{BasesKnown, base_known}
 use Rattle.symbolic_engine.specs.Finding.{values_in}
 use Rattle.symbolic_engine.proofs.deciding.base_of.Goals as goal
 
 pub returns : goal.returns
 returns c =
-    let laws = record {
+    let laws : BasesKnown = record {
       judged = c.a_condition_is_judged_by_its_trees.ensures;
       made = c.the_values_of_a_decision_are_a_base.ensures;
       wider = c.a_base_stays_one.ensures.symbols;

@@ -14,7 +14,7 @@ returns-in-Sat c =
     let judged = c.a_condition_is_judged_by_its_trees.ensures cond in
     subst (λ (k : Condition). IsOpenBy (seen view k) (Sat c.in-Sat.values)) c.condition-condition.ensures (record {
       typed = judged.typed.0 c.formulas_are_typed.ensures;
-      verdict_is = (judged.met c.in-Sat.values).0 (subst (IsDecisionOn cond) c.in-Sat.is c.decide_after.ensures.decision);
+      verdict_is = (judged.met c.in-Sat.values).0 (subst (IsDecisionOn cond) c.in-Sat.is c.in_ok-values.ensures.decision);
     })
 
 pub returns-in-Undecided : goal.returns-in-Undecided
@@ -23,7 +23,7 @@ returns-in-Undecided c =
     let judged = c.a_condition_is_judged_by_its_trees.ensures cond in
     subst (λ (k : Condition). IsOpenBy (seen view k) (Undecided c.in-Undecided.cause)) c.condition-condition.ensures (record {
       typed = judged.typed.0 c.formulas_are_typed.ensures;
-      verdict_is = (judged.undecided c.in-Undecided.cause).0 (subst (IsDecisionOn cond) c.in-Undecided.is c.decide_after.ensures.decision);
+      verdict_is = (judged.undecided c.in-Undecided.cause).0 (subst (IsDecisionOn cond) c.in-Undecided.is c.in_ok-values.ensures.decision);
     })
 
 pub returns-in-Unsat : goal.returns-in-Unsat
@@ -31,6 +31,6 @@ returns-in-Unsat c =
     let cond = c.condition-condition.result.now in
     let judged = c.a_condition_is_judged_by_its_trees.ensures cond in
     subst (λ (k : Condition). IsRefutedBy (seen view k) c.in-Unsat.refutation) c.condition-condition.ensures (record {
-      accepted = (judged.accepted c.in-Unsat.refutation).0 (subst (IsDecisionOn cond) c.in-Unsat.is c.decide_after.ensures.decision).1;
+      accepted = (judged.accepted c.in-Unsat.refutation).0 (subst (IsDecisionOn cond) c.in-Unsat.is c.in_ok-values.ensures.decision).1;
       typed = judged.typed.0 c.formulas_are_typed.ensures;
     })

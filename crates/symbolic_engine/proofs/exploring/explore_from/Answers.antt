@@ -11,11 +11,11 @@ returns-clause-explored g c =
     let i = entry c.args.injection.now in
     let seen = g.K.Receiver.seen in
     explored_for net i c.args.hops g.B.Origin.net g.B.Origin.start (c.exact_records_show_each_walk.ensures net i c.args.hops) c.requires.explored
-    c.args.limit (seen c.args.out.now).stops (seen c.explore_into.new.out) c.args.steps.now c.explore_into.new.steps c.explore_into.result
+    c.args.limit (seen c.args.out.now).stops (seen c.explore_into.new.out) c.args.steps.now c.explore_into.new.steps _ g.B.Origin c.explore_into.result
     c.explore_into.ensures.explored
 
-pub new-requires-clause-first : goal.new-requires-clause-first
-new-requires-clause-first g c =
+pub new-engine-requires-clause-first : goal.new-engine-requires-clause-first
+new-engine-requires-clause-first g c =
     subst (λ (at : NodeId × ℕ). IsFirstState g.B.Origin.start (network c.args.net.now) c.args.hops at.0 at.1 c.args.first) (sym c.place.ensures) c.requires.first
 
 pub explore_into-requires-clause-takes : goal.explore_into-requires-clause-takes

@@ -1,9 +1,8 @@
-use Rattle.std.proofs.Common.{refl, inl, []}
 use Rattle.net_check.specs.Network.{entry, network}
 use Rattle.sefl_meaning.specs.Runs.{starting}
 use Rattle.term_values.specs.TermValues.{terms}
 use Rattle.sefl_meaning.specs.Injected.{unknown_count}
-use Rattle.symbolic_engine.proofs.Explored.{first_of}
+use Rattle.symbolic_engine.proofs.Explored.{first_of, nothing_yet}
 use Rattle.symbolic_engine.proofs.exploring.explore_into.Goals as goal
 
 pub explore_from-requires-clause-explored : goal.explore_from-requires-clause-explored
@@ -21,4 +20,7 @@ explore_from-requires-clause-splits g c =
 
 -- nothing was handed over for want of memory
 pub returns-in_err-first-clause-explored : goal.returns-in_err-first-clause-explored
-returns-in_err-first-clause-explored g c = record { items = []; stands = c.requires.stands; exact = record { is = inl refl } }
+returns-in_err-first-clause-explored g c =
+    let seen = g.K.Receiver.seen c.args.out.now in
+    nothing_yet (network c.args.net.now) (entry c.args.injection.now) c.args.hops c.args.limit seen.stops seen c.args.steps.now c.args.steps.now c.from_residual.result _
+    c.from_residual.ensures.1 c.requires.stands

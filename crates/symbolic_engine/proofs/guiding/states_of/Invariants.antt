@@ -1,6 +1,7 @@
-use Rattle.std.proofs.Common.{◌≡◌, map, take}
+use Rattle.std.proofs.Common.{◌≡◌, ◌++◌, map}
+use Rattle.std.specs.Vec.Iter.{into_iter_items}
 use Rattle.symbolic_engine.proofs.guiding.states_of.Given as goal
 
--- the states of the places so far
+-- the states so far, and those of the places that are left
 abbrev pub invariant-loop-place : goal.invariant-loop-place
-invariant-loop-place g l = l.states.items ≡ map (λ place. place.run) (take l.place-index l.fn.places.items)
+invariant-loop-place g l = l.states.items ++ map (λ place. place.run) (into_iter_items l.place-iterator) ≡ map (λ place. place.run) l.fn.places.items

@@ -5,18 +5,19 @@ use Rattle.path_formula.specs.View.{view}
 use Rattle.path_formula.specs.declared.formula.Formula.{Formula}
 use Rattle.net_check.specs.Network.{network}
 use Rattle.code_frames.specs.declared.frame.Move.{Move}
+use Rattle.code_frames.specs.declared.frame.Move.TheVariants.{Ended, Asked}
 use Rattle.code_frames.specs.Frames.{WaitsFor}
 use Rattle.sym_state.specs.Symbolic.{Symbolic, rest_of}
 use Rattle.path_exec.specs.Here.{spot_at}
 use Rattle.path_exec.specs.Moves.{IsMove}
 use Rattle.symbolic_engine.specs.Origins.{here_of}
 use Rattle.symbolic_engine.specs.Seeing.{views_of}
-use Rattle.symbolic_engine.proofs.Arrivals.{move_tree, moves_still}
+use Rattle.symbolic_engine.proofs.Ports.{move_tree, moves_still}
 use Rattle.symbolic_engine.proofs.Running.{run_on}
 use Rattle.symbolic_engine.proofs.moving.run_on.Goals as goal
 
-pub of-requires : goal.of-requires
-of-requires g c =
+pub of-run-requires : goal.of-run-requires
+of-run-requires g c =
     run_on g.B.Origin.start c.args.run c.next.new.machine (c.in_ok-found.ensures.rest ∙ ap rest_of c.into_state-state.ensures.is) c.into_state-state.ensures.run
 
 pub returns-in-Ended : goal.returns-in-Ended
@@ -28,24 +29,24 @@ returns-in-Ended g c =
     let old = reverse c.args.frames.items in
     let new = reverse c.next.new.frames.items in
     IfOk-weaker c.behind.result _ _
-    (λ moved m. moves_still (views_of s net) net c.args.gate x c.into_state-state.result y old new c.in_ok-found.found c.args.steps.now c.next.new.steps
+    (λ moved m. moves_still (views_of {origin = g.B.Origin} s net) net c.args.gate x c.into_state-state.result y old new c.in_ok-found.found c.args.steps.now c.next.new.steps
     c.into_state-state.ensures.is c.in_ok-found.ensures.rest c.in_ok-found.ensures.course c.into_state-state.ensures.run moved
-    (λ begun. subst (λ (move : Move Formula). IsMove (views_of s net) (spot_at begun (here_of s y (move_tree net c.args.gate move new y))) begun moved) (sym c.in-Ended.is)
-    (subst (λ (z : Symbolic). IsMove (views_of s net) (spot_at begun (here_of s z (move_tree net c.args.gate _ new z))) begun moved) c.of-run.ensures (m begun))))
+    (λ begun. subst (λ (move : Move Formula). IsMove (views_of {origin = g.B.Origin} s net) (spot_at begun (here_of s y (move_tree net c.args.gate move new y))) begun moved) (sym c.in-Ended.is)
+    (subst (λ (z : Symbolic). IsMove (views_of {origin = g.B.Origin} s net) (spot_at begun (here_of s z (move_tree net c.args.gate (Ended c.in-Ended.exit) new z))) begun moved) c.of-run.ensures (m begun))))
     c.behind.ensures
 
-pub returns-in-Asked : goal.returns-in-Asked
-returns-in-Asked g c =
+pub returns : goal.returns
+returns g c =
     let s = g.B.Origin.start in
     let net = network c.args.net.now in
     let x = c.args.run in
     let y = c.next.new.machine in
     let old = reverse c.args.frames.items in
     let new = reverse c.next.new.frames.items in
-    moves_still (views_of s net) net c.args.gate x c.into_state-state.result y old new c.in_ok-found.found c.args.steps.now c.next.new.steps
+    moves_still (views_of {origin = g.B.Origin} s net) net c.args.gate x c.into_state-state.result y old new c.in_ok-found.found c.args.steps.now c.next.new.steps
     c.into_state-state.ensures.is c.in_ok-found.ensures.rest c.in_ok-found.ensures.course c.into_state-state.ensures.run c.asked.result
-    (λ begun. subst (λ (move : Move Formula). IsMove (views_of s net) (spot_at begun (here_of s y (move_tree net c.args.gate move new y))) begun c.asked.result) (sym c.in-Asked.is)
-    (subst (λ (z : Symbolic). IsMove (views_of s net) (spot_at begun (here_of s z (move_tree net c.args.gate _ new z))) begun c.asked.result) c.of-run.ensures (c.asked.ensures net begun)))
+    (λ begun. subst (λ (move : Move Formula). IsMove (views_of {origin = g.B.Origin} s net) (spot_at begun (here_of s y (move_tree net c.args.gate move new y))) begun c.asked.result) (sym c.in-Asked.is)
+    (subst (λ (z : Symbolic). IsMove (views_of {origin = g.B.Origin} s net) (spot_at begun (here_of s z (move_tree net c.args.gate (Asked c.in-Asked.question c.in-Asked.test) new z))) begun c.asked.result) c.of-run.ensures (c.asked.ensures net begun)))
 
 -- the test is over the symbols that there are now
 pub asked-requires : goal.asked-requires

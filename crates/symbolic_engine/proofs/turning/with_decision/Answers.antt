@@ -11,10 +11,10 @@ pub constrain-requires : goal.constrain-requires
 constrain-requires c =
     let x = c.args.state in
     let typed = subst (λ (wait : Wait). has_typed_test x wait ≡ true) c.in-Asked.is c.requires.typed in
-    subst (λ (f : FormulaTree). IsTyped x.condition.widths f) (sym c.in_ok-formula.ensures.same)
-    ((c.the_tests_of_types.ensures.formula x.condition.widths (view c.in-Asked.test.now)).0 typed)
+    subst (λ (f : FormulaTree). IsTyped x.condition.widths f) (sym c.in_ok-formula-in-Asked.ensures.same)
+    ((c.the_tests_of_types.ensures.formula x.condition.widths (view c.in-Asked.test)).0 typed)
 
-pub returns-in-Asked : goal.returns-in-Asked
-returns-in-Asked c =
+pub returns-in_ok-constrain-in-Asked : goal.returns-in_ok-constrain-in-Asked
+returns-in_ok-constrain-in-Asked c =
     subst (λ (wait : Wait). IsNoted wait c.args.state c.args.decision c.constrain.new.self) (sym c.in-Asked.is)
-    (c.in_ok-formula.formula, c.in_ok-formula.ensures.same, c.in_ok-constrain.ensures.decided)
+    (c.in_ok-formula-in-Asked.formula, c.in_ok-formula-in-Asked.ensures.same, c.in_ok-constrain-in-Asked.ensures.decided)

@@ -8,14 +8,14 @@ use Rattle.symbolic_engine.specs.Origins.{condition_seen}
 use Rattle.symbolic_engine.proofs.Engaging.{begins_at, open_there, refuted_there}
 use Rattle.symbolic_engine.proofs.engine.ExplorerEngine.try_begin.Goals as goal
 
-pub returns-in-Open : goal.returns-in-Open
-returns-in-Open g c =
+pub returns : goal.returns
+returns g c =
     let e = c.self.inside in
     let s = g.B.Origin.start in
     let net = g.B.Origin.net in
-    let x = c.in_ok-run.run in
+    let x = c.in_ok-run.run' in
     let stands = begins_at s net (network e.net.now) e.hops e.node e.port e.first x c.self.invariant.0 c.self.invariant.1 c.in_ok-run.ensures in
-    let found = subst (IsFoundOf (condition_seen x)) c.in-Open.is (subst (λ (y : Symbolic). IsFoundOf (condition_seen y) _) c.state.ensures.is c.in_ok-find.ensures) in
+    let found = subst (IsFoundOf (condition_seen x)) c.in-Open.is (subst (λ (y : Symbolic). IsFoundOf (condition_seen y) c.in_ok-refutation.field-0) c.state.ensures.is c.in_ok-refutation.ensures) in
     open_there s net x (Entering e.node e.port e.hops) 0 (first_spot s) c.state.ensures.run stands _ c.in-Open.verdict refl refl found
 
 pub returns-in-Refuted : goal.returns-in-Refuted
@@ -23,7 +23,7 @@ returns-in-Refuted g c =
     let e = c.self.inside in
     let s = g.B.Origin.start in
     let net = g.B.Origin.net in
-    let x = c.in_ok-run.run in
+    let x = c.in_ok-run.run' in
     let stands = begins_at s net (network e.net.now) e.hops e.node e.port e.first x c.self.invariant.0 c.self.invariant.1 c.in_ok-run.ensures in
-    let found = subst (IsFoundOf (condition_seen x)) c.in-Refuted.is (subst (λ (y : Symbolic). IsFoundOf (condition_seen y) _) c.state.ensures.is c.in_ok-find.ensures) in
+    let found = subst (IsFoundOf (condition_seen x)) c.in-Refuted.is (subst (λ (y : Symbolic). IsFoundOf (condition_seen y) c.in_ok-refutation.field-0) c.state.ensures.is c.in_ok-refutation.ensures) in
     refuted_there s net x (Entering e.node e.port e.hops) 0 (first_spot s) c.state.ensures.run stands c.in-Refuted.refutation found

@@ -33,20 +33,20 @@ pub find-requires : goal.find-requires
 find-requires g c =
     let node = c.args.node.now in
     let known = subst (λ (y : Symbolic). IfSome c.in_ok-base.base (IsBaseOf y.condition)) (sym c.state-2.ensures.is)
-    (base_behind c.a_base_stays_one.ensures.formulas node.wait node.run c.args.decision c.in_ok-run.run c.in_ok-run.ensures c.in_ok-base.base
+    (base_behind c.a_base_stays_one.ensures.formulas node.wait node.run c.args.decision c.in_ok-run.run' c.in_ok-run.ensures c.in_ok-base.base
     (subst (λ (k : Condition). IfSome c.in_ok-base.base (IsBaseOf k)) (c.condition.ensures ∙ ap (λ (x : Symbolic). x.condition) c.state.ensures.is) c.in_ok-base.ensures)) in
     search rules
 
-pub returns-in-Open : goal.returns-in-Open
-returns-in-Open g c = λ begun to e.
+pub returns : goal.returns
+returns g c = λ begun to e.
     let s = g.B.Origin.start in
     let net = g.B.Origin.net in
     let node = c.args.node.now in
-    let x = c.in_ok-run.run in
-    let at = subst (λ (n : Network). IsStageBehind n node.wait c.args.decision c.in_ok-stage.stage) c.self.invariant.0 c.in_ok-stage.ensures in
-    let stands = behind_spot s net node.run c.args.decision x node.wait c.in_ok-stage.stage c.is_own.ensures c.in_ok-run.ensures at begun to e in
-    let found = subst (IsFoundOf (condition_seen x)) c.in-Open.is (subst (λ (y : Symbolic). IsFoundOf (condition_seen y) _) c.state-2.ensures.is c.in_ok-find.ensures) in
-    open_there s net x c.in_ok-stage.stage begun to c.state-2.ensures.run stands _ c.in-Open.verdict refl refl found
+    let x = c.in_ok-run.run' in
+    let at = subst (λ (n : Network). IsStageBehind n node.wait c.args.decision c.in_ok-stage-in-Open.stage) c.self.invariant.0 c.in_ok-stage-in-Open.ensures in
+    let stands = behind_spot s net node.run c.args.decision x node.wait c.in_ok-stage-in-Open.stage c.is_own.ensures c.in_ok-run.ensures at begun to e in
+    let found = subst (IsFoundOf (condition_seen x)) c.in-Open.is (subst (λ (y : Symbolic). IsFoundOf (condition_seen y) c.in_ok-refutation.field-0) c.state-2.ensures.is c.in_ok-refutation.ensures) in
+    open_there s net x c.in_ok-stage-in-Open.stage begun to c.state-2.ensures.run stands _ c.in-Open.verdict refl refl found
 
 -- a refuted side has no stage: its condition goes by the decision alone
 pub returns-in-Refuted : goal.returns-in-Refuted
@@ -54,6 +54,6 @@ returns-in-Refuted g c = λ begun to e.
     let s = g.B.Origin.start in
     let net = g.B.Origin.net in
     let node = c.args.node.now in
-    let x = c.in_ok-run.run in
-    let found = subst (IsFoundOf (condition_seen x)) c.in-Refuted.is (subst (λ (y : Symbolic). IsFoundOf (condition_seen y) _) c.state-2.ensures.is c.in_ok-find.ensures) in
+    let x = c.in_ok-run.run' in
+    let found = subst (IsFoundOf (condition_seen x)) c.in-Refuted.is (subst (λ (y : Symbolic). IsFoundOf (condition_seen y) c.in_ok-refutation.field-0) c.state-2.ensures.is c.in_ok-refutation.ensures) in
     refuted_behind s net node.run x node.wait c.args.decision begun to c.is_own.ensures c.in_ok-run.ensures e c.in-Refuted.refutation found

@@ -20,10 +20,8 @@ use Rattle.sefl_meaning.specs.Runs.{Progress, off, go, forked, failed}
 use Rattle.sefl_meaning.specs.Courses.{Course, ends, asks, after}
 use Rattle.sefl_meaning.specs.Trees.{arrives, copies, leave, over, passed, crossed, port_course, then_tree}
 use Rattle.term_values.specs.TermValues.{terms}
-use Rattle.code_frames.specs.declared.frame.Exit.{Exit}
 use Rattle.code_frames.specs.declared.frame.Frame.{Frame}
 use Rattle.code_frames.specs.declared.frame.Move.{Move}
-use Rattle.code_frames.specs.declared.frame.Move.TheVariants.{Ended}
 use Rattle.code_frames.specs.Frames as code
 use Rattle.code_frames.specs.Frames.{course_after, course_frames, course_left, exit_of, from, of_frame}
 use Rattle.sym_state.specs.Symbolic.{Rest, Symbolic, choices_of, rest_of, with_place}
@@ -35,7 +33,6 @@ use Rattle.path_exec.specs.Offers.{copy_count}
 use Rattle.path_exec.specs.Views.{Views}
 use Rattle.symbolic_engine.specs.declared.stage.Gate.{Gate}
 use Rattle.symbolic_engine.specs.declared.stage.Stage.{Stage}
-use Rattle.symbolic_engine.specs.declared.stage.Wait.TheVariants as waits
 use Rattle.symbolic_engine.specs.Origins.{IsRunOf, here_of, progress_in}
 use Rattle.symbolic_engine.specs.Stages.{behind_gate, behind_side, inside_tree, onward_of, stage_tree}
 use Rattle.symbolic_engine.specs.Seeing.{standing_at}
@@ -117,11 +114,6 @@ abbrev pub move_tree : Network → Gate → Move Formula → List Frame → Symb
 move_tree net gate move frames x begun =
     then_tree (course_after (terms x.unknowns) net gate.node view move frames (progress_in x begun)) (behind_gate net x.unknowns gate)
 
--- at an end
-pub at_end : (net : Network) (gate : Gate) (exit : Exit) (frames : List Frame) (x : Symbolic) (begun : ℕ)
-    → move_tree net gate (Ended exit) frames x begun ≡ behind_gate net x.unknowns gate (exit_of exit) (progress_in x begun)
-at_end net gate exit frames x begun = refl
-
 module _ {P O N D T : Type 0} (v : Views P O N D T) (net : Network) (gate : Gate) (x y : Symbolic) (old new : List Frame) (move : Move Formula)
     (before after : ℕ) where
   -- the run came to a move, and from there the engine moves on: so it moves on from where it was
@@ -165,14 +157,10 @@ module _ {P O N D T : Type 0} (v : Views P O N D T) (net : Network) (gate : Gate
 -- ---- exits
 
 -- the same tree in another form
-tree_counted : {P O N D T : Type 0} (v : Views P O N D T) (s : SymStart) (x : Symbolic) (tree other : ℕ → SymTree) (begun count : ℕ) (moved : Moved P O N)
-    → tree begun ≡ other begun → IsMove v (spot_at begun (here_of s x other)) count moved → IsMove v (spot_at begun (here_of s x tree)) count moved
-tree_counted v s x tree other begun count moved e h =
+pub other_tree : {P O N D T : Type 0} (v : Views P O N D T) (s : SymStart) (x : Symbolic) (tree other : SymTree) (begun count : ℕ) (moved : Moved P O N)
+    → tree ≡ other → IsMove v (spot_at begun (here_of s x (λ n. other))) count moved → IsMove v (spot_at begun (here_of s x (λ n. tree))) count moved
+other_tree v s x tree other begun count moved e h =
     subst (λ (t : SymTree). IsMove v (spot_at begun (here_of s x (λ n. t))) count moved) (sym e) h
-
-pub other_tree : {P O N D T : Type 0} (v : Views P O N D T) (s : SymStart) (x : Symbolic) (tree other : ℕ → SymTree) (begun : ℕ) (moved : Moved P O N)
-    → tree begun ≡ other begun → IsMove v (spot_at begun (here_of s x other)) begun moved → IsMove v (spot_at begun (here_of s x tree)) begun moved
-other_tree v s x tree other begun moved e h = tree_counted v s x tree other begun begun moved e h
 
 module _ (net : Network) (u hops : ℕ) (p : Progress LinearTerm) where
   pub crossed_go : (link : Option (NodeId × ℕ)) (port : ℕ) → crossed (terms u) net (onward_of net u hops) link (go port) p ≡ over p Stopped
@@ -197,5 +185,5 @@ at_once v s x tree other steps moved same moves = record {
   counted = omega arith;
   goes = λ begun.
       let none : begun ≡ begun + 0 = omega arith in
-      tree_counted v s x tree other begun (begun + 0) moved (same begun) (subst (λ (n : ℕ). IsMove v (spot_at begun (here_of s x other)) n moved) none (moves begun));
+      other_tree v s x (tree begun) (other begun) begun (begun + 0) moved (same begun) (subst (λ (n : ℕ). IsMove v (spot_at begun (here_of s x other)) n moved) none (moves begun));
 }
