@@ -1,0 +1,7 @@
+pub mod Jobs
+pub mod Parts
+pub mod Stops
+pub mod Trails
+pub mod Counts
+pub mod Checks
+pub mod Confirming

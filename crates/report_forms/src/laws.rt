@@ -1,0 +1,26 @@
+//! What follows from the definitions of a report's JSON and of its shape. This function does nothing: its contract is
+//! the law.
+
+ghost use Rattle.std.specs.Prelude.{◌≡◌, None};
+ghost use Rattle.net_check.specs.Network.{Network};
+ghost use Rattle.report_shape.specs.declared.part.Part.TheVariants as part;
+ghost use Rattle.report_shape.specs.Faults.{fault};
+ghost use Rattle.report_names.specs.Names.{knows};
+ghost use Rattle.record_text.specs.declared.report.Report.{Report};
+ghost use Rattle.record_text.specs.Reports.{data_of};
+ghost use Rattle.report_forms.specs.Fits.{ReportFits};
+ghost use Rattle.report_forms.specs.Seen.{report_seen};
+
+use report_names::laws::places_are_found;
+use report_shape::laws::large_numbers_have_digits;
+
+/// The JSON of a report whose names are the net's and whose numbers are in range has the shape of a report, and it is
+/// that of no other such report.
+pub fn reports_have_their_form()
+    ensures form { (net : Network) (report : Report) → ReportFits net report → fault (knows net) part.Report (data_of net report) ≡ None }
+    ensures one { (net : Network) (report found : Report) → ReportFits net report → ReportFits net found → data_of net report ≡ data_of net found
+        → report_seen report ≡ report_seen found }
+{
+    large_numbers_have_digits();
+    places_are_found();
+}

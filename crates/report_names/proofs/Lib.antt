@@ -1,0 +1,4 @@
+pub mod Halves
+pub mod Ports
+pub mod Placing
+pub mod Found

@@ -1,0 +1,126 @@
+//! A symbolic state where a job is injected, and what single instructions do with it.
+
+ghost use Rattle.net_check.specs.Network.{entry, network};
+ghost use Rattle.net_check.specs.Sound.{AreOfOneJob};
+
+use net_check::{Accepted, accept};
+use sefl_meaning::{Place, Turn};
+use sefl_reader::read_job;
+use sefl_syntax::{Body, Cond, Instr, Job, Side};
+use sn_edge::MemPatterns;
+use sn_tree::Shared;
+use sn_width::{LayoutFault, Num, StepFault, Steps};
+use std::alloc::Global;
+use std::process::Abort;
+use std::sync::ledger::Ledger;
+use sym_state::SymState;
+
+/// What an instruction answers: 0 where it does something, the truth of a test, or its fault.
+pub type Answer = Result<Num, LayoutFault>;
+
+/// The job of a text.
+pub fn job_of(rt: &impl Abort, alloc: Global, text: &str) -> Job {
+    read_job(alloc, text.as_bytes()).ok().expect(rt, "a job")
+}
+
+/// The job of a text, accepted.
+pub fn accepted(rt: &impl Abort, alloc: Global, text: &str) -> Accepted
+    ensures { AreOfOneJob (network result.net) (entry result.injection) }
+{
+    let mut patterns = MemPatterns::new(Vec::new(alloc), Vec::new(alloc));
+    match accept(alloc, job_of(rt, alloc, text), &mut patterns) {
+        Ok(accepted) => accepted,
+        Err(_) => panic!(rt; "not accepted"),
+    }
+}
+
+/// Drops the job, which is proved once here and not in each caller.
+pub fn let_go(_job: Accepted) {}
+
+/// The code of the first box's first port.
+pub fn code_of(job: &Job) -> &[Instr] {
+    let Some(first) = job.net.nodes.first() else {
+        return &[];
+    };
+    let Body::Code(node) = &first.body else {
+        return &[];
+    };
+    match node.codes.first() {
+        None => &[],
+        Some(port) => &port.code,
+    }
+}
+
+/// The state where the job is injected, arrived at its port.
+pub fn begun(rt: &impl Abort, alloc: Global, job: &Accepted) -> SymState
+    requires { AreOfOneJob (network job.now.net) (entry job.now.injection) }
+{
+    let mut state = SymState::from_injection(alloc, &job.net, &job.injection).expect(rt, "memory");
+    let (node, port) = job.injection.place();
+    let side = Side::Inward;
+    let place = Place { node, side, port };
+    state.arrive(alloc, place).expect(rt, "memory");
+    state
+}
+
+/// The answer of a call that does something.
+pub fn answered(rt: &impl Abort, step: Result<(), StepFault>) -> Answer {
+    match step {
+        Ok(()) => Ok(0),
+        Err(StepFault::Layout(fault)) => Err(fault),
+        Err(StepFault::NoMemory) => panic!(rt; "memory"),
+    }
+}
+
+/// The truth of a condition on the terms at a packet.
+fn truth<L: Ledger>(
+    rt: &impl Abort,
+    alloc: Global,
+    job: &Accepted,
+    state: &SymState,
+    test: &Cond,
+    packet: &[Num],
+    steps: &mut Steps<L>,
+) -> Answer {
+    let turns = Shared::empty();
+    match state.test(alloc, &job.net, &turns, test, steps) {
+        Ok(formula) => Ok(Num::from(formula.truth(packet))),
+        Err(StepFault::Layout(fault)) => Err(fault),
+        Err(StepFault::NoMemory) => panic!(rt; "memory"),
+    }
+}
+
+/// What an instruction answers on terms; of a Constrain the truth of its condition at a packet.
+pub fn answer<L: Ledger>(
+    rt: &impl Abort,
+    alloc: Global,
+    job: &Accepted,
+    state: &mut SymState,
+    instr: &Instr,
+    packet: &[Num],
+    steps: &mut Steps<L>,
+) -> Answer {
+    let turns: Shared<Turn> = Shared::empty();
+    let net = &job.net;
+    match instr {
+        Instr::Allocate(target) => {
+            answered(rt, state.allocate(alloc, net, &turns, target, steps))
+        }
+        Instr::Deallocate(target) => {
+            answered(rt, state.deallocate(alloc, net, &turns, target, steps))
+        }
+        Instr::Assign { target, value } => {
+            answered(rt, state.assign(alloc, net, &turns, target, value, steps))
+        }
+        Instr::AssignAny(target) => {
+            answered(rt, state.assign_any(alloc, net, &turns, target, steps))
+        }
+        Instr::CreateTag { name, addr } => {
+            answered(rt, state.create_tag(alloc, net, name, addr, steps))
+        }
+        Instr::SetTag { name, addr } => answered(rt, state.set_tag(alloc, net, name, addr, steps)),
+        Instr::DestroyTag(name) => answered(rt, state.destroy_tag(alloc, net, name, steps)),
+        Instr::Constrain(test) => truth(rt, alloc, job, state, test, packet, steps),
+        _ => panic!(rt; "not one step"),
+    }
+}

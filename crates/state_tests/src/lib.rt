@@ -1,0 +1,7 @@
+//! Tests of symbolic states.
+#![tactic(auto)]
+
+#[cfg(test)]
+mod here;
+#[cfg(test)]
+mod rows;
