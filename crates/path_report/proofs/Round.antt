@@ -1,0 +1,59 @@
+-- The text of a report is read as that report.
+use Rattle.std.proofs.Common.{◌≡◌, ℕ, List, [], ◌∷◌, ◌++◌, Bool, Some, None, Result, Ok, Err, sym, ap, ◌∙◌, subst}
+use Rattle.std.specs.Prelude.{string_bytes, IsUtf8}
+use Rattle.serde_json.specs.Data.{Data}
+use Rattle.serde_json.specs.Read.{read}
+use Rattle.serde_json.specs.Written.{compact_text}
+use Rattle.net_check.specs.Network.{Network}
+use Rattle.report_shape.specs.declared.part.Part.{Part}
+use Rattle.report_shape.specs.declared.part.Part.TheVariants as part
+use Rattle.report_shape.specs.declared.read.ShapeFault.{ShapeFault}
+use Rattle.report_shape.specs.declared.read.ShapeFault.TheVariants as shape
+use Rattle.report_shape.specs.Faults.{fault}
+use Rattle.report_shape.specs.Reads.{IsTextOf, Reads}
+use Rattle.report_names.specs.Names.{knows}
+use Rattle.record_text.specs.declared.report.Report.{Report}
+use Rattle.record_text.specs.Reports.{data_of, report_text}
+use Rattle.report_forms.specs.Seen.{report_seen}
+use Rattle.report_forms.specs.Fits.{ReportFits}
+use Rattle.path_report.specs.Having.{HasForm}
+use Rattle.path_report.specs.Reading.{refusal, ReadsReport, GivesBack}
+use Rattle.path_report.specs.declared.report.ReportFault.{ReportFault}
+use Rattle.path_report.specs.declared.report.ReportFault.TheVariants.{NotJson, NotReport, NoMemory}
+
+-- a fault of the value's shape is one of the report's
+pub refused : (net : Network) (bytes : List ℕ) (f : ShapeFault) → Reads (knows net) part.Report bytes (Err f) → ReadsReport net bytes (Err (refusal f))
+refused net bytes shape.NotJson h = h
+refused net bytes (shape.NotShaped pointer) h = h
+refused net bytes shape.NoMemory h = tt
+
+some_is : (d e : Data) → Some d ≡ Some e → d ≡ e
+some_is d e h = cc
+
+some_none : (s : List ℕ) → Some s ≡ None → ⊥
+some_none s h = cc
+
+-- what has its form is read from its line
+abbrev pub ReadsLines : Type 0
+ReadsLines = (knows : Part → List ℕ → Bool) (p : Part) (d : Data) → fault knows p d ≡ None → read (compact_text d ++ 10 ∷ []) ≡ Some d
+
+abbrev pub HaveForm : Type 0
+HaveForm = (net : Network) (report : Report) → ReportFits net report → HasForm net part.Report (data_of net report)
+
+abbrev pub AreOne : Type 0
+AreOne = (net : Network) (report found : Report) → ReportFits net report → ReportFits net found → data_of net report ≡ data_of net found → report_seen report ≡ report_seen found
+
+by_answer : AreOne → (net : Network) (report : Report) (bytes : List ℕ) (r : Result Report ReportFault) → ReportFits net report → HasForm net part.Report (data_of net report) → IsTextOf bytes (data_of net report) →
+    ReadsReport net bytes r → GivesBack report r
+by_answer one net report bytes (Ok found) fits form is h = one net found report h.2 fits (some_is (data_of net found) (data_of net report) (sym h.0.value ∙ is.value))
+by_answer one net report bytes (Err NotJson) fits form is h = h (data_of net report) is
+by_answer one net report bytes (Err (NotReport pointer)) fits form is h =
+    let same : h.0 ≡ data_of net report = some_is h.0 (data_of net report) (sym h.1.value ∙ is.value) in
+    some_none (string_bytes pointer) (sym (subst (λ d. fault (knows net) part.Report d ≡ Some (string_bytes pointer)) same h.2) ∙ form)
+by_answer one net report bytes (Err NoMemory) fits form is h = tt
+
+pub gives_back : ReadsLines → HaveForm → AreOne → (net : Network) (bytes : List ℕ) (r : Result Report ReportFault) → ReadsReport net bytes r →
+    (report : Report) → ReportFits net report → IsUtf8 bytes → bytes ≡ report_text net report → GivesBack report r
+gives_back lines formed one net bytes r h report fits utf8 is =
+    let form = formed net report fits in
+    by_answer one net report bytes r fits form (record { utf8 = utf8; value = ap read is ∙ lines (knows net) part.Report (data_of net report) form }) h

@@ -1,0 +1,16 @@
+//! Reports from their texts.
+#![tactic(auto)]
+
+mod decoder;
+mod ends;
+mod fields;
+mod items;
+mod leaves;
+mod records;
+mod refutations;
+mod report;
+mod terms;
+mod verdicts;
+
+pub use record_text::{Report, head_text, record_text, report_text, tail_text};
+pub use report::{ReportFault, read_report};
