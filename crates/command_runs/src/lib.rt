@@ -2,9 +2,7 @@
 #![tactic(auto)]
 
 mod piece;
-mod put;
 mod work;
 
 pub use piece::{OnePiece, Piece};
-pub use put::put_pieces;
 pub use work::{Work, run};

@@ -2,11 +2,11 @@
 
 use crate::jobs::{name_of, one, text_of, two};
 use sefl_syntax::{
-    Addr, Arm, Ask, Body, Cond, Instr, Job, Link, Name, NodeDecl, PortCode, RawField, RawInjection,
-    RawNet, RawNode, RawPlace, Side, Style, TableKind, Target, Thin, fill, is_filled, print_job,
-    print_net, print_node, thin_text,
+    Addr, Ask, Body, Cond, Instr, Job, Link, Name, NodeDecl, PortCode, RawField, RawInjection,
+    RawNet, RawNode, RawPlace, Side, Style, TableKind, Target, fill, is_filled, print_job,
+    print_net, print_node,
 };
-use sn_width::{Rel, Width};
+use sn_width::Width;
 use std::alloc::AllocGlobal;
 use std::process::Abort;
 
@@ -52,76 +52,8 @@ fn quotes_and_control_characters_are_not_quotable(rt: HostRuntime) {
     }
 }
 
-const TTL_JOB: &str = "symnet 1;
-node r 1 -> 1 {
-  in 0 {
-    if head L3+64:8 <= 1 {
-      fail \"dead\";
-    } else {
-      forward 0;
-    }
-  }
-}
-inject r.0 {
-  tag L3 = 112;
-  field head L3+64:8;
-}
-";
-
-const WIDE_JOB: &str = "symnet 1;
-node edge_1 1 -> 1 {
-  in 0 {
-    if head IPv6+192:128 != 170141183460469231731687303715884105728 {
-    } else {
-      forward 0;
-    }
-  }
-}
-inject edge_1.0 {
-  tag IPv6 = 65535;
-  field head IPv6+192:128;
-}
-";
-
 fn width_of(rt: &(impl Abort + AllocGlobal), bits: u8) -> Width {
     Width::new(bits).expect(rt, "a width has 1 to 128 bits")
-}
-
-fn check_thin(rt: &(impl Abort + AllocGlobal), thin: &Thin, text: &str) {
-    let found = thin_text(rt.alloc(), thin).expect(rt, "memory");
-    assert_eq!(rt; found.as_str(), text);
-}
-
-#[test]
-fn the_test_of_a_time_to_live_has_its_text(rt: HostRuntime) {
-    let thin = Thin {
-        node: name_of(&rt, "r"),
-        tag: name_of(&rt, "L3"),
-        base: 112,
-        offset: 64,
-        width: width_of(&rt, 8),
-        rel: Rel::Le,
-        bound: 1,
-        first: Arm::Fail(text_of(&rt, "dead")),
-        other: Arm::Go,
-    };
-    check_thin(&rt, &thin, TTL_JOB);
-}
-
-#[test]
-fn the_test_of_a_wide_field_has_its_text(rt: HostRuntime) {
-    let thin = Thin {
-        node: name_of(&rt, "edge_1"),
-        tag: name_of(&rt, "IPv6"),
-        base: 65_535,
-        offset: 192,
-        width: width_of(&rt, 128),
-        rel: Rel::Ne,
-        bound: 1 << 127,
-        first: Arm::Stop,
-        other: Arm::Go,
-    };
-    check_thin(&rt, &thin, WIDE_JOB);
 }
 
 #[test]

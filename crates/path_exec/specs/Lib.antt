@@ -10,3 +10,4 @@ pub mod Receiving
 pub mod Ending
 pub mod Following
 pub mod Visiting
+pub mod Stepping

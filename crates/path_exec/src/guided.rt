@@ -51,26 +51,26 @@ fn is_offered(offer: Offer, decision: Decision) -> bool
 pub(crate) fn turn<E: Engine>(
     alloc: Global,
     engine: &E,
-    next: Next<E::Over, E::Node>,
+    next: &Next<E::Over, E::Node>,
     decision: Decision,
 ) -> Result<Option<E::Place>, NoMemory>
-    requires { IsKind (E.views engine.now) next }
-    ensures { IfOk result (Turns (E.views engine.now) next decision) }
+    requires { IsKind (E.views engine.now) next.now }
+    ensures { IfOk result (Turns (E.views engine.now) next.now decision) }
 {
     match next {
         Next::AtEnd { over: _ } => Ok(None),
         Next::AtNode { node, offer } => {
-            if !is_offered(offer, decision) {
+            if !is_offered(*offer, decision) {
                 return Ok(None);
             }
-            let place = engine.take(alloc, &node, decision)?;
+            let place = engine.take(alloc, node, decision)?;
             Ok(Some(place))
         }
     }
 }
 
 /// Where the run comes to from a place.
-fn arrived<E: Engine, L: Ledger>(
+pub(crate) fn arrived<E: Engine, L: Ledger>(
     alloc: Global,
     engine: &E,
     place: E::Place,
@@ -95,7 +95,7 @@ pub fn follow<E: Engine, L: Ledger>(
     let mut next = arrived(alloc, engine, place, steps)?;
     let mut at = 0;
     for decision in decisions {
-        let Some(place) = turn(alloc, engine, next, *decision)? else {
+        let Some(place) = turn(alloc, engine, &next, *decision)? else {
             return Err(FollowFault::Impossible { at });
         };
         next = arrived(alloc, engine, place, steps)?;

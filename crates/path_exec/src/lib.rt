@@ -8,10 +8,12 @@ mod kept;
 mod opening;
 mod receiver;
 mod running;
+mod stepping;
 mod visits;
 
 pub use exploration::{Ended, explore_into};
 pub use guided::{FollowFault, follow};
 pub use kept::{Kept, explore};
 pub use receiver::{Receiver, Took};
+pub use stepping::{first_next, next_behind, side_behind};
 pub use visits::arrivals;

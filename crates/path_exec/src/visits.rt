@@ -66,7 +66,7 @@ pub fn arrivals<E: Engine, L: Ledger>(
     let mut next = visit(alloc, engine, place, port, &mut found, steps)?;
     let mut at = 0;
     for decision in decisions {
-        let Some(place) = turn(alloc, engine, next, *decision)? else {
+        let Some(place) = turn(alloc, engine, &next, *decision)? else {
             return Err(FollowFault::Impossible { at });
         };
         next = visit(alloc, engine, place, port, &mut found, steps)?;

@@ -33,10 +33,6 @@ IsBeginning Comes part = (ending : Ending) × (whole : List ℕ) × Comes (text 
 abbrev pub one_piece : (List Given → Outcome → Type 0) → OwnWork
 one_piece Comes = record { comes = Comes; cut = λ given. IsBeginning (Comes given); left = λ given part. part ≡ [] }
 
--- of one that makes its text before it puts the first of its pieces
-abbrev pub in_pieces : (List Given → Outcome → Type 0) → OwnWork
-in_pieces Comes = record { comes = Comes; cut = λ given. IsBeginning (Comes given); left = λ given. IsBeginning (Comes given) }
-
 -- the sink, which held what is known, gained such bytes
 abbrev pub Gains : Option (List ℕ) → Option (List ℕ) → (List ℕ → Type 0) → Type 0
 Gains known now Is = (part : List ℕ) × Is part × (now ≡ append_known known part)
@@ -54,13 +50,6 @@ module _ (known now : Option (List ℕ)) where
   Puts (Ok (ending, whole)) (Err NoMemory) = now ≡ known
   Puts (Err fault) (Err (Own own)) = (own ≡ fault) × (now ≡ known)
   Puts _ _ = ⊥
-
-  -- pieces that together are this text were put, up to the first that was not taken whole
-  abbrev pub PutsAll : Ending → List ℕ → Result Ending Stop → Type 0
-  PutsAll ending whole (Ok own) = (own ≡ ending) × (now ≡ append_known known whole)
-  PutsAll ending whole (Err Write) = Gains known now (λ part. IsPrefix part whole)
-  PutsAll ending whole (Err NoMemory) = Gains known now (λ part. IsPrefix part whole)
-  PutsAll ending whole _ = ⊥
 
   -- the own work was done
   abbrev pub Performs : OwnWork → List Given → Result Ending Stop → Type 0

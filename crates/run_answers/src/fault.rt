@@ -43,8 +43,6 @@ pub enum OwnFault {
     BadAsk { number: u64, kind: u8 },
     /// The two jobs cannot be compared, for what these numbers name.
     BadCompare { kind: u8, one: u64, other: u64 },
-    /// The job is not of the form that is explored so far.
-    NotBuilt,
     NoMemory,
 }
 

@@ -6,6 +6,5 @@ pub mod NetText
 pub mod NetWords
 pub mod Text
 pub mod TermText
-pub mod Thin
 pub mod Trees
 pub mod Views

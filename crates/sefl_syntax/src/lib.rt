@@ -13,7 +13,6 @@ mod net_text;
 mod reference;
 mod statement;
 mod text;
-mod thin;
 
 pub use cond::{Cond, Joint};
 pub use expr::{Expr, Sign};
@@ -25,4 +24,3 @@ pub use net::{Body, Link, NodeDecl, PortCode, RawNet, RawNode, Side, Style, Tabl
 pub use net_text::{print_net, print_node};
 pub use reference::{Addr, Scope, Target};
 pub use text::Text;
-pub use thin::{Arm, Thin, thin_text};

@@ -25,7 +25,7 @@ use sym_state::SymState;
 
 /// A net, the port that is entered first, the hops that there are, and the state that the runs begin with.
 #[derive(Drop)]
-pub(crate) struct Explorer<'a, B: Origin> {
+pub struct Explorer<'a, B: Origin> {
     alloc: Global,
     net: &'a Net,
     node: NodeId,
@@ -53,7 +53,7 @@ impl<'a, B: Origin> Model for Explorer<'a, B> {
 
 impl<'a, B: Origin> Explorer<'a, B> {
     /// The explorer of this exploration.
-    pub(crate) fn new(
+    pub fn new(
         alloc: Global,
         net: &'a Net,
         at: (NodeId, u32),

@@ -13,5 +13,9 @@ mod stage;
 mod turning;
 mod writing;
 
+pub use engine::Explorer;
 pub use exploring::{explore, explore_into};
 pub use guiding::{Led, Waits, arrivals, follow};
+pub use origin::{Origin, Run};
+pub use spots::{Finished, Standing, Waiting};
+pub use stage::{Gate, Stage, Wait};

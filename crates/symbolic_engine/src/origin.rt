@@ -70,13 +70,14 @@ impl<B: Origin> Run<B> {
     }
 
     /// Says that the state is of a run of this exploration. It does nothing.
-    pub(crate) fn is_own(&self)
+    pub fn is_own(&self)
         ensures { IsRunOf B.start self.now }
     {
         let _state = &self.state;
     }
 
-    pub(crate) fn state(&self) -> &SymState
+    /// The state.
+    pub fn state(&self) -> &SymState
         ensures is { result.now ≡ self.now }
         ensures run { IsRunOf B.start self.now }
     {

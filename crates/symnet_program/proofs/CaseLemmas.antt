@@ -134,8 +134,7 @@ module _ (p : World) (name : List ℕ) (rest : List Input) (w : OwnWork) where
   of_cause (BadReport kind pointer) h = comes (refused (working.BadReport kind pointer)) h
   of_cause (NotConfirmed number kind) h = comes (refused (working.NotConfirmed number kind)) h
   of_cause (BadAsk number kind) h = comes (refused (working.BadAsk number kind)) h
-  of_cause NotBuilt (inl h) = stops input.NotBuilt h
-  of_cause NotBuilt (inr h) = comes (refused working.NotBuilt) h
+  of_cause NotBuilt h = stops input.NotBuilt h
   of_cause (BadCompare kind one other) h = comes (refused (working.BadCompare kind one other)) h
 
 -- what a command reads behind its job

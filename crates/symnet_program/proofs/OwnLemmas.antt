@@ -44,6 +44,5 @@ module _ (is : List Input) (w : OwnWork) (p : World) (given : List Given)
   own_told (BadReport kind pointer) h = comes (refused (own.BadReport kind pointer)) h
   own_told (NotConfirmed number kind) h = comes (refused (own.NotConfirmed number kind)) h
   own_told (BadAsk number kind) h = comes (refused (own.BadAsk number kind)) h
-  own_told NotBuilt (inl h) = absurd (excludes input.NotBuilt tt h)
-  own_told NotBuilt (inr h) = comes (refused own.NotBuilt) h
+  own_told NotBuilt h = absurd (excludes input.NotBuilt tt h)
   own_told (BadCompare kind one other) h = comes (refused (own.BadCompare kind one other)) h

@@ -42,7 +42,7 @@ module _ {S : Type 0} (o : Outside S) (u v : S) (is : List Input) (w : OwnWork) 
   cause_input (input.BadTable name line kind) h = inl h
   cause_input (input.BadPattern site) h = h
   cause_input (input.Refused site kind) h = h
-  cause_input input.NotBuilt h = inl h
+  cause_input input.NotBuilt h = h
   cause_input input.NoMemory h = tt
 
   cause_own : (given : List Given) → AllOpen o u is given v → (fault : OwnFault) → IsRefusal (w.comes given) fault → Cause o u v is w (own_status fault)
@@ -54,7 +54,6 @@ module _ {S : Type 0} (o : Outside S) (u v : S) (is : List Input) (w : OwnWork) 
   cause_own given opened (own.NotConfirmed number kind) h = (given, opened, h)
   cause_own given opened (own.BadAsk number kind) h = (given, opened, h)
   cause_own given opened (own.BadCompare kind one other) h = (given, opened, h)
-  cause_own given opened own.NotBuilt h = inr (given, opened, h)
 
   pub cause_of : (known now : Option (List ℕ)) (answer : Result Ending Stop) → Runs known now o u v is w answer → Cause o u v is w (status_of answer)
   cause_of known now (Ok ending.Done) (given, opened, (whole, comes, gained)) = (whole, (given, opened, comes))
@@ -84,7 +83,6 @@ module _ {S : Type 0} (o : Outside S) (u v : S) (is : List Input) (w : OwnWork) 
   nothing_own (own.NotConfirmed number kind) = refl
   nothing_own (own.BadAsk number kind) = refl
   nothing_own (own.BadCompare kind one other) = refl
-  nothing_own own.NotBuilt = refl
 
   -- ---- what is written
 
@@ -150,8 +148,7 @@ module _ {S : Type 0} (o : Outside S) (u v : S) (is : List Input) (w : OwnWork) 
   cause_in (BadReport kind pointer) h = comes (refused (own.BadReport kind pointer)) h
   cause_in (NotConfirmed number kind) h = comes (refused (own.NotConfirmed number kind)) h
   cause_in (BadAsk number kind) h = comes (refused (own.BadAsk number kind)) h
-  cause_in NotBuilt (inl h) = inl (first input.NotBuilt h)
-  cause_in NotBuilt (inr h) = inr (comes (refused own.NotBuilt) h)
+  cause_in NotBuilt h = first input.NotBuilt h
   cause_in (BadCompare kind one other) h = comes (refused (own.BadCompare kind one other)) h
 
 pub told_of : {S : Type 0} (files : Option (List ℕ → Option (List ℕ))) (matches : S → Option (List ℕ → List ℕ → Bool)) (bad : S → Option (List ℕ → Bool)) (refusals : S → ℕ) (gives : S → List ℕ → List ℕ → Found → S → Type 0) (u v : S) (is : List Input) (w : OwnWork) (p : World)
@@ -198,8 +195,7 @@ module _ (is : List Input) (w : OwnWork) (p : World) (decides : Decides p) (faul
   exact_of (BadReport kind pointer) h = none (refused (own.BadReport kind pointer)) h
   exact_of (NotConfirmed number kind) h = none (refused (own.NotConfirmed number kind)) h
   exact_of (BadAsk number kind) h = none (refused (own.BadAsk number kind)) h
-  exact_of NotBuilt (inl h) = one input.NotBuilt tt h
-  exact_of NotBuilt (inr h) = none (refused own.NotBuilt) h
+  exact_of NotBuilt h = one input.NotBuilt tt h
   exact_of (BadCompare kind one other) h = none (refused (own.BadCompare kind one other)) h
 
 -- ---- what a finished exploration tells
@@ -288,7 +284,6 @@ shown_own failed missed passed raised broken (own.BadReport kind pointer) = tt
 shown_own failed missed passed raised broken (own.NotConfirmed number kind) = tt
 shown_own failed missed passed raised broken (own.BadAsk number kind) = tt
 shown_own failed missed passed raised broken (own.BadCompare kind one other) = tt
-shown_own failed missed passed raised broken own.NotBuilt = tt
 shown_own failed missed passed raised broken own.NoMemory = tt
 
 shown_answer : (failed missed passed raised broken : Type 0) (answer : Result Ending Stop) → Shows failed missed passed raised broken answer → Shown failed missed passed raised broken (status_of answer)

@@ -41,7 +41,7 @@ module _ {S : Type 0} (o : Outside S) (u v : S) (is : List Input) (w : OwnWork) 
   Cause (BadReport kind pointer) = Comes (refused (own.BadReport kind pointer))
   Cause (NotConfirmed number kind) = Comes (refused (own.NotConfirmed number kind))
   Cause (BadAsk number kind) = Comes (refused (own.BadAsk number kind))
-  Cause NotBuilt = Stops input.NotBuilt ⊎ Comes (refused own.NotBuilt)
+  Cause NotBuilt = Stops input.NotBuilt
   Cause (BadCompare kind one other) = Comes (refused (own.BadCompare kind one other))
 
   -- what the sink gained with each

@@ -35,7 +35,6 @@ own_status (own.BadReport kind pointer) = BadReport kind pointer
 own_status (own.NotConfirmed number kind) = NotConfirmed number kind
 own_status (own.BadAsk number kind) = BadAsk number kind
 own_status (own.BadCompare kind one other) = BadCompare kind one other
-own_status own.NotBuilt = NotBuilt
 own_status own.NoMemory = NoMemory
 
 -- how a command ended

@@ -107,7 +107,6 @@ fn own_status(fault: OwnFault) -> Status
         OwnFault::NotConfirmed { number, kind } => Status::NotConfirmed { number, kind },
         OwnFault::BadAsk { number, kind } => Status::BadAsk { number, kind },
         OwnFault::BadCompare { kind, one, other } => Status::BadCompare { kind, one, other },
-        OwnFault::NotBuilt => Status::NotBuilt,
         OwnFault::NoMemory => Status::NoMemory,
     }
 }
