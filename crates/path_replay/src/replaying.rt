@@ -8,6 +8,7 @@ ghost use Rattle.exact_records.specs.View.{record_trees};
 ghost use Rattle.symbolic_engine.specs.Origins.{IsFirstState};
 ghost use Rattle.path_replay.specs.Replaying.{ConfirmsFor, IsConfirmedBackFor};
 
+use crate::laws::one_answer_for_a_net;
 use crate::runs::Runs;
 use net_check::{Injection, Net};
 use path_records::Record;
@@ -34,6 +35,21 @@ pub fn confirm(
     ensures confirms { ConfirmsFor (network net.now) (entry injection.now) hops (record_trees records.now) result }
     ensures back { IsConfirmedBackFor (network net.now) (entry injection.now) hops (record_trees records.now) result }
 {
+    one_answer_for_a_net();
+    confirm_job(alloc, net, injection, hops, records)
+}
+
+/// The same, one way.
+fn confirm_job(
+    alloc: Global,
+    net: &Net,
+    injection: &Injection,
+    hops: u32,
+    records: &[Record],
+) -> Result<Confirmed, ReplayFault>
+    requires { AreOfOneJob (network net.now) (entry injection.now) }
+    ensures { ConfirmsFor (network net.now) (entry injection.now) hops (record_trees records.now) result }
+{
     let first = SymState::from_injection(alloc, net, injection)?;
     confirm_from::<Brand>(alloc, net, injection, hops, first, records)
 }
@@ -51,8 +67,7 @@ fn confirm_from<B: Origin>(
     requires net { network net.now ≡ B.net }
     requires explored { IsExplored (network net.now) (entry injection.now) hops B.start }
     requires first { IsFirstState B.start (network net.now) hops injection.now.node injection.now.raw.port first }
-    ensures confirms { ConfirmsFor (network net.now) (entry injection.now) hops (record_trees records.now) result }
-    ensures back { IsConfirmedBackFor (network net.now) (entry injection.now) hops (record_trees records.now) result }
+    ensures { ConfirmsFor (network net.now) (entry injection.now) hops (record_trees records.now) result }
 {
     let condition = first.condition().fork()?;
     let engine = Explorer::<B>::new(alloc, net, injection.place(), hops, first);

@@ -89,7 +89,8 @@ impl<'a, B: Origin> Guide for Runs<'a, B> {
     fn first(&self, alloc: Global) -> Result<Stop<'a, B>, NoMemory> {
         let next = begin::<B, Brand>(alloc, &self.engine, Blank::new(1))?;
         is_own(&next);
-        Ok(Stop { next })
+        let stop = Stop { next };
+        Ok(stop)
     }
 
     fn behind(
@@ -103,7 +104,8 @@ impl<'a, B: Origin> Guide for Runs<'a, B> {
             return Ok(None);
         };
         is_own(&next);
-        Ok(Some(Stop { next }))
+        let stop = Stop { next };
+        Ok(Some(stop))
     }
 
     fn side(
