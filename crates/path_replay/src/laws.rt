@@ -7,12 +7,12 @@ ghost use Rattle.record_checks.specs.declared.counts.Confirmed.{Confirmed};
 ghost use Rattle.record_checks.specs.declared.fault.ReplayFault.{ReplayFault};
 ghost use Rattle.path_replay.specs.Replaying.{ConfirmsFor, IsConfirmedBackFor};
 
-use record_checks::laws::one_answer_confirms;
+use record_checks::laws::parts_make_the_meaning;
 
 /// What may be answered of records is the only answer, but for want of memory.
 pub fn one_answer_for_a_net()
     ensures { (net : Network) (i : Entry) (hops : ℕ) (records : List RecordTree) (answer : Result Confirmed ReplayFault)
         → ConfirmsFor net i hops records answer → IsConfirmedBackFor net i hops records answer }
 {
-    one_answer_confirms();
+    parts_make_the_meaning();
 }

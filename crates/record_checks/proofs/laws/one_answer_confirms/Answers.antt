@@ -1,6 +1,0 @@
-use Rattle.record_checks.proofs.OneAnswer.{confirmed_back}
-use Rattle.record_checks.proofs.Parts.{parts_make_it}
-use Rattle.record_checks.proofs.laws.one_answer_confirms.Goals as goal
-
-pub returns : goal.returns
-returns c s xs answer h = confirmed_back s (parts_make_it s) xs answer h
