@@ -46,8 +46,8 @@ first_of net i hops x begins = record {
   places = begins.places;
 }
 
-same_ok : {A E : Type 0} {a b : A} → Ok {E = E} a ≡ Ok b → a ≡ b
-same_ok e = cc
+same_ok : {A E : Type 0} {a b : A} → ◌≡◌ {A = Result A E} (Ok a) (Ok b) → a ≡ b
+same_ok e = cc e
 
 module _ (net : Network) (i : Injection) (hops : ℕ) (start : SymStart) (explored : IsExplored net i hops start) (xs : List RecordTree) where
   pub confirms_for : (result : Result Confirmed ReplayFault) → Confirms start xs result → ConfirmsFor net i hops xs result
