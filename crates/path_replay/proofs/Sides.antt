@@ -1,6 +1,7 @@
 -- The sides of tests, where a run waits.
-use Rattle.std.proofs.Common.{◌≡◌, List, ◌∷◌, [], ◌++◌, Option, Some, None, append_assoc, refl, sym, ap, ◌∙◌}
+use Rattle.std.proofs.Common.{◌≡◌, Bool, List, ◌∷◌, [], ◌++◌, Option, Some, None, append_assoc, refl, sym, ap, ◌∙◌}
 use Rattle.std.proofs.lemmas.List.{same_from_push}
+use Rattle.path_formula.specs.Formulas.{FormulaTree}
 use Rattle.path_cond.specs.Conditions.{Condition}
 use Rattle.net_check.specs.Network.{Network}
 use Rattle.sefl_meaning.specs.declared.walk.Decision.{Decision}
@@ -39,7 +40,7 @@ module _ {B : Type 0} {origin : Ghosts B} (s : SymStart) (net : Network) (next :
   pub side_seen : (place : Standing B) (c : Condition) → IsRunOf s place.run → trees_of c ≡ trees_of place.run.condition
       → IsSideBehind (here {B = B} {origin = origin} s net) next d place → IsSide s (ds ++ d ∷ []) c
   side_seen place c run is b =
-      let entry = (b.test, b.truth) in
+      let entry : FormulaTree × Bool = (b.test, b.truth) in
       let widths = b.widths ∙ (there.led.widths ∙ ap (λ (t : SymTree). s.unknowns ++ (progress_of t).choices) (sym there.led.left)) in
       let entries =
       sym (all_entries s place.run run)

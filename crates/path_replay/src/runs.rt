@@ -1,10 +1,8 @@
 //! Guided runs of a net from an injection.
 
 ghost use Rattle.std.specs.Prelude.{◌≡◌, ◌<◌, ◌++◌, ◌∷◌, [], IfOk};
-ghost use Rattle.exact_records.specs.Records.{first_condition};
 ghost use Rattle.path_exec.specs.Following.{LeadsTo, here_of};
 ghost use Rattle.path_exec.specs.Stepping.{IsLedThere, LeadsOn};
-ghost use Rattle.record_checks.specs.Stops.{trees_of};
 ghost use Rattle.symbolic_engine.specs.Origins.{IsRunOf};
 ghost use Rattle.symbolic_engine.specs.Seeing.{views_of};
 ghost use Rattle.path_replay.specs.Stopping.{state_of};
@@ -17,17 +15,33 @@ use record_checks::guide::Guide;
 use sefl_meaning::{Decision, End};
 use sn_width::{NoMemory, Steps};
 use std::alloc::Global;
-use std::marker::Brand;
+use std::marker::{Brand, Model};
 use std::sync::ledger::{Blank, Ledger};
 use sym_state::SymState;
 use symbolic_engine::{Explorer, Finished, Origin, Waiting};
 
-/// The runs of a net from an injection, and the condition of the injection alone.
+/// The runs of a net from an injection, which contracts see as the condition of the injection alone.
 #[derive(Drop)]
 pub(crate) struct Runs<'a, B: Origin> {
     pub engine: Explorer<'a, B>,
     pub condition: PathCond,
-    pub ghost is: { trees_of condition ≡ first_condition B.start },
+}
+
+impl<'a, B: Origin> Model for Runs<'a, B> {
+    ghost use Rattle.std.specs.Prelude.{◌≡◌};
+    ghost use Rattle.std.specs.Coded.{codes};
+    ghost use Rattle.path_formula.specs.contracts.formula.Formula as the_formula;
+    ghost use Rattle.path_cond.specs.Conditions.{Condition};
+    ghost use Rattle.exact_records.specs.Records.{first_condition};
+    ghost use Rattle.record_checks.specs.Stops.{trees_of};
+
+    ghost Value = { Condition };
+
+    ghost coded = { Prim.hlevel (codes, the_formula.the_row.coded) };
+
+    ghost view = { λ runs. runs.condition };
+
+    ghost invariant = { λ runs. trees_of runs.condition ≡ first_condition B.start };
 }
 
 /// Says that the state there is of a run of this exploration. It does nothing.
@@ -74,13 +88,11 @@ fn go_on<'a, B: Origin, L: Ledger>(
 }
 
 impl<'a, B: Origin> Guide for Runs<'a, B> {
-    ghost use Rattle.path_replay.specs.Stopping.{stop_of};
-
     type Stop = Stop<'a, B>;
 
     ghost start = { B.start };
 
-    ghost seen = { λ stop. stop_of stop.next };
+    ghost seen = { λ stop. stop };
 
     fn injected(&self) -> &PathCond {
         &self.condition
@@ -89,8 +101,8 @@ impl<'a, B: Origin> Guide for Runs<'a, B> {
     fn first(&self, alloc: Global) -> Result<Stop<'a, B>, NoMemory> {
         let next = begin::<B, Brand>(alloc, &self.engine, Blank::new(1))?;
         is_own(&next);
-        let stop = Stop { next };
-        Ok(stop)
+        let there = Stop { next };
+        Ok(there)
     }
 
     fn behind(
@@ -104,8 +116,8 @@ impl<'a, B: Origin> Guide for Runs<'a, B> {
             return Ok(None);
         };
         is_own(&next);
-        let stop = Stop { next };
-        Ok(Some(stop))
+        let there = Stop { next };
+        Ok(Some(there))
     }
 
     fn side(

@@ -14,10 +14,8 @@ new-engine-requires-clause-first g c =
 pub invariant_of-runs : goal.invariant_of-runs
 invariant_of-runs g c =
     let i = c.args.injection.now in
-    record {
-      is = ap trees_of (c.in_ok-condition.ensures ∙ c.condition.ensures)
-          ∙ first_seen g.B.Origin.start (network c.args.net.now) c.args.hops i.node i.raw.port c.args.first c.requires.first;
-    }
+    ap trees_of (c.in_ok-condition.ensures ∙ c.condition.ensures)
+    ∙ first_seen g.B.Origin.start (network c.args.net.now) c.args.hops i.node i.raw.port c.args.first c.requires.first
 
 pub returns : goal.returns
 returns g c =
