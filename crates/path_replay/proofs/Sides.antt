@@ -1,5 +1,5 @@
 -- The sides of tests, where a run waits.
-use Rattle.std.proofs.Common.{◌≡◌, Bool, List, ◌∷◌, [], ◌++◌, Option, Some, None, append_assoc, refl, sym, ap, ◌∙◌}
+use Rattle.std.proofs.Common.{◌≡◌, Bool, List, ◌∷◌, [], ◌++◌, Some, None, append_assoc, refl, sym, ap, ◌∙◌}
 use Rattle.std.proofs.lemmas.List.{same_from_push}
 use Rattle.path_formula.specs.Formulas.{FormulaTree}
 use Rattle.path_cond.specs.Conditions.{Condition}
@@ -7,9 +7,8 @@ use Rattle.net_check.specs.Network.{Network}
 use Rattle.sefl_meaning.specs.declared.walk.Decision.{Decision}
 use Rattle.sefl_meaning.specs.Routes.{route, truth_of}
 use Rattle.sefl_meaning.specs.Start.{progress_of}
-use Rattle.exact_records.specs.Records.{EndsAtTest, SymRoute, SymStart, SymTree, injection_tests}
+use Rattle.exact_records.specs.Records.{SymRoute, SymStart, SymTree, injection_tests}
 use Rattle.path_exec.specs.declared.engine.Next.{Next}
-use Rattle.path_exec.specs.Following.{here_of}
 use Rattle.path_exec.specs.Stepping.{IsLedThere, IsSideBehind, SideBehind}
 use Rattle.record_checks.specs.Stops.{IsSide, LeadsTo, SideOf, trees_of}
 use Rattle.symbolic_engine.specs.declared.origin.Origin.{Ghosts}
