@@ -1,5 +1,5 @@
 -- What `replay` comes to, by the report that the bytes show.
-use Rattle.std.proofs.Common.{◌≡◌, refl, sym, subst, ℕ, List, [], ◌∷◌, Some, Result, Ok, Err}
+use Rattle.std.proofs.Common.{refl, sym, subst, ℕ, List, [], ◌∷◌, Some, Ok, Err}
 use Rattle.sefl_syntax.specs.Trees.{AskTree}
 use Rattle.net_check.specs.Network.{Network, Entry}
 use Rattle.exact_records.specs.Records.{RecordTree}

@@ -1,6 +1,6 @@
 -- What `replay` comes to of the bytes of a report is one thing.
-use Rattle.std.proofs.Common.{◌≡◌, ◌⊎◌, inl, inr, refl, sym, ap, subst, ◌∙◌, ℕ, List, [], ◌∷◌, map, Option, None, Some, Result, Ok, Err, string_bytes}
-use Rattle.std.proofs.lemmas.Option.{none-some, same_Some}
+use Rattle.std.proofs.Common.{◌≡◌, inl, inr, refl, sym, ap, subst, ◌∙◌, ℕ, List, [], ◌∷◌, map, Some, Result, Ok, Err, string_bytes}
+use Rattle.std.proofs.lemmas.Option.{none-some}
 use Rattle.serde_json.specs.Data.{Data}
 use Rattle.net_check.specs.Network.{Network, Entry}
 use Rattle.exact_records.specs.Records.{RecordTree, path, pruned, unexplored}
@@ -21,10 +21,8 @@ use Rattle.path_report.specs.declared.report.ReportFault.TheVariants.{NotJson, N
 use Rattle.record_checks.specs.declared.counts.Confirmed.{Confirmed}
 use Rattle.record_checks.specs.declared.fault.ReplayFault.{ReplayFault}
 use Rattle.record_checks.specs.declared.fault.ReplayFault.TheVariants.{NotConfirmed as IsBroken, NoMemory as NoReplay}
-use Rattle.record_checks.specs.declared.part.Part.{Part}
 use Rattle.path_replay.specs.Replaying.{ConfirmsFor, IsConfirmedBackFor}
 use Rattle.run_answers.specs.Runs.{Outcome, text, refused}
-use Rattle.run_answers.specs.declared.fault.OwnFault.{OwnFault}
 use Rattle.run_answers.specs.declared.fault.OwnFault.TheVariants.{BadReport, NotConfirmed}
 use Rattle.replay_command.specs.Counted.{confirmed_text}
 use Rattle.replay_command.specs.Replays.{IsBadReport, IsCountsText, IsFirstOther, OfReport, ReplayOf, part_kind, report_kind}
@@ -143,8 +141,8 @@ module _ (back : IsOneAnswer) (net : Network) (i : Entry) (hops : ℕ) (xs : Lis
   same_other number number' kind kind' (part, h, is) (part', h', is') =
       elim ((back net i hops xs (Err (IsBroken number part)) h h'.start h'.explored).refused number' part' h'.holds) [
         | inl e ↦
-          let kinds = is ∙ (ap kind_in e ∙ sym is') in
-          λ l. refused (NotConfirmed (number_in (e l)) (kinds l))
+            let kinds = is ∙ (ap kind_in e ∙ sym is') in
+            λ l. refused (NotConfirmed (number_in (e l)) (kinds l))
         | inr e ↦ absurd (subst IsRefused e tt)
       ]
 

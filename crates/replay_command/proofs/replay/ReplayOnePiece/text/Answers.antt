@@ -1,4 +1,4 @@
-use Rattle.std.proofs.Common.{◌≡◌, Ok, map, subst, string_bytes}
+use Rattle.std.proofs.Common.{Ok, map, subst, string_bytes}
 use Rattle.std.proofs.lemmas.Result.{err_from_is_err_and}
 use Rattle.sefl_syntax.specs.Views.{ask_tree}
 use Rattle.net_check.specs.Network.{entry, network}
