@@ -1,12 +1,12 @@
 -- What `clap` gives of the words is what their reading gives.
-use Rattle.std.proofs.Common.{◌≡◌, ◌∙◌, sym, ap, List, Option, Some}
+use Rattle.std.proofs.Common.{◌≡◌, ◌∙◌, sym, ap, List, Some}
 use Rattle.clap.proofs.WalkLemmas.{first_value-rows}
 use Rattle.clap.specs.Matches.{first_value}
 use Rattle.clap.specs.Walk.{first_of, rows_of}
 use Rattle.clap.specs.declared.parser.matches.Found.{Found}
 use Rattle.std.specs.Prelude.{option_and_then}
 use Rattle.command_words.specs.Apps.{rows}
-use Rattle.command_words.specs.Commands.{Command, command_from, form_of_verb, named, read_command}
+use Rattle.command_words.specs.Commands.{command_from, form_of_verb, named, read_command}
 use Rattle.command_words.specs.Forms.{Form, Given, Text, read_form, value_of}
 use Rattle.command_words.specs.declared.command.Verb.{Verb}
 use Rattle.command_words.proofs.FormRules.{first_is}

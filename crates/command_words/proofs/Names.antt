@@ -1,5 +1,5 @@
 -- The names of options are those that `clap` reads.
-use Rattle.std.proofs.Common.{◌==◌, ◌≡◌, refl, ap, ◌∙◌, ℕ, List, [], ◌∷◌, Option, Some, None, true, false, Bool, ◌&&◌, ◌||◌, inl, inr, ◌⊎◌}
+use Rattle.std.proofs.Common.{◌==◌, ◌≡◌, refl, [], ◌∷◌, true, false, Bool, inl, inr, ◌⊎◌}
 use Rattle.clap.specs.Lexer.{long_of}
 use Rattle.command_words.specs.Forms.{Text, option_of}
 

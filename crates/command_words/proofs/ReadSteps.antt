@@ -114,7 +114,6 @@ pending_holds c given id v s new = record {
 -- ---- the steps where the word is read
 
 module _ (f : Form) (c : List Rule) (serves : Serves f c) (given : Given) (rs : List Row) (p : Option (Text × List Text)) (holds : Holds c given (held rs p)) (k : ℕ) where
-
   pub positional_is : (w id : Text) (i : Option ℕ) (l : Option Text) (r : Bool)
       → positional_held c (one id i l r) w (held rs p) ≡ held (rows given) (Some (id, w ∷ []))
   positional_is w id i l r = go (is_pending (one id i l r) p)

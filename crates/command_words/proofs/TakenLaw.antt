@@ -1,5 +1,5 @@
 -- What clap takes has a reading, where no word before `--` begins with one dash.
-use Rattle.std.proofs.Common.{◌==◌, ◌≡◌, refl, sym, ap, ◌∙◌, ℕ, List, [], ◌∷◌, ◌++◌, Option, Some, None, true, false, Bool, slice_get, ◌+◌, ◌<◌, ◌||◌, ◌&&◌, not, inl, inr, ◌⊎◌, true≢false, is_some, if◌then◌else◌, length, subst}
+use Rattle.std.proofs.Common.{◌==◌, ◌≡◌, refl, sym, ap, ◌∙◌, ℕ, List, [], ◌∷◌, ◌++◌, Option, Some, None, true, false, Bool, slice_get, ◌+◌, ◌<◌, ◌||◌, ◌&&◌, not, inl, inr, true≢false, is_some, if◌then◌else◌, length, subst}
 use Rattle.std.specs.List.{list_all}
 use Rattle.std.specs.Option.{option_map_or}
 use Rattle.clap.specs.Kinds.{Kinds, or_else, HasKind, IsAmong}
@@ -245,8 +245,10 @@ module _ (f : Form) (c : List Rule) (serving : Serves f c) where
   ]
 
   pub words_back : (words : List Text) → IdleBack words × WaitsBack words
-  words_back [] = (λ s k given rs p holds pass. last_back given rs p holds pass.lasts,
-      λ s name known k given pass. absurd (unsettled (rows given) name (serving.option_by_id name known) (parts _ _ pass.lasts).0))
+  words_back [] = (
+    λ s k given rs p holds pass. last_back given rs p holds pass.lasts,
+    λ s name known k given pass. absurd (unsettled (rows given) name (serving.option_by_id name known) (parts _ _ pass.lasts).0),
+  )
   words_back (w ∷ ws) = let more = words_back ws in (idle_word w ws more.0 more.1, waiting_word w ws more.0)
 
 pub taken_law : (f : Form) (words : List Text) → length f.positionals < 1000 → has_single_dash words ≡ false → fault_of (form_app f) words ≡ []

@@ -1,5 +1,5 @@
 -- Forms of words, and their readings.
-use Rattle.std.specs.Prelude.{ℕ, Bool, List, [], ◌∷◌, ◌++◌, ◌==◌, ◌+◌, ◌&&◌, ◌||◌, not, true, false, Option, Some, None, slice_get, find, option_map, if◌then◌else◌}
+use Rattle.std.specs.Prelude.{ℕ, Bool, List, [], ◌∷◌, ◌++◌, ◌==◌, ◌+◌, ◌&&◌, ◌||◌, not, false, Option, Some, None, slice_get, find, option_map, if◌then◌else◌}
 use Rattle.std.specs.List.{after_first, before_first, list_any, list_all}
 use Rattle.std.specs.Str.{bytes_eq}
 

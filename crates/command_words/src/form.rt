@@ -23,15 +23,11 @@ pub fn form_command<'a>(alloc: Global, form: &Form) -> Result<Command<'a>, Alloc
         .no_binary_name(true)
         .disable_help_flag(true);
     for id in form.positionals {
-        let positional = Arg::new(alloc, *id)
-            .required(true)
-            .action(ArgAction::Set);
+        let positional = Arg::new(alloc, *id).required(true).action(ArgAction::Set);
         command = command.arg(positional)?;
     }
     for name in form.options {
-        let option = Arg::new(alloc, *name)
-            .long(*name)
-            .action(ArgAction::Set);
+        let option = Arg::new(alloc, *name).long(*name).action(ArgAction::Set);
         command = command.arg(option)?;
     }
     Ok(command)

@@ -8,4 +8,3 @@ mod number;
 mod values;
 
 pub use command::{Command, HOPS, LIMIT, MOST_HOPS, MOST_LIMIT, reading};
-
