@@ -7,18 +7,20 @@ use Rattle.command_words.specs.Numbers.{number_or}
 use Rattle.command_words.specs.declared.command.TheConstants.{HOPS, LIMIT, MOST_HOPS, MOST_LIMIT}
 use Rattle.command_words.specs.declared.command.Command.{Command as CommandOf}
 use Rattle.command_words.specs.declared.command.Command.TheVariants as given
+use Rattle.command_words.specs.declared.command.Pruned.{Pruned}
+use Rattle.command_words.specs.declared.command.Pruned.TheVariants.{All, Count}
 use Rattle.command_words.specs.declared.command.Verb.{Verb}
 use Rattle.command_words.specs.declared.command.Verb.TheVariants.{Explore, Walk}
 
 -- a command, with the names of the files that it reads, and what its options give
 pub data Command : Type 0 where
-  -- the job; hops and limit
-  explore : Text → ℕ → ℕ → Command
+  -- the job; hops and limit, and what is written of pruned records
+  explore : Text → ℕ → ℕ → Pruned → Command
   -- the job and the packet; hops and limit
   walk : Text → Text → ℕ → ℕ → Command
 
 abbrev pub command_of : CommandOf → Command
-command_of (given.Explore job hops limit) = explore job.now hops limit
+command_of (given.Explore job hops limit pruned) = explore job.now hops limit pruned
 command_of (given.Walk job packet hops limit) = walk job.now packet.now hops limit
 
 -- numbers of options are in their ranges
@@ -26,12 +28,12 @@ abbrev pub AreInRange : ℕ → ℕ → Type 0
 AreInRange hops limit = (1 ≤ hops) × (hops ≤ MOST_HOPS) × (1 ≤ limit) × (limit ≤ MOST_LIMIT)
 
 abbrev pub HasRanges : Command → Type 0
-HasRanges (explore job hops limit) = AreInRange hops limit
+HasRanges (explore job hops limit pruned) = AreInRange hops limit
 HasRanges (walk job packet hops limit) = AreInRange hops limit
 
 -- what the words behind a command's name may be
 abbrev pub form_of_verb : Verb → Form
-form_of_verb Explore = record { positionals = codes "JOB" ∷ []; options = codes "hops" ∷ codes "limit" ∷ [] }
+form_of_verb Explore = record { positionals = codes "JOB" ∷ []; options = codes "hops" ∷ codes "limit" ∷ codes "pruned" ∷ [] }
 form_of_verb Walk = record { positionals = codes "JOB" ∷ codes "PACKET" ∷ []; options = codes "hops" ∷ codes "limit" ∷ [] }
 
 -- the command of a name
@@ -46,6 +48,16 @@ abbrev pub named : List Text → Option (Verb × List Text)
 named [] = None
 named (word ∷ rest) = option_map (λ verb. (verb, rest)) (verb_of word)
 
+abbrev pub pruned_of : Text → Option Pruned
+pruned_of word =
+    if bytes_eq word (codes "all") then Some All
+    else if bytes_eq word (codes "count") then Some Count
+    else None
+
+abbrev pub pruned_or_all : Option Text → Option Pruned
+pruned_or_all None = Some All
+pruned_or_all (Some word) = pruned_of word
+
 -- of values by their names
 module _ (value : Text → Option Text) where
   abbrev pub hops_in : Option ℕ
@@ -54,14 +66,17 @@ module _ (value : Text → Option Text) where
   abbrev pub limit_in : Option ℕ
   limit_in = number_or 1 MOST_LIMIT LIMIT (value (codes "limit"))
 
-  abbrev pub with_bounds : (ℕ → ℕ → Command) → Option Command
-  with_bounds make = option_and_then (λ hops. option_map (make hops) limit_in) hops_in
+  abbrev pub pruned_in : Option Pruned
+  pruned_in = pruned_or_all (value (codes "pruned"))
+
+  abbrev pub with_bounds : (ℕ → ℕ → Option Command) → Option Command
+  with_bounds next = option_and_then (λ hops. option_and_then (next hops) limit_in) hops_in
 
   abbrev pub explore_from : Option Command
-  explore_from = option_and_then (λ job. with_bounds (explore job)) (value (codes "JOB"))
+  explore_from = option_and_then (λ job. with_bounds (λ hops limit. option_map (explore job hops limit) pruned_in)) (value (codes "JOB"))
 
   abbrev pub walk_from : Option Command
-  walk_from = option_and_then (λ job. option_and_then (λ packet. with_bounds (walk job packet)) (value (codes "PACKET"))) (value (codes "JOB"))
+  walk_from = option_and_then (λ job. option_and_then (λ packet. with_bounds (λ hops limit. Some (walk job packet hops limit))) (value (codes "PACKET"))) (value (codes "JOB"))
 
 -- the command with these values
 abbrev pub command_from : Verb → (Text → Option Text) → Option Command

@@ -2,7 +2,7 @@
 
 ghost use Rattle.std.specs.Prelude.{◌≡◌, ◌≤◌, IfOk, IfSome, Some, option_map, codes, map, string_bytes};
 ghost use Rattle.clap.specs.Words.{first_value, found_of};
-ghost use Rattle.command_words.specs.Commands.{Command as CommandOf, HasRanges, command_from, command_of, form_of_verb, hops_in, limit_in, named, reading, verb_of};
+ghost use Rattle.command_words.specs.Commands.{Command as CommandOf, HasRanges, command_from, command_of, form_of_verb, hops_in, limit_in, named, pruned_in, pruned_of, reading, verb_of};
 ghost use Rattle.command_words.specs.Shapes.{form_of, named_of};
 
 use crate::form::Form;
@@ -21,6 +21,15 @@ pub const MOST_HOPS: u32 = 256;
 
 pub const MOST_LIMIT: u32 = 100_000;
 
+/// What is written of pruned records.
+#[derive(Clone, Copy)]
+pub enum Pruned {
+    /// Each of them.
+    All,
+    /// Their number alone.
+    Count,
+}
+
 /// A command, with the names of the files that it reads, and what its options give.
 #[derive(Clone, Copy)]
 pub enum Command<'a> {
@@ -28,6 +37,7 @@ pub enum Command<'a> {
         job: &'a str,
         hops: u32,
         limit: u32,
+        pruned: Pruned,
     },
     Walk {
         job: &'a str,
@@ -52,7 +62,7 @@ impl Verb {
         match self {
             Verb::Explore => Form {
                 positionals: &["JOB"],
-                options: &["hops", "limit"],
+                options: &["hops", "limit", "pruned"],
             },
             Verb::Walk => Form {
                 positionals: &["JOB", "PACKET"],
@@ -105,6 +115,26 @@ fn limit_in(values: &ArgMatches<'_>) -> Option<u32>
     }
 }
 
+fn pruned_of(word: &str) -> Option<Pruned>
+    ensures { result ≡ pruned_of word.now }
+{
+    match word {
+        "all" => Some(Pruned::All),
+        "count" => Some(Pruned::Count),
+        _ => None,
+    }
+}
+
+/// What is to be written of pruned records, or the default.
+fn pruned_in(values: &ArgMatches<'_>) -> Option<Pruned>
+    ensures { result ≡ pruned_in (first_value (found_of values.now)) }
+{
+    match values.get_str("pruned") {
+        Some(word) => pruned_of(word),
+        None => Some(Pruned::All),
+    }
+}
+
 /// The command with these values.
 fn command_from<'a>(verb: Verb, values: &ArgMatches<'a>) -> Option<Command<'a>>
     ensures command { option_map command_of result ≡ command_from verb (first_value (found_of values.now)) }
@@ -115,7 +145,13 @@ fn command_from<'a>(verb: Verb, values: &ArgMatches<'a>) -> Option<Command<'a>>
             let job = values.get_str("JOB")?;
             let hops = hops_in(values)?;
             let limit = limit_in(values)?;
-            Some(Command::Explore { job, hops, limit })
+            let pruned = pruned_in(values)?;
+            Some(Command::Explore {
+                job,
+                hops,
+                limit,
+                pruned,
+            })
         }
         Verb::Walk => {
             let job = values.get_str("JOB")?;

@@ -17,11 +17,12 @@ use Rattle.run_answers.specs.declared.ending.Stop.{Stop}
 use Rattle.run_answers.specs.declared.ending.Stop.TheVariants.{Input as ByInput, Own, Write, NoMemory as NoRoom}
 use Rattle.symnet_program.proofs.ToldLemmas.{first_told, all_told}
 use Rattle.symnet_program.specs.Status.{MayStop, input_status, own_status, status_of}
-use Rattle.symnet_program.specs.Commands.{inputs, work}
+use Rattle.symnet_program.specs.Commands.{inputs, sides_of, work}
 use Rattle.explore_command.specs.Explores.{IsReport}
 use Rattle.explore_command.specs.Headline.{IsHeadline}
 use Rattle.symnet_program.specs.Headline.{TellsJob}
 use Rattle.command_words.specs.Commands.{Command, explore}
+use Rattle.command_words.specs.declared.command.Pruned.{Pruned}
 use Rattle.symnet_program.specs.Program.{Cause, Comes, IsAnswered, IsCaused, MayWrite, RefusesInput, Shown, Stops, Writes}
 use Rattle.symnet_program.specs.declared.status.Status.{Status}
 use Rattle.symnet_program.specs.declared.status.Status.TheVariants.{Done, NoMemory, Usage, NoFile, ReadFault, WriteFault, TooBig, Syntax, BadPattern, Refused, BadTable, BadPacket, Partial, TooMany, BadReport, NotConfirmed, BadAsk, NotBuilt, BadCompare}
@@ -199,9 +200,9 @@ module _ (is : List Input) (w : OwnWork) (p : World) (decides : Decides p) (faul
 
 -- ---- what a finished exploration tells
 
-module _ {S : Type 0} (o : Outside S) (u v : S) (hops limit : ℕ)
-    (law : (net : Network) (i : Entry) (whole : List ℕ) → IsReport hops limit net i ending.Done whole → IsHeadline net i hops limit whole) where
-  pub job_told : (job whole : List ℕ) → MayWrite o u v (Some (explore job hops limit)) Done whole → TellsJob o u v job hops limit whole
+module _ {S : Type 0} (o : Outside S) (u v : S) (hops limit : ℕ) (pruned : Pruned)
+    (law : (net : Network) (i : Entry) (whole : List ℕ) → IsReport hops limit (sides_of pruned) net i ending.Done whole → IsHeadline net i hops limit (sides_of pruned) whole) where
+  pub job_told : (job whole : List ℕ) → MayWrite o u v (Some (explore job hops limit pruned)) Done whole → TellsJob o u v job hops limit (sides_of pruned) whole
   job_told job whole (given, (g, m, (j, has, net, i, taken, is), rest, (none, last), all), comes) = record {
     job = j;
     in_file = has;
@@ -209,7 +210,7 @@ module _ {S : Type 0} (o : Outside S) (u v : S) (hops limit : ℕ)
     injection = i;
     accepted = subst (λ s. o.takes u j net i s) (sym last) taken;
     headline = law net i whole
-        (subst (λ gs. (work (explore job hops limit)).comes gs (text ending.Done whole)) (all ∙ (ap (λ x. x ∷ rest) is ∙ ap (λ r. a_net net i j.asks ∷ r) none)) comes);
+        (subst (λ gs. (work (explore job hops limit pruned)).comes gs (text ending.Done whole)) (all ∙ (ap (λ x. x ∷ rest) is ∙ ap (λ r. a_net net i j.asks ∷ r) none)) comes);
   }
 
 -- ---- memory ended while the words were read
@@ -245,14 +246,14 @@ module _ {S : Type 0} (files : Option (List ℕ → Option (List ℕ))) (matches
         gained,
       )
 
-  pub headline_said : (job : List ℕ) (hops limit : ℕ)
-      → ((net : Network) (i : Entry) (whole : List ℕ) → IsReport hops limit net i ending.Done whole → IsHeadline net i hops limit whole)
-      → said ≡ Some (explore job hops limit) → status ≡ Done
-      → (whole : List ℕ) × TellsJob (outside files matches bad refusals gives) u v job hops limit whole × (now ≡ append_known known whole)
-  headline_said job hops limit law is done =
+  pub headline_said : (job : List ℕ) (hops limit : ℕ) (pruned : Pruned)
+      → ((net : Network) (i : Entry) (whole : List ℕ) → IsReport hops limit (sides_of pruned) net i ending.Done whole → IsHeadline net i hops limit (sides_of pruned) whole)
+      → said ≡ Some (explore job hops limit pruned) → status ≡ Done
+      → (whole : List ℕ) × TellsJob (outside files matches bad refusals gives) u v job hops limit (sides_of pruned) whole × (now ≡ append_known known whole)
+  headline_said job hops limit pruned law is done =
       let (part, writes, gained) = written_said in (
         part,
-        job_told (outside files matches bad refusals gives) u v hops limit law job part
+        job_told (outside files matches bad refusals gives) u v hops limit pruned law job part
             (subst (λ r. MayWrite (outside files matches bad refusals gives) u v r Done part) is
             (subst (λ s. MayWrite (outside files matches bad refusals gives) u v said s part) done writes)),
         gained,

@@ -24,6 +24,7 @@ ghost use Rattle.walk_command.specs.Walks.{WalksOf};
 ghost use Rattle.symnet_program.specs.Status.{IsStopped, IsWritten, MayBeBad, MayStop, input_status, outcome_status};
 ghost use Rattle.symnet_program.specs.Told.{TellsNet};
 ghost use Rattle.command_words.specs.Commands.{Command as CommandOf, explore, walk};
+ghost use Rattle.command_words.specs.declared.command.Pruned.{Pruned as PrunedOf};
 ghost use Rattle.symnet_program.specs.declared.status.Status.{Status as StatusOf};
 ghost use Rattle.symnet_program.specs.declared.status.Status.TheVariants.{BadPattern, NoFile, NotBuilt, Syntax, TooBig};
 
@@ -54,8 +55,8 @@ pub fn jobs_are_told()
 
 /// Of a job without tables that breaks no rule and none of whose patterns is bad, `explore` tells Done or Partial.
 pub fn explored_jobs_are_told()
-    ensures { (job : List ℕ) (hops limit : ℕ) (w : World) (status : StatusOf) (bytes : List ℕ) (j : JobTree)
-        → IsCaused (world w) tt tt (Some (explore job hops limit)) status → w.at job ≡ Some bytes → length bytes ≤ FILE_LIMIT
+    ensures { (job : List ℕ) (hops limit : ℕ) (pruned : PrunedOf) (w : World) (status : StatusOf) (bytes : List ℕ) (j : JobTree)
+        → IsCaused (world w) tt tt (Some (explore job hops limit pruned)) status → w.at job ≡ Some bytes → length bytes ≤ FILE_LIMIT
         → IsTextOf j bytes → is_filled j ≡ true → IsSound j → IsWritten status ⊎ MayBeBad status }
 {}
 

@@ -6,25 +6,35 @@ ghost use Rattle.run_answers.specs.Inputs.{FirstFails, IsSettled};
 ghost use Rattle.run_answers.specs.Outside.{Tells, World, outside, world};
 ghost use Rattle.run_answers.specs.Runs.{Runs, Shows};
 ghost use Rattle.run_answers.specs.declared.fault.InputFault.{InputFault as InputFaultOf};
-ghost use Rattle.symnet_program.specs.Commands.{inputs, work};
+ghost use Rattle.symnet_program.specs.Commands.{inputs, sides_of, work};
 ghost use Rattle.symnet_program.specs.Headline.{TellsJob};
 ghost use Rattle.symnet_program.specs.Program.{Cause, IsAnswered, IsCaused, MayWrite, RefusesInput, Shown};
 ghost use Rattle.symnet_program.specs.Status.{MayStop, input_status};
 ghost use Rattle.command_words.specs.Commands.{Command as CommandOf, HasRanges, command_of, explore, reading};
+ghost use Rattle.command_words.specs.declared.command.Pruned.{Pruned as PrunedOf};
 ghost use Rattle.symnet_program.specs.declared.status.Status.{Status as StatusOf};
 ghost use Rattle.symnet_program.specs.declared.status.Status.TheVariants.{Done, Usage};
 
 use crate::status::{Status, status_of};
 use command_runs::{Piece, run};
-use command_words::{Command, reading};
+use command_words::{Command, Pruned, reading};
 use explore_command::laws::finished_reports_tell_all;
-use explore_command::{Explore, RecordLimit};
+use explore_command::{Explore, RecordLimit, RefutedSides};
 use job_files::{Both, ByteFile, JobFile};
 use run_answers::laws::worlds_decide;
 use run_answers::{Ending, FILE_LIMIT, Stop};
 use sn_edge::{Folder, Patterns, Sink};
 use std::alloc::Global;
 use walk_command::Walk;
+
+fn sides_of(pruned: Pruned) -> RefutedSides
+    ensures { result ≡ sides_of pruned }
+{
+    match pruned {
+        Pruned::All => RefutedSides::Written,
+        Pruned::Count => RefutedSides::Counted,
+    }
+}
 
 /// Runs a command.
 fn run_command<F: Folder, P: Patterns, K: Sink>(
@@ -50,11 +60,17 @@ fn run_command<F: Folder, P: Patterns, K: Sink>(
         (K.faults out.old < K.faults out.new) result }
 {
     match command {
-        Command::Explore { job, hops, limit } => {
+        Command::Explore {
+            job,
+            hops,
+            limit,
+            pruned,
+        } => {
             let command = Explore {
                 source: JobFile { name: job },
                 hops,
                 limit: RecordLimit::new(limit),
+                sides: sides_of(pruned),
             };
             run(alloc, &command, folder, patterns, out)
         }
@@ -114,9 +130,9 @@ pub fn symnet<F: Folder, P: Patterns, K: Sink>(
 
     // The headline: with Done `explore` wrote the report of the job in the file, and this tells all walks of all packets that
     // meet the injection.
-    ensures headline { (job : List ℕ) (hops limit : ℕ) → reading words.now ≡ Some (explore job hops limit) → result ≡ Done
+    ensures headline { (job : List ℕ) (hops limit : ℕ) (pruned : PrunedOf) → reading words.now ≡ Some (explore job hops limit pruned) → result ≡ Done
         → (whole : List ℕ)
-        × TellsJob (outside (F.files folder.old) P.matches P.bad_patterns P.refusals P.find_gives) patterns.old patterns.new job hops limit whole
+        × TellsJob (outside (F.files folder.old) P.matches P.bad_patterns P.refusals P.find_gives) patterns.old patterns.new job hops limit (sides_of pruned) whole
         × (K.taken out.new ≡ append_known (K.taken out.old) whole) }
 
     // Where the outside tells a world, the cause is one in that world; and an input that is refused there is refused.

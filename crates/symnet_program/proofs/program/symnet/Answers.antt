@@ -1,6 +1,8 @@
 use Rattle.std.proofs.Common.{◌<◌, arith}
+use Rattle.run_answers.specs.Outside.{outside, world}
 use Rattle.command_words.specs.Commands.{command_of, reading}
-use Rattle.symnet_program.proofs.ProgramLemmas.{cause_said, complete_said, exact_said, headline_said, shown_said, told_said, written_said}
+use Rattle.symnet_program.specs.Commands.{sides_of}
+use Rattle.symnet_program.proofs.ProgramLemmas.{cause_said, complete_said, exact_said, headline_said, shown_said, told_said, unread, unwritten, written_said}
 use Rattle.symnet_program.proofs.program.symnet.Goals as goal
 
 pub returns-in-Ok-Some-clause-cause : goal.returns-in-Ok-Some-clause-cause
@@ -14,10 +16,10 @@ returns-in-Ok-Some-clause-written g c =
     (g.K.Sink.taken c.args.out.now) (g.K.Sink.taken c.run_command.new.out) _ (command_of c.in-Ok-Some.command) (rw c.in-Ok-Some.field-0-is at c.in-Ok-Some.ensures.command) c.run_command.result c.status_of.result c.status_of.ensures c.run_command.ensures.ran
 
 pub returns-in-Ok-Some-clause-headline : goal.returns-in-Ok-Some-clause-headline
-returns-in-Ok-Some-clause-headline g c job hops limit named done =
+returns-in-Ok-Some-clause-headline g c job hops limit pruned named done =
     headline_said (g.F.Folder.files c.args.folder.now) g.P.Patterns.matches g.P.Patterns.bad_patterns g.P.Patterns.refusals g.P.Patterns.find_gives c.args.patterns.now c.run_command.new.patterns
     (g.K.Sink.taken c.args.out.now) (g.K.Sink.taken c.run_command.new.out) _ (command_of c.in-Ok-Some.command) (rw c.in-Ok-Some.field-0-is at c.in-Ok-Some.ensures.command) c.run_command.result c.status_of.result c.status_of.ensures c.run_command.ensures.ran
-    job hops limit (c.finished_reports_tell_all.ensures hops limit) named done
+    job hops limit pruned (c.finished_reports_tell_all.ensures hops limit (sides_of pruned)) named done
 
 pub returns-in-Ok-Some-clause-told : goal.returns-in-Ok-Some-clause-told
 returns-in-Ok-Some-clause-told g c w told =
@@ -47,3 +49,16 @@ returns-in-Ok-Some-clause-complete g c command named faults misses excesses brok
     (g.F.Folder.excesses c.args.folder.now < g.F.Folder.excesses c.run_command.new.folder) (g.P.Patterns.refusals c.args.patterns.now < g.P.Patterns.refusals c.run_command.new.patterns)
     (g.K.Sink.faults c.args.out.now < g.K.Sink.faults c.run_command.new.out) c.run_command.result c.status_of.result c.status_of.ensures c.run_command.ensures.shows)
     (λ h. omega (arith, faults, h)) (λ h. omega (arith, misses, h)) (λ h. omega (arith, excesses, h)) (λ h. omega (arith, broken, h)) good
+
+pub returns-in-Err-clause-cause : goal.returns-in-Err-clause-cause
+returns-in-Err-clause-cause g c =
+    unread (outside (g.F.Folder.files c.args.folder.now) g.P.Patterns.matches g.P.Patterns.bad_patterns g.P.Patterns.refusals g.P.Patterns.find_gives) c.args.patterns.now
+    (reading c.args.words.now)
+
+pub returns-in-Err-clause-written : goal.returns-in-Err-clause-written
+returns-in-Err-clause-written g c =
+    unwritten (outside (g.F.Folder.files c.args.folder.now) g.P.Patterns.matches g.P.Patterns.bad_patterns g.P.Patterns.refusals g.P.Patterns.find_gives) c.args.patterns.now
+    (g.K.Sink.taken c.args.out.now) (reading c.args.words.now)
+
+pub returns-in-Err-clause-told : goal.returns-in-Err-clause-told
+returns-in-Err-clause-told g c w told = unread (world w) tt (reading c.args.words.now)
