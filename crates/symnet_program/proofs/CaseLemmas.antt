@@ -16,7 +16,7 @@ use Rattle.run_answers.specs.Flaws.{Flaw, HasFlaw, flaw_of}
 use Rattle.run_answers.specs.Refusals.{fault_by_number, fault_by_rule}
 use Rattle.run_answers.specs.Jobs.{AcceptFails, HasFilled, HasJob, IsOnlyFlaw, IsOnlyJob, IsRefusedAt, IsTextOf, ReadFails, TablesFail, first_bad}
 use Rattle.run_answers.specs.Outside.{World, world}
-use Rattle.run_answers.specs.Inputs.{Input, Given, a_job, a_file, a_net, AllOpen, FirstFails, Opens, Fails}
+use Rattle.run_answers.specs.Inputs.{Input, Given, a_job, a_net, AllOpen, FirstFails, Opens, Fails}
 use Rattle.run_answers.specs.Runs.{OwnWork, Outcome, text, refused}
 use Rattle.run_answers.specs.declared.limits.TheConstants.{FILE_LIMIT}
 use Rattle.run_answers.specs.declared.ending.Ending.TheVariants as ending

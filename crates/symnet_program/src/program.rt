@@ -44,7 +44,7 @@ fn run_command<F: Folder, P: Patterns, K: Sink>(
     patterns: &mut P,
     out: &mut K,
 ) -> Result<Ending, Stop>
-    requires { HasRanges (command_of command.entry) }
+    requires { HasRanges (command_of command) }
     ensures faults_stay { F.faults folder.old ≤ F.faults folder.new }
     ensures misses_stay { F.misses folder.old ≤ F.misses folder.new }
     ensures excesses_stay { F.excesses folder.old ≤ F.excesses folder.new }

@@ -1,4 +1,4 @@
-use Rattle.std.proofs.Common.{rules, ◌≡◌, ℕ, [], ◌∷◌, ◌<◌, arith, subst}
+use Rattle.std.proofs.Common.{ℕ, [], ◌∷◌, arith, subst}
 use Rattle.record_lines.specs.declared.lines.RefutedSides.{RefutedSides}
 use Rattle.run_answers.specs.Inputs.{a_job}
 use Rattle.run_answers.specs.Outside.{outside}
