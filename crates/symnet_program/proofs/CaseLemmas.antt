@@ -16,18 +16,19 @@ use Rattle.run_answers.specs.Flaws.{Flaw, HasFlaw, flaw_of}
 use Rattle.run_answers.specs.Refusals.{fault_by_number, fault_by_rule}
 use Rattle.run_answers.specs.Jobs.{AcceptFails, HasFilled, HasJob, IsOnlyFlaw, IsOnlyJob, IsRefusedAt, IsTextOf, ReadFails, TablesFail, first_bad}
 use Rattle.run_answers.specs.Outside.{World, world}
-use Rattle.run_answers.specs.Inputs.{Input, Given, a_job, a_file, a_net, AllOpen, FirstFails, Opens, Fails}
+use Rattle.run_answers.specs.Inputs.{Input, Given, a_job, a_net, AllOpen, FirstFails, Opens, Fails}
 use Rattle.run_answers.specs.Runs.{OwnWork, Outcome, text, refused}
-use Rattle.run_answers.specs.declared.limits.TheConstants.{FILE_LIMIT, HOPS, LIMIT}
+use Rattle.run_answers.specs.declared.limits.TheConstants.{FILE_LIMIT}
 use Rattle.run_answers.specs.declared.ending.Ending.TheVariants as ending
 use Rattle.run_answers.specs.declared.fault.InputFault.{InputFault}
 use Rattle.run_answers.specs.declared.fault.InputFault.TheVariants as input
 use Rattle.run_answers.specs.declared.fault.OwnFault.TheVariants as working
 use Rattle.explore_command.specs.Explores.{ReportsOf}
-use Rattle.symnet_program.specs.Commands.{work}
+use Rattle.symnet_program.specs.Commands.{inputs, sides_of, work}
 use Rattle.symnet_program.specs.Program.{Cause, Comes, IsCaused}
 use Rattle.symnet_program.specs.Status.{IsStopped, IsWritten, MayBeBad, input_status, outcome_status}
-use Rattle.symnet_program.specs.Words.{Command, explore, walk, job_name}
+use Rattle.command_words.specs.Commands.{Command, explore}
+use Rattle.command_words.specs.declared.command.Pruned.{Pruned}
 use Rattle.symnet_program.specs.declared.status.Status.{Status}
 use Rattle.symnet_program.specs.declared.status.Status.TheVariants.{Done, NoMemory, Usage, NoFile, ReadFault, WriteFault, TooBig, Syntax, BadPattern, Refused, BadTable, BadPacket, Partial, TooMany, BadReport, NotConfirmed, BadAsk, NotBuilt, BadCompare}
 
@@ -137,17 +138,11 @@ module _ (p : World) (name : List ℕ) (rest : List Input) (w : OwnWork) where
   of_cause NotBuilt h = stops input.NotBuilt h
   of_cause (BadCompare kind one other) h = comes (refused (working.BadCompare kind one other)) h
 
--- what a command reads behind its job
-abbrev pub others_of : Command → List Input
-others_of (explore job) = []
-others_of (walk job packet) = a_file FILE_LIMIT packet ∷ []
-
-abbrev pub CommandCase : World → Command → Status → Type 0
-CommandCase p command = FileCase p (job_name command) (others_of command) (work command)
-
-pub case_of : (p : World) (command : Command) (status : Status) → IsCaused (world p) tt tt (Some command) status → CommandCase p command status
-case_of p (explore job) status h = of_cause p job [] (work (explore job)) status h
-case_of p (walk job packet) status h = of_cause p job (a_file FILE_LIMIT packet ∷ []) (work (walk job packet)) status h
+-- of a command that reads a job first
+pub case_of : (p : World) (command : Command) (job : List ℕ) (others : List Input) → inputs command ≡ a_job job ∷ others
+    → (status : Status) → IsCaused (world p) tt tt (Some command) status → FileCase p job others (work command) status
+case_of p command job others reads status h =
+    of_cause p job others (work command) status (subst (λ is. Cause (world p) tt tt is (work command) status) reads h)
 
 -- ---- what is told
 
@@ -238,16 +233,16 @@ module _ (p : World) (name : List ℕ) (rest : List Input) (w : OwnWork) (status
 
 -- ---- of a job that is explored
 
-module _ (p : World) (name : List ℕ) (status : Status) where
+module _ (p : World) (name : List ℕ) (hops limit : ℕ) (pruned : Pruned) (status : Status) where
   abbrev pub Explored : JobTree → Type 0
-  Explored j = JobCase p name [] (work (explore name)) j status
+  Explored j = JobCase p name [] (work (explore name hops limit pruned)) j status
 
   reported : (net : Network) (i : Entry) (asks : List AskTree) (given : List Given) (outcome : Outcome) → given ≡ []
-      → (work (explore name)).comes (a_net net i asks ∷ given) outcome → ReportsOf HOPS LIMIT net i outcome
-  reported net i asks given outcome none h = subst (λ gs. (work (explore name)).comes (a_net net i asks ∷ gs) outcome) none h
+      → (work (explore name hops limit pruned)).comes (a_net net i asks ∷ given) outcome → ReportsOf hops limit (sides_of pruned) net i outcome
+  reported net i asks given outcome none h = subst (λ gs. (work (explore name hops limit pruned)).comes (a_net net i asks ∷ gs) outcome) none h
 
   -- each outcome is a text
-  written : (net : Network) (i : Entry) (outcome : Outcome) → status ≡ outcome_status outcome → ReportsOf HOPS LIMIT net i outcome → IsWritten status
+  written : (net : Network) (i : Entry) (outcome : Outcome) → status ≡ outcome_status outcome → ReportsOf hops limit (sides_of pruned) net i outcome → IsWritten status
   written net i (text ending.Done whole) is h = inl is
   written net i (text ending.Partial whole) is h = inr is
   written net i (refused fault) is h = absurd h

@@ -7,7 +7,7 @@ use Rattle.run_answers.specs.declared.fault.InputFault.{InputFault}
 use Rattle.run_answers.specs.declared.fault.InputFault.TheVariants as input
 use Rattle.run_answers.specs.declared.fault.OwnFault.TheVariants as own
 use Rattle.run_answers.specs.declared.ending.Ending.TheVariants as ending
-use Rattle.symnet_program.specs.Words.{Command}
+use Rattle.command_words.specs.Commands.{Command}
 use Rattle.symnet_program.specs.Commands.{inputs, work}
 use Rattle.symnet_program.specs.declared.status.Status.{Status}
 use Rattle.symnet_program.specs.declared.status.Status.TheVariants.{Done, NoMemory, Usage, NoFile, ReadFault, WriteFault, TooBig, Syntax, BadPattern, Refused, BadTable, BadPacket, Partial, TooMany, BadReport, NotConfirmed, BadAsk, NotBuilt, BadCompare}
@@ -52,10 +52,10 @@ module _ {S : Type 0} (o : Outside S) (u v : S) (is : List Input) (w : OwnWork) 
   Writes NoMemory part = (part ≡ []) ⊎ ((given : List Given) × AllOpen o u is given v × w.left given part)
   Writes _ part = part ≡ []
 
--- the same of what the words say; without a reading nothing is read, asked or written
+-- the same of what the words say; without a reading nothing is read, asked or written, and memory may end while they are read
 module _ {S : Type 0} (o : Outside S) (u v : S) where
   abbrev pub IsCaused : Option Command → Status → Type 0
-  IsCaused None status = (status ≡ Usage) × (v ≡ u)
+  IsCaused None status = ((status ≡ Usage) ⊎ (status ≡ NoMemory)) × (v ≡ u)
   IsCaused (Some c) status = Cause o u v (inputs c) (work c) status
 
   abbrev pub MayWrite : Option Command → Status → List ℕ → Type 0
