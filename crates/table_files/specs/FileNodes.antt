@@ -49,3 +49,7 @@ file_fault NoMemory = OutOfMemory
 -- the bytes of a table have one node in a style
 abbrev pub FilesHaveOneNode : Type 0
 FilesHaveOneNode = (kind : TableKind) (bytes : List ℕ) (style : Style) (a b : NodeTree) → IsNodeOf kind bytes style a → IsNodeOf kind bytes style b → a ≡ b
+
+-- and no line of them breaks a rule
+abbrev pub NodesHaveNoBadLine : Type 0
+NodesHaveNoBadLine = (kind : TableKind) (bytes : List ℕ) (style : Style) (node : NodeTree) → IsNodeOf kind bytes style node → bad_line kind bytes ≡ None

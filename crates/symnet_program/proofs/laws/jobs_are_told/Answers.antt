@@ -16,16 +16,22 @@ returns-clause-flawed c command w status bytes flaw caused is short has =
     flawed_in w (job_name command) (others_of command) (work command) status bytes is flaw short has (case_of w command status caused)
 
 pub returns-clause-tables : goal.returns-clause-tables
-returns-clause-tables c command w status bytes j caused is short spells tables =
-    tables_in w (job_name command) (others_of command) (work command) status j tables
+returns-clause-tables c command w status bytes j fault caused is short spells fails settled =
+    tables_in w (job_name command) (others_of command) (work command) status
+    (record { full = c.jobs_are_filled_once.ensures.full w; excludes = c.jobs_are_filled_once.ensures.excludes w; first = c.jobs_are_filled_once.ensures.first w })
+    j fault fails settled
     (job_in w (job_name command) (others_of command) (work command) status bytes is j short spells (case_of w command status caused))
 
 pub returns-clause-refused : goal.returns-clause-refused
-returns-clause-refused c command w status bytes j site rule caused is short spells filled breaks =
-    refused_in w (job_name command) (others_of command) (work command) status j site rule filled breaks
+returns-clause-refused c command w status bytes j full site rule caused is short spells filled breaks =
+    refused_in w (job_name command) (others_of command) (work command) status
+    (record { full = c.jobs_are_filled_once.ensures.full w; excludes = c.jobs_are_filled_once.ensures.excludes w; first = c.jobs_are_filled_once.ensures.first w })
+    j full filled site rule breaks
     (job_in w (job_name command) (others_of command) (work command) status bytes is j short spells (case_of w command status caused))
 
 pub returns-clause-bad : goal.returns-clause-bad
-returns-clause-bad c command w status bytes j site caused is short spells filled sound is_bad tells first =
-    bad_in w (job_name command) (others_of command) (work command) status j site is_bad filled sound tells first
+returns-clause-bad c command w status bytes j full site caused is short spells filled sound is_bad tells first =
+    bad_in w (job_name command) (others_of command) (work command) status
+    (record { full = c.jobs_are_filled_once.ensures.full w; excludes = c.jobs_are_filled_once.ensures.excludes w; first = c.jobs_are_filled_once.ensures.first w })
+    j full filled site is_bad sound tells first
     (job_in w (job_name command) (others_of command) (work command) status bytes is j short spells (case_of w command status caused))
