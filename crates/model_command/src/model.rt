@@ -1,6 +1,7 @@
 //! The command `model` of a table's file.
 
-ghost use Rattle.std.specs.Prelude.{◌≡◌, IfOk, IfErr, string_bytes};
+ghost use Rattle.std.specs.Prelude.{◌≡◌, true, IfOk, IfErr, string_bytes};
+ghost use Rattle.sefl_syntax.specs.Name.{is_name};
 ghost use Rattle.sefl_syntax.specs.NetText.{node_text};
 ghost use Rattle.sefl_syntax.specs.NetWords.{kind_text};
 ghost use Rattle.sefl_syntax.specs.Trees.{NodeTree};
@@ -23,18 +24,25 @@ pub struct TableModel<'a> {
     pub style: Style,
 }
 
-/// The name of the node that is printed.
-fn node_name(alloc: Global, kind: TableKind) -> Result<Name, NoMemory>
-    ensures { IfOk result (λ name. name ≡ kind_text kind) }
+/// The name that the text is.
+fn name_of(alloc: Global, text: &str) -> Result<Name, NoMemory>
+    requires { is_name text.now ≡ true }
+    ensures { IfOk result (λ name. name ≡ text.now) }
 {
-    let text = match kind {
-        TableKind::Mac => "mac",
-        TableKind::Fib => "fib",
-    };
     let Some(name) = Name::of(alloc, text)? else {
         unreachable!();
     };
     Ok(name)
+}
+
+/// The name of the node that is printed.
+fn node_name(alloc: Global, kind: TableKind) -> Result<Name, NoMemory>
+    ensures { IfOk result (λ name. name ≡ kind_text kind) }
+{
+    match kind {
+        TableKind::Mac => name_of(alloc, "mac"),
+        TableKind::Fib => name_of(alloc, "fib"),
+    }
 }
 
 /// The text of the node of a table's bytes.
