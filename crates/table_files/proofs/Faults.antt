@@ -1,16 +1,14 @@
 -- The first bad line of a table's bytes, by the answer of their reader.
 use Rattle.std.proofs.Common.{◌≡◌, ◌∙◌, refl, sym, ap, subst, ℕ, List, Option, None, Some, Result, Ok, Err}
-use Rattle.sefl_syntax.specs.declared.net.Style.{Style}
 use Rattle.sefl_syntax.specs.declared.net.TableKind.{TableKind}
 use Rattle.sefl_syntax.specs.declared.net.TableKind.TheVariants.{Mac, Fib}
 use Rattle.table_lines.specs.declared.fault.TableFault.{TableFault}
 use Rattle.table_lines.specs.declared.fault.TableFault.TheVariants.{BadLine, Conflict, Limit, NoMemory}
 use Rattle.table_lines.specs.Reading.{Answers}
 use Rattle.table_lines.specs.Tables.{TableSeen, table_of}
-use Rattle.mac_model.specs.MacTables.{MacSeen, mac_of, mac_seen}
-use Rattle.fib_model.specs.Fibs.{FibSeen, fib_of, fib_seen}
-use Rattle.sefl_syntax.specs.Trees.{NodeTree}
-use Rattle.table_files.specs.FileNodes.{IsFileFault, IsNodeOf, NodesHaveNoBadLine, bad_line, file_fault, line_in, line_of}
+use Rattle.mac_model.specs.MacTables.{mac_of, mac_seen}
+use Rattle.fib_model.specs.Fibs.{fib_of, fib_seen}
+use Rattle.table_files.specs.FileNodes.{IsFileFault, NodesHaveNoBadLine, bad_line, file_fault, line_in, line_of}
 
 -- the bad line of an answer, whatever a table is seen as
 abbrev line_or : {A : Type 0} → Result A TableFault → Option (ℕ × ℕ)

@@ -1,5 +1,5 @@
 -- The bytes of a table have one node in a style.
-use Rattle.std.proofs.Common.{◌≡◌, ◌∙◌, refl, sym, ap, subst, ℕ, suc, ◌+◌, ◌-◌, ◌*◌, ◌^◌, ◌≤◌, ◌<◌, ◌&&◌, ◌||◌, inl, inr, Bool, nat_le, List, [], ◌∷◌, length, map, Option, Result, Ok, Err, arith}
+use Rattle.std.proofs.Common.{◌≡◌, ◌∙◌, refl, sym, ap, subst, ℕ, suc, ◌≤◌, ◌<◌, ◌&&◌, ◌||◌, inl, inr, Bool, nat_le, List, [], ◌∷◌, length, map, Option, Result, Ok, Err, arith}
 use Rattle.std.specs.List.{AllByRecursion}
 use Rattle.sn_ranges.specs.Laws.{OneListForEachSet}
 use Rattle.sn_ranges.specs.Ranges.{is_member, in_range}
@@ -19,7 +19,7 @@ use Rattle.mac_model.specs.Nodes.{IsMacNode, address_key, mac_port, whole}
 use Rattle.fib_model.specs.Prefixes.{fib_port}
 use Rattle.fib_model.specs.Fibs.{FibSeen, fib_of, fib_seen, triple}
 use Rattle.fib_model.specs.Nodes.{IsFibNode, chain_key}
-use Rattle.table_files.specs.FileNodes.{FilesHaveOneNode, IsNodeOf}
+use Rattle.table_files.specs.FileNodes.{FilesHaveOneNode}
 use Rattle.table_files.proofs.Ordered.{Has, ordered_once}
 
 -- ---- rows
@@ -112,15 +112,12 @@ or_else default (Err fault) = default
 ok_same : {A : Type 0} (a b : A) (r : Result A TableFault) → r ≡ Ok a → r ≡ Ok b → a ≡ b
 ok_same a b r h k = ap (or_else a) (sym h ∙ k)
 
-no_ok : {A C : Type 0} (fault : TableFault) (x : A) → Err fault ≡ Ok x → C
-no_ok fault x is = absurd (is_err fault x is)
-  where
-    abbrev IsErr : {A : Type 0} → Result A TableFault → Type 0
-    IsErr (Ok x) = ⊥
-    IsErr (Err fault) = Unit {0}
+abbrev IsErr : {A : Type 0} → Result A TableFault → Type 0
+IsErr (Ok x) = ⊥
+IsErr (Err fault) = Unit {0}
 
-    is_err : {A : Type 0} (fault : TableFault) (x : A) → Err fault ≡ Ok x → ⊥
-    is_err fault x is = subst IsErr is tt
+no_ok : {A C : Type 0} (fault : TableFault) (x : A) → Err fault ≡ Ok x → C
+no_ok fault x is = absurd (subst IsErr is tt)
 
 module _ (one_list : OneListForEachSet) (tables : FilesHaveTables) where
   of_mac : (bytes : List ℕ) (style : Style) (a b : NodeTree) (mac : MacSeen) → mac_of bytes ≡ Ok mac → IsMacNode mac style a → IsMacNode mac style b → a ≡ b

@@ -1,13 +1,13 @@
 -- Of the same members, no two of which have one key, there is one list in order of keys.
-use Rattle.std.proofs.Common.{◌≡◌, ◌∙◌, refl, sym, ap, subst, ℕ, suc, ◌+◌, ◌≤◌, ◌<◌, ◌⊎◌, inl, inr, Bool, true, false, if◌then◌else◌, List, [], ◌∷◌, IsPermutation, arith}
+use Rattle.std.proofs.Common.{◌≡◌, ◌∙◌, refl, sym, ap, subst, ℕ, suc, ◌≤◌, ◌<◌, ◌⊎◌, inl, inr, true, false, if◌then◌else◌, List, [], ◌∷◌, IsPermutation, arith}
 use Rattle.std.specs.Prelude.{nat_eq}
 use Rattle.std.specs.List.{AllByRecursion, sum_by}
 use Rattle.std.specs.List.Sorted.{IsNonDecreasingBy}
 use Rattle.std.proofs.lemmas.Bool.{cases_order}
 use Rattle.std.proofs.lemmas.List.Elements.{All-from_recursion, recursion_from_All}
-use Rattle.std.proofs.lemmas.List.Sorted.{All-permutation, IsPermutation-sym, sum_by-IsPermutation}
+use Rattle.std.proofs.lemmas.List.Sorted.{All-permutation, sum_by-IsPermutation}
 use Rattle.std.proofs.lemmas.List.Sums.{sum_by-cons}
-use Rattle.std.proofs.Common.{nat_tests}
+use Rattle.std.proofs.lemmas.Bool.Decides.{nat_tests}
 
 -- ---- members
 
@@ -42,10 +42,10 @@ module _ {X : Type 0} (key : X → ℕ) where
   count k xs = sum_by (one_at k) xs
 
   one : (x : X) → one_at (key x) x ≡ 1
-  one x = ap (λ b. if b then 1 else 0) (grind (arith, nat_tests))
+  one x = let e : nat_eq (key x) (key x) ≡ true = grind (arith, nat_tests) in ap (λ b. if b then 1 else 0) e
 
   none : (k : ℕ) (x : X) → k < key x → one_at k x ≡ 0
-  none k x less = ap (λ b. if b then 1 else 0) (grind (arith, nat_tests, less))
+  none k x less = let e : nat_eq (key x) k ≡ false = grind (arith, nat_tests, less) in ap (λ b. if b then 1 else 0) e
 
   counted : (x : X) (xs : List X) → 1 ≤ count (key x) (x ∷ xs)
   counted x xs = let c = sum_by-cons (one_at (key x)) x xs in let o = one x in omega (arith, c, o)
