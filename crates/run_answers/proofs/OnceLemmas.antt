@@ -1,5 +1,5 @@
 -- In a world, inputs come to one thing.
-use Rattle.std.proofs.Common.{◌≡◌, ◌⊎◌, inl, inr, ◌∙◌, ap, sym, subst, refl, List, [], ◌∷◌, ◌<◌, ℕ, length, Option, Some, None, arith}
+use Rattle.std.proofs.Common.{◌≡◌, inl, inr, ◌∙◌, ap, sym, subst, refl, List, [], ◌∷◌, ◌<◌, ℕ, length, Option, Some, None, arith}
 use Rattle.std.proofs.lemmas.Option.{none-some, same_Some}
 use Rattle.std.specs.Prelude.{IsSomeAnd, Bool}
 use Rattle.std.specs.Option.{ForSome}
@@ -9,7 +9,6 @@ use Rattle.sefl_syntax.specs.declared.net.TableKind.{TableKind}
 use Rattle.sefl_syntax.specs.Trees.{NodeTree, BodyTree, code, table, DeclTree, JobTree}
 use Rattle.table_files.specs.FileNodes.{FilesHaveOneNode, IsNodeOf, NodesHaveNoBadLine}
 use Rattle.sefl_reader.specs.Outcome.{Outcome, a_job}
-use Rattle.job_items.specs.Rules.{refusal}
 use Rattle.job_items.specs.declared.rule.Rule.{Rule}
 use Rattle.net_tables.specs.Places.{node_position}
 use Rattle.net_check.specs.Network.{Network, Entry}
@@ -18,7 +17,7 @@ use Rattle.run_answers.specs.Files.{Files, HasFile, LoadFails}
 use Rattle.run_answers.specs.Flaws.{Flaw, syntax}
 use Rattle.run_answers.specs.Refusals.{fault_by_number, fault_by_rule, rule_number}
 use Rattle.run_answers.specs.Tables.{AllFilled, CodeFails, FirstUnfilled, IsCodeOf, IsFilled, TableFails}
-use Rattle.run_answers.specs.Jobs.{AcceptFails, HasFilled, HasJob, IsOnlyFlaw, IsOnlyJob, IsRefusedAt, JobFails, ListsFound, ReadFails, first_bad}
+use Rattle.run_answers.specs.Jobs.{AcceptFails, HasFilled, HasJob, IsOnlyFlaw, IsOnlyJob, IsRefusedAt, JobFails, ReadFails, first_bad}
 use Rattle.run_answers.specs.Outside.{World, world}
 use Rattle.run_answers.specs.Inputs.{Input, Given, a_job as of_job, a_file, a_net, some_bytes, AllOpen, FirstFails, Opens, Fails, IsSettled}
 use Rattle.run_answers.specs.declared.limits.TheConstants.{FILE_LIMIT}

@@ -1,6 +1,5 @@
 -- The tables that a job names, and the job in which each has its node's code.
 use Rattle.std.specs.Prelude.{ℕ, ◌≡◌, ◌⊎◌, List, [], ◌∷◌, Some}
-use Rattle.sefl_syntax.specs.declared.net.Style.{Style}
 use Rattle.sefl_syntax.specs.declared.net.TableKind.{TableKind}
 use Rattle.sefl_syntax.specs.Trees.{NodeTree, BodyTree, code, table, DeclTree, JobTree}
 use Rattle.table_files.specs.FileNodes.{IsNodeOf, bad_line}
