@@ -1,9 +1,10 @@
 -- Jobs whose tables are given code, one after another.
-use Rattle.std.proofs.Common.{◌≡◌, ◌∙◌, refl, sym, ap, subst, ℕ, zero, suc, ◌+◌, ◌&&◌, inl, inr, Bool, true, false, true≢false, List, [], ◌∷◌, length, map, take, Some, add-one}
-use Rattle.std.specs.Prelude.{slice_get}
+use Rattle.std.proofs.Common.{◌≡◌, ◌∙◌, refl, sym, ap, subst, ℕ, zero, suc, ◌+◌, ◌<◌, ◌≤◌, ◌&&◌, inl, inr, Bool, true, false, true≢false, List, [], ◌∷◌, length, map, take, Some, add-one, slice_index_or, arith}
+use Rattle.std.specs.Prelude.{not, slice_get}
+use Rattle.std.proofs.lemmas.List.{take_all}
 use Rattle.std.proofs.lemmas.Option.{none-some, same_Some}
 use Rattle.sefl_syntax.specs.declared.net.NodeDecl.{NodeDecl}
-use Rattle.sefl_syntax.specs.Filled.{all_code, is_code, is_table_in, nodes_with_code}
+use Rattle.sefl_syntax.specs.Filled.{all_code, is_code, is_table_in, nodes_with_code, with_code}
 use Rattle.sefl_syntax.specs.Trees.{NodeTree, BodyTree, code, table, DeclTree, JobTree}
 use Rattle.sefl_syntax.specs.Views.{decl_tree}
 use Rattle.run_answers.specs.Files.{Files}
@@ -12,20 +13,15 @@ use Rattle.run_answers.specs.declared.fault.InputFault.{InputFault}
 
 -- ---- the node at an index
 
-pub decl_at : (i : ℕ) (xs : List NodeDecl) (x : NodeDecl) → slice_get xs i ≡ Some x → slice_get (map decl_tree xs) i ≡ Some (decl_tree x)
-decl_at zero [] x is = absurd (none-some x is)
-decl_at (suc i) [] x is = absurd (none-some x is)
-decl_at zero (y ∷ ys) x is = ap (λ (z : NodeDecl). Some (decl_tree z)) (same_Some y x is)
-decl_at (suc i) (y ∷ ys) x is = decl_at i ys x is
+pub decl_at : (i : ℕ) (xs : List NodeDecl) (x : NodeDecl) → i < length xs → x ≡ slice_index_or xs i x → slice_get (map decl_tree xs) i ≡ Some (decl_tree x)
+decl_at i [] x less is = absurd (omega (arith, less))
+decl_at zero (y ∷ ys) x less is = ap (λ (z : NodeDecl). Some (decl_tree z)) (sym is)
+decl_at (suc i) (y ∷ ys) x less is = decl_at i ys x (omega (arith, less)) is
 
 pub table_at : (i : ℕ) (ds : List DeclTree) (d : DeclTree) → slice_get ds i ≡ Some d → is_code d.body ≡ false → is_table_in i ds ≡ true
 table_at zero [] d is h = absurd (none-some d is)
 table_at (suc i) [] d is h = absurd (none-some d is)
-table_at zero (x ∷ ds) d is h = ap (λ b. not_so b) (ap (λ (y : DeclTree). is_code y.body) (same_Some x d is) ∙ h)
-  where
-    abbrev not_so : Bool → Bool
-    not_so true = false
-    not_so false = true
+table_at zero (x ∷ ds) d is h = ap not (ap (λ (y : DeclTree). is_code y.body) (same_Some x d is) ∙ h)
 table_at (suc i) (x ∷ ds) d is h = table_at i ds d is h
 
 pub as_many : (i : ℕ) (node : NodeTree) (ds : List DeclTree) → length (nodes_with_code i node ds) ≡ length ds
@@ -104,3 +100,40 @@ module _ (files : Files) where
           → FirstUnfilled files (x ∷ ds) fault
       by (code own) same all rest = inr (own, subst (λ b. IsCodeOf files b own) (sym same) refl, rest all)
       by (table kind name style) same all rest = absurd (true≢false (sym all))
+
+  -- ---- a step: from the job to one in which the node at the index has code, as have those before it
+
+  pub record Steps (i : ℕ) (j next : JobTree) : Type 0 where
+    pub many : length next.net.nodes ≡ length j.net.nodes
+    pub have : all_code (take i j.net.nodes) ≡ true → all_code (take (i + 1) next.net.nodes) ≡ true
+    pub fills : (full : JobTree) → IsFilled files next full → IsFilled files j full
+    pub fails : (fault : InputFault) → FirstUnfilled files next.net.nodes fault → FirstUnfilled files j.net.nodes fault
+
+  pub given_code : (i : ℕ) (node : NodeTree) (j : JobTree) (d : DeclTree) → slice_get j.net.nodes i ≡ Some d → IsCodeOf files d.body node → Steps i j (with_code i node j)
+  given_code i node j d is has = record {
+    many = as_many i node j.net.nodes;
+    have = code_filled i node j.net.nodes d is;
+    fills = λ full f. record {
+      nodes = filled_on i node j.net.nodes full.net.nodes d is has f.nodes;
+      links = f.links;
+      injection = f.injection;
+      asks = f.asks;
+    };
+    fails = λ fault. unfilled_on i node j.net.nodes fault d is has;
+  }
+
+  pub had_code : (i : ℕ) (j : JobTree) (d : DeclTree) → slice_get j.net.nodes i ≡ Some d → is_code d.body ≡ true → Steps i j j
+  had_code i j d is own = record {
+    many = refl;
+    have = code_so_far i j.net.nodes d is own;
+    fills = λ full f. f;
+    fails = λ fault f. f;
+  }
+
+  pub all_filled : (i : ℕ) (j : JobTree) → length j.net.nodes ≤ i → all_code (take i j.net.nodes) ≡ true → IsFilled files j j
+  all_filled i j less all = record {
+    nodes = own_filled j.net.nodes (subst (λ ds. all_code ds ≡ true) (take_all i j.net.nodes less) all);
+    links = refl;
+    injection = refl;
+    asks = refl;
+  }
