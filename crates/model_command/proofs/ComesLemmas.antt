@@ -21,4 +21,4 @@ module _ (kind : TableKind) (style : Style) (name bytes : List ℕ) where
 
   pub model_comes : (whole : List ℕ) → (node : NodeTree) × IsNodeOf kind bytes style node × (whole ≡ node_text (kind_text kind) node)
       → ModelComes kind style name (some_bytes bytes ∷ []) (text Done whole)
-  model_comes whole h = (refl, h)
+  model_comes whole (node, is, same) = (refl, node, is, same)
