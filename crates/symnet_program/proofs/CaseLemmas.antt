@@ -12,7 +12,7 @@ use Rattle.net_check.specs.Sound.{IsSound}
 use Rattle.run_answers.specs.Files.{HasFile, LoadFails}
 use Rattle.run_answers.specs.Flaws.{Flaw, HasFlaw, flaw_of}
 use Rattle.run_answers.specs.Refusals.{fault_by_number, fault_by_rule}
-use Rattle.run_answers.specs.Jobs.{AcceptFails, HasFilled, HasJob, IsOnlyFlaw, IsOnlyJob, IsRefusedAt, IsTextOf, ReadFails, first_bad}
+use Rattle.run_answers.specs.Jobs.{AcceptFails, HasJob, IsOnlyFlaw, IsOnlyJob, IsRefusedAt, IsTextOf, ReadFails, first_bad}
 use Rattle.run_answers.specs.Outside.{World, world}
 use Rattle.run_answers.specs.Inputs.{Input, Given, a_job, a_net, AllOpen, FirstFails, IsSettled, Opens, Fails}
 use Rattle.run_answers.specs.Runs.{OwnWork, Outcome, text, refused}

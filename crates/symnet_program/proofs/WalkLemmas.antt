@@ -47,8 +47,10 @@ module _ (job packet : List ℕ) (hops limit : ℕ) (p : World) (status : Status
       absurd (sound_or_refused own site kind (subst IsSound (sym (filled_once.full is.job own is.tree filled is.filled)) is.sound) breaks)
   good_or (inl (has_bad own site filled refuses told)) = inr (inr (site, told))
   good_or (inl (is_taken own net' o has filled taken behind)) =
-      inl ((is.job, has, is.filled),
-      subst (λ (t : JobTree). ForSome p.is_bad (λ b. first_bad b t ≡ None)) (filled_once.full is.job own is.tree filled is.filled) taken.4)
+      inl (
+        (is.job, has, is.filled),
+        subst (λ (t : JobTree). ForSome p.is_bad (λ b. first_bad b t ≡ None)) (filled_once.full is.job own is.tree filled is.filled) taken.4,
+      )
 
   good : IsGood ⊎ MayBeBad status
   good =
