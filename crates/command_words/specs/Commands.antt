@@ -9,8 +9,12 @@ use Rattle.command_words.specs.declared.command.Command.{Command as CommandOf}
 use Rattle.command_words.specs.declared.command.Command.TheVariants as given
 use Rattle.command_words.specs.declared.command.Pruned.{Pruned}
 use Rattle.command_words.specs.declared.command.Pruned.TheVariants.{All, Count}
+use Rattle.command_words.specs.declared.command.Style.{Style}
+use Rattle.command_words.specs.declared.command.Style.TheVariants.{Chain, Grouped, Egress}
+use Rattle.command_words.specs.declared.command.Table.{Table}
+use Rattle.command_words.specs.declared.command.Table.TheVariants.{Mac, Fib}
 use Rattle.command_words.specs.declared.command.Verb.{Verb}
-use Rattle.command_words.specs.declared.command.Verb.TheVariants.{Explore, Walk}
+use Rattle.command_words.specs.declared.command.Verb.TheVariants.{Explore, Walk, Replay, Model}
 
 -- a command, with the names of the files that it reads, and what its options give
 pub data Command : Type 0 where
@@ -18,10 +22,16 @@ pub data Command : Type 0 where
   explore : Text → ℕ → ℕ → Pruned → Command
   -- the job and the packet; hops and limit
   walk : Text → Text → ℕ → ℕ → Command
+  -- the job and the report
+  replay : Text → Text → Command
+  -- a table's file; and the style of its node
+  model : Table → Text → Style → Command
 
 abbrev pub command_of : CommandOf → Command
 command_of (given.Explore job hops limit pruned) = explore job.now hops limit pruned
 command_of (given.Walk job packet hops limit) = walk job.now packet.now hops limit
+command_of (given.Replay job report) = replay job.now report.now
+command_of (given.Model table file style) = model table file.now style
 
 -- numbers of options are in their ranges
 abbrev pub AreInRange : ℕ → ℕ → Type 0
@@ -30,23 +40,38 @@ AreInRange hops limit = (1 ≤ hops) × (hops ≤ MOST_HOPS) × (1 ≤ limit) ×
 abbrev pub HasRanges : Command → Type 0
 HasRanges (explore job hops limit pruned) = AreInRange hops limit
 HasRanges (walk job packet hops limit) = AreInRange hops limit
+HasRanges (replay job report) = Unit {0}
+HasRanges (model table file style) = Unit {0}
 
 -- what the words behind a command's name may be
 abbrev pub form_of_verb : Verb → Form
 form_of_verb Explore = record { positionals = codes "JOB" ∷ []; options = codes "hops" ∷ codes "limit" ∷ codes "pruned" ∷ [] }
 form_of_verb Walk = record { positionals = codes "JOB" ∷ codes "PACKET" ∷ []; options = codes "hops" ∷ codes "limit" ∷ [] }
+form_of_verb Replay = record { positionals = codes "JOB" ∷ codes "REPORT" ∷ []; options = [] }
+form_of_verb (Model table) = record { positionals = codes "FILE" ∷ []; options = codes "style" ∷ [] }
 
 -- the command of a name
 abbrev pub verb_of : Text → Option Verb
 verb_of word =
     if bytes_eq word (codes "explore") then Some Explore
     else if bytes_eq word (codes "walk") then Some Walk
+    else if bytes_eq word (codes "replay") then Some Replay
+    else None
+
+-- the command of the name behind `model`
+abbrev pub model_of : Text → Option Verb
+model_of word =
+    if bytes_eq word (codes "mac") then Some (Model Mac)
+    else if bytes_eq word (codes "fib") then Some (Model Fib)
     else None
 
 -- the command that the first words name, and the words behind its name
 abbrev pub named : List Text → Option (Verb × List Text)
 named [] = None
-named (word ∷ rest) = option_map (λ verb. (verb, rest)) (verb_of word)
+named (word ∷ []) = option_map (λ verb. (verb, [])) (verb_of word)
+named (word ∷ kind ∷ rest) =
+    if bytes_eq word (codes "model") then option_map (λ verb. (verb, rest)) (model_of kind)
+    else option_map (λ verb. (verb, kind ∷ rest)) (verb_of word)
 
 abbrev pub pruned_of : Text → Option Pruned
 pruned_of word =
@@ -57,6 +82,17 @@ pruned_of word =
 abbrev pub pruned_or_all : Option Text → Option Pruned
 pruned_or_all None = Some All
 pruned_or_all (Some word) = pruned_of word
+
+abbrev pub style_of : Text → Option Style
+style_of word =
+    if bytes_eq word (codes "chain") then Some Chain
+    else if bytes_eq word (codes "grouped") then Some Grouped
+    else if bytes_eq word (codes "egress") then Some Egress
+    else None
+
+abbrev pub style_or_grouped : Option Text → Option Style
+style_or_grouped None = Some Grouped
+style_or_grouped (Some word) = style_of word
 
 -- of values by their names
 module _ (value : Text → Option Text) where
@@ -78,10 +114,21 @@ module _ (value : Text → Option Text) where
   abbrev pub walk_from : Option Command
   walk_from = option_and_then (λ job. option_and_then (λ packet. with_bounds (λ hops limit. Some (walk job packet hops limit))) (value (codes "PACKET"))) (value (codes "JOB"))
 
+  abbrev pub style_in : Option Style
+  style_in = style_or_grouped (value (codes "style"))
+
+  abbrev pub replay_from : Option Command
+  replay_from = option_and_then (λ job. option_map (replay job) (value (codes "REPORT"))) (value (codes "JOB"))
+
+  abbrev pub model_from : Table → Option Command
+  model_from table = option_and_then (λ file. option_map (model table file) style_in) (value (codes "FILE"))
+
 -- the command with these values
 abbrev pub command_from : Verb → (Text → Option Text) → Option Command
 command_from Explore = explore_from
 command_from Walk = walk_from
+command_from Replay = replay_from
+command_from (Model table) = λ value. model_from value table
 
 -- the reading of the words: the first name the command, and those behind have a reading in its form, with numbers in their ranges
 abbrev pub read_command : List Text → Option Command

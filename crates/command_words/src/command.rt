@@ -2,7 +2,7 @@
 
 ghost use Rattle.std.specs.Prelude.{◌≡◌, ◌≤◌, IfOk, IfSome, Some, option_map, codes, map, string_bytes};
 ghost use Rattle.clap.specs.Words.{first_value, found_of};
-ghost use Rattle.command_words.specs.Commands.{Command as CommandOf, HasRanges, command_from, command_of, form_of_verb, hops_in, limit_in, named, pruned_in, pruned_of, reading, verb_of};
+ghost use Rattle.command_words.specs.Commands.{Command as CommandOf, HasRanges, command_from, command_of, form_of_verb, hops_in, limit_in, model_of, named, pruned_in, pruned_of, reading, style_in, style_of, verb_of};
 ghost use Rattle.command_words.specs.Shapes.{form_of, named_of};
 
 use crate::form::Form;
@@ -30,6 +30,21 @@ pub enum Pruned {
     Count,
 }
 
+/// Whose addresses a table's file has: of switches or of routers.
+#[derive(Clone, Copy)]
+pub enum Table {
+    Mac,
+    Fib,
+}
+
+/// How the code of a table's node tests addresses.
+#[derive(Clone, Copy)]
+pub enum Style {
+    Chain,
+    Grouped,
+    Egress,
+}
+
 /// A command, with the names of the files that it reads, and what its options give.
 #[derive(Clone, Copy)]
 pub enum Command<'a> {
@@ -45,6 +60,15 @@ pub enum Command<'a> {
         hops: u32,
         limit: u32,
     },
+    Replay {
+        job: &'a str,
+        report: &'a str,
+    },
+    Model {
+        table: Table,
+        file: &'a str,
+        style: Style,
+    },
 }
 
 /// The name of a command.
@@ -52,6 +76,8 @@ pub enum Command<'a> {
 enum Verb {
     Explore,
     Walk,
+    Replay,
+    Model(Table),
 }
 
 impl Verb {
@@ -68,6 +94,14 @@ impl Verb {
                 positionals: &["JOB", "PACKET"],
                 options: &["hops", "limit"],
             },
+            Verb::Replay => Form {
+                positionals: &["JOB", "REPORT"],
+                options: &[],
+            },
+            Verb::Model(_) => Form {
+                positionals: &["FILE"],
+                options: &["style"],
+            },
         }
     }
 }
@@ -79,6 +113,18 @@ fn verb_of(word: &str) -> Option<Verb>
     match word {
         "explore" => Some(Verb::Explore),
         "walk" => Some(Verb::Walk),
+        "replay" => Some(Verb::Replay),
+        _ => None,
+    }
+}
+
+/// The command of the name behind `model`.
+fn model_of(word: &str) -> Option<Verb>
+    ensures { result ≡ model_of word.now }
+{
+    match word {
+        "mac" => Some(Verb::Model(Table::Mac)),
+        "fib" => Some(Verb::Model(Table::Fib)),
         _ => None,
     }
 }
@@ -88,6 +134,7 @@ fn named(words: &[String]) -> Option<(Verb, &[String])>
     ensures { named_of result ≡ named (map (λ w. string_bytes w) words.now) }
 {
     match words {
+        [word, kind, rest @ ..] if word.as_str() == "model" => Some((model_of(kind)?, rest)),
         [word, rest @ ..] => Some((verb_of(word)?, rest)),
         [] => None,
     }
@@ -135,6 +182,27 @@ fn pruned_in(values: &ArgMatches<'_>) -> Option<Pruned>
     }
 }
 
+fn style_of(word: &str) -> Option<Style>
+    ensures { result ≡ style_of word.now }
+{
+    match word {
+        "chain" => Some(Style::Chain),
+        "grouped" => Some(Style::Grouped),
+        "egress" => Some(Style::Egress),
+        _ => None,
+    }
+}
+
+/// The style that is given, or the default.
+fn style_in(values: &ArgMatches<'_>) -> Option<Style>
+    ensures { result ≡ style_in (first_value (found_of values.now)) }
+{
+    match values.get_str("style") {
+        Some(word) => style_of(word),
+        None => Some(Style::Grouped),
+    }
+}
+
 /// The command with these values.
 fn command_from<'a>(verb: Verb, values: &ArgMatches<'a>) -> Option<Command<'a>>
     ensures command { option_map command_of result ≡ command_from verb (first_value (found_of values.now)) }
@@ -164,6 +232,16 @@ fn command_from<'a>(verb: Verb, values: &ArgMatches<'a>) -> Option<Command<'a>>
                 hops,
                 limit,
             })
+        }
+        Verb::Replay => {
+            let job = values.get_str("JOB")?;
+            let report = values.get_str("REPORT")?;
+            Some(Command::Replay { job, report })
+        }
+        Verb::Model(table) => {
+            let file = values.get_str("FILE")?;
+            let style = style_in(values)?;
+            Some(Command::Model { table, file, style })
         }
     }
 }

@@ -7,4 +7,4 @@ mod form;
 mod number;
 mod values;
 
-pub use command::{Command, HOPS, LIMIT, MOST_HOPS, MOST_LIMIT, Pruned, reading};
+pub use command::{Command, HOPS, LIMIT, MOST_HOPS, MOST_LIMIT, Pruned, Style, Table, reading};

@@ -25,7 +25,7 @@ use Rattle.command_words.specs.Commands.{Command, explore}
 use Rattle.command_words.specs.declared.command.Pruned.{Pruned}
 use Rattle.symnet_program.specs.Program.{Cause, Comes, IsAnswered, IsCaused, MayWrite, RefusesInput, Shown, Stops, Writes}
 use Rattle.symnet_program.specs.declared.status.Status.{Status}
-use Rattle.symnet_program.specs.declared.status.Status.TheVariants.{Done, NoMemory, Usage, NoFile, ReadFault, WriteFault, TooBig, Syntax, BadPattern, Refused, BadTable, BadPacket, Partial, TooMany, BadReport, NotConfirmed, BadAsk, NotBuilt, BadCompare}
+use Rattle.symnet_program.specs.declared.status.Status.TheVariants.{Done, NoMemory, Usage, NoFile, ReadFault, WriteFault, TooBig, Syntax, BadPattern, Refused, BadTable, BadPacket, Partial, TooMany, BadReport, NotConfirmed, BadAsk, BadCompare}
 
 gains_nothing : (known now : Option (List ℕ)) → now ≡ known → now ≡ append_known known []
 gains_nothing None now same = same
@@ -42,7 +42,6 @@ module _ {S : Type 0} (o : Outside S) (u v : S) (is : List Input) (w : OwnWork) 
   cause_input (input.BadTable name line kind) h = inl h
   cause_input (input.BadPattern site) h = h
   cause_input (input.Refused site kind) h = h
-  cause_input input.NotBuilt h = h
   cause_input input.NoMemory h = tt
 
   cause_own : (given : List Given) → AllOpen o u is given v → (fault : OwnFault) → IsRefusal (w.comes given) fault → Cause o u v is w (own_status fault)
@@ -72,7 +71,6 @@ module _ {S : Type 0} (o : Outside S) (u v : S) (is : List Input) (w : OwnWork) 
   nothing_input (input.BadTable name line kind) = refl
   nothing_input (input.BadPattern site) = refl
   nothing_input (input.Refused site kind) = refl
-  nothing_input input.NotBuilt = refl
 
   nothing_own : (fault : OwnFault) → Writes o u v is w (own_status fault) []
   nothing_own own.NoMemory = inl refl
@@ -118,7 +116,6 @@ module _ {S : Type 0} (o : Outside S) (u v : S) (is : List Input) (w : OwnWork) 
   complete_of failed missed passed raised broken (BadPacket kind) s f m p b good h = good (BadPacket kind) tt h
   complete_of failed missed passed raised broken (BadReport kind pointer) s f m p b good h = good (BadReport kind pointer) tt h
   complete_of failed missed passed raised broken (BadAsk number kind) s f m p b good h = good (BadAsk number kind) tt h
-  complete_of failed missed passed raised broken NotBuilt s f m p b good h = good NotBuilt tt h
   complete_of failed missed passed raised broken (BadCompare kind one other) s f m p b good h = tt
 
 -- ---- in a world
@@ -148,7 +145,6 @@ module _ {S : Type 0} (o : Outside S) (u v : S) (is : List Input) (w : OwnWork) 
   cause_in (BadReport kind pointer) h = comes (refused (own.BadReport kind pointer)) h
   cause_in (NotConfirmed number kind) h = comes (refused (own.NotConfirmed number kind)) h
   cause_in (BadAsk number kind) h = comes (refused (own.BadAsk number kind)) h
-  cause_in NotBuilt h = first input.NotBuilt h
   cause_in (BadCompare kind one other) h = comes (refused (own.BadCompare kind one other)) h
 
 pub told_of : {S : Type 0} (files : Option (List ℕ → Option (List ℕ))) (matches : S → Option (List ℕ → List ℕ → Bool)) (bad : S → Option (List ℕ → Bool)) (refusals : S → ℕ) (gives : S → List ℕ → List ℕ → Found → S → Type 0) (u v : S) (is : List Input) (w : OwnWork) (p : World)
@@ -195,7 +191,6 @@ module _ (is : List Input) (w : OwnWork) (p : World) (decides : Decides p) (faul
   exact_of (BadReport kind pointer) h = none (refused (own.BadReport kind pointer)) h
   exact_of (NotConfirmed number kind) h = none (refused (own.NotConfirmed number kind)) h
   exact_of (BadAsk number kind) h = none (refused (own.BadAsk number kind)) h
-  exact_of NotBuilt h = one input.NotBuilt tt h
   exact_of (BadCompare kind one other) h = none (refused (own.BadCompare kind one other)) h
 
 -- ---- what a finished exploration tells
@@ -285,7 +280,6 @@ shown_input failed missed passed raised broken (input.BadPattern site) h = h
 shown_input failed missed passed raised broken (input.Syntax line column kind) h = tt
 shown_input failed missed passed raised broken (input.BadTable name line kind) h = tt
 shown_input failed missed passed raised broken (input.Refused site kind) h = tt
-shown_input failed missed passed raised broken input.NotBuilt h = tt
 shown_input failed missed passed raised broken input.NoMemory h = tt
 
 shown_own : (failed missed passed raised broken : Type 0) (fault : OwnFault) → Shown failed missed passed raised broken (own_status fault)

@@ -1,10 +1,11 @@
--- What `walk` tells in a world of a job without tables that breaks no rule.
+-- What `walk` tells in a world of a job that with code for its tables breaks no rule.
 use Rattle.std.proofs.Common.{◌≡◌, ◌⊎◌, inl, inr, refl, sym, ap, subst, ◌∙◌, ℕ, ◌<◌, ◌≤◌, List, [], ◌∷◌, length, None, Some}
-use Rattle.std.proofs.lemmas.Bool.{true≢false}
 use Rattle.std.proofs.lemmas.Option.{same_Some}
 use Rattle.std.specs.Option.{ForSome}
 use Rattle.std.specs.Prelude.{IsSomeAnd}
+use Rattle.sefl_syntax.specs.Trees.{JobTree}
 use Rattle.net_check.specs.Network.{Network, Entry}
+use Rattle.net_check.specs.Sound.{IsSound}
 use Rattle.packet_file.specs.Packet.{packet_of}
 use Rattle.run_answers.specs.Files.{LoadFails}
 use Rattle.run_answers.specs.Jobs.{HasFilled, ListsFound, first_bad}
@@ -22,7 +23,7 @@ use Rattle.symnet_program.specs.Told.{TellsNet}
 use Rattle.command_words.specs.Commands.{walk}
 use Rattle.symnet_program.specs.declared.status.Status.{Status}
 use Rattle.symnet_program.specs.declared.status.Status.TheVariants.{NoMemory, NoFile, ReadFault, WriteFault, TooBig, BadPattern}
-use Rattle.symnet_program.proofs.CaseLemmas.{JobCase, case_of, has_bad, has_tables, breaks_rule, is_taken, job_in, sound_or_refused}
+use Rattle.symnet_program.proofs.CaseLemmas.{FilledOnce, JobCase, case_of, has_bad, is_unfilled, breaks_rule, is_taken, job_in, sound_or_refused}
 use Rattle.symnet_program.proofs.OwnLemmas.{own_told}
 use Rattle.symnet_program.proofs.ProgramLemmas.{Decides, exact_of}
 
@@ -34,21 +35,26 @@ stop_or_bad p (BadPattern site) h = inr (site, refl)
 stop_or_bad p status h = absurd h
 
 module _ (job packet : List ℕ) (hops limit : ℕ) (p : World) (status : Status) (net : Network) (i : Entry)
-    (caused : IsCaused (world p) tt tt (Some (walk job packet hops limit)) status) (is : TellsNet p job net i) where
+    (caused : IsCaused (world p) tt tt (Some (walk job packet hops limit)) status) (is : TellsNet p job net i) (filled_once : FilledOnce p) where
   -- the file has the job, and no pattern is bad; or the status tells why not
   abbrev IsGood : Type 0
   IsGood = HasFilled (Some p.at) job is.tree × ForSome p.is_bad (λ b. first_bad b is.tree ≡ None)
 
-  good_or : JobCase p job (a_file FILE_LIMIT packet ∷ []) (work (walk job packet hops limit)) is.tree status ⊎ IsStopped status → IsGood ⊎ MayBeBad status
+  good_or : JobCase p job (a_file FILE_LIMIT packet ∷ []) (work (walk job packet hops limit)) is.job status ⊎ IsStopped status → IsGood ⊎ MayBeBad status
   good_or (inr h) = inr (inl h)
-  good_or (inl (has_tables tables told)) = absurd (true≢false (sym is.filled ∙ tables))
-  good_or (inl (breaks_rule site kind filled breaks told)) = absurd (sound_or_refused is.tree site kind is.sound breaks)
-  good_or (inl (has_bad site filled refuses told)) = inr (inr (site, told))
-  good_or (inl (is_taken own o has taken behind)) = inl (has, taken.4)
+  good_or (inl (is_unfilled fault settled fails told)) = absurd (filled_once.excludes is.job is.tree fault settled is.filled fails)
+  good_or (inl (breaks_rule own site kind filled breaks told)) =
+      absurd (sound_or_refused own site kind (subst IsSound (sym (filled_once.full is.job own is.tree filled is.filled)) is.sound) breaks)
+  good_or (inl (has_bad own site filled refuses told)) = inr (inr (site, told))
+  good_or (inl (is_taken own net' o has filled taken behind)) =
+      inl (
+        (is.job, has, is.filled),
+        subst (λ (t : JobTree). ForSome p.is_bad (λ b. first_bad b t ≡ None)) (filled_once.full is.job own is.tree filled is.filled) taken.4,
+      )
 
   good : IsGood ⊎ MayBeBad status
   good =
-      good_or (job_in p job (a_file FILE_LIMIT packet ∷ []) (work (walk job packet hops limit)) status is.bytes is.file is.tree is.short is.text
+      good_or (job_in p job (a_file FILE_LIMIT packet ∷ []) (work (walk job packet hops limit)) status is.bytes is.file is.job is.short is.text
       (case_of p (walk job packet hops limit) job (a_file FILE_LIMIT packet ∷ []) refl status caused))
 
   -- what is due of such a job, the run told, unless it was stopped or a pattern is bad

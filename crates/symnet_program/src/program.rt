@@ -6,7 +6,7 @@ ghost use Rattle.run_answers.specs.Inputs.{FirstFails, IsSettled};
 ghost use Rattle.run_answers.specs.Outside.{Tells, World, outside, world};
 ghost use Rattle.run_answers.specs.Runs.{Runs, Shows};
 ghost use Rattle.run_answers.specs.declared.fault.InputFault.{InputFault as InputFaultOf};
-ghost use Rattle.symnet_program.specs.Commands.{inputs, sides_of, work};
+ghost use Rattle.symnet_program.specs.Commands.{inputs, kind_of, sides_of, style_of, work};
 ghost use Rattle.symnet_program.specs.Headline.{TellsJob};
 ghost use Rattle.symnet_program.specs.Program.{Cause, IsAnswered, IsCaused, MayWrite, RefusesInput, Shown};
 ghost use Rattle.symnet_program.specs.Status.{MayStop, input_status};
@@ -17,12 +17,15 @@ ghost use Rattle.symnet_program.specs.declared.status.Status.TheVariants.{Done, 
 
 use crate::status::{Status, status_of};
 use command_runs::{Piece, run};
-use command_words::{Command, Pruned, reading};
+use command_words::{Command, Pruned, Style, Table, reading};
 use explore_command::laws::finished_reports_tell_all;
 use explore_command::{Explore, RecordLimit, RefutedSides};
 use job_files::{Both, ByteFile, JobFile};
+use model_command::TableModel;
+use replay_command::{REPORT_LIMIT, Replay};
 use run_answers::laws::worlds_decide;
 use run_answers::{Ending, FILE_LIMIT, Stop};
+use sefl_syntax::{Style as NodeStyle, TableKind};
 use sn_edge::{Folder, Patterns, Sink};
 use std::alloc::Global;
 use walk_command::Walk;
@@ -33,6 +36,25 @@ fn sides_of(pruned: Pruned) -> RefutedSides
     match pruned {
         Pruned::All => RefutedSides::Written,
         Pruned::Count => RefutedSides::Counted,
+    }
+}
+
+fn kind_of(table: Table) -> TableKind
+    ensures { result ≡ kind_of table }
+{
+    match table {
+        Table::Mac => TableKind::Mac,
+        Table::Fib => TableKind::Fib,
+    }
+}
+
+fn style_of(style: Style) -> NodeStyle
+    ensures { result ≡ style_of style }
+{
+    match style {
+        Style::Chain => NodeStyle::Chain,
+        Style::Grouped => NodeStyle::Grouped,
+        Style::Egress => NodeStyle::Egress,
     }
 }
 
@@ -91,6 +113,27 @@ fn run_command<F: Folder, P: Patterns, K: Sink>(
                 source,
                 hops,
                 limit,
+            });
+            run(alloc, &command, folder, patterns, out)
+        }
+        Command::Replay { job, report } => {
+            let source = Both {
+                first: JobFile { name: job },
+                second: ByteFile {
+                    name: report,
+                    limit: REPORT_LIMIT,
+                },
+            };
+            run(alloc, &Piece(Replay { source }), folder, patterns, out)
+        }
+        Command::Model { table, file, style } => {
+            let command = Piece(TableModel {
+                source: ByteFile {
+                    name: file,
+                    limit: FILE_LIMIT,
+                },
+                kind: kind_of(table),
+                style: style_of(style),
             });
             run(alloc, &command, folder, patterns, out)
         }

@@ -15,16 +15,22 @@ returns-clause-flawed c command job w status bytes flaw (others, reads) caused i
     flawed_in w job others (work command) status bytes is flaw short has (case_of w command job others reads status caused)
 
 pub returns-clause-tables : goal.returns-clause-tables
-returns-clause-tables c command job w status bytes j (others, reads) caused is short spells tables =
-    tables_in w job others (work command) status j tables
+returns-clause-tables c command job w status bytes j fault (others, reads) caused is short spells fails settled =
+    tables_in w job others (work command) status
+    (record { full = c.jobs_are_filled_once.ensures.full w; excludes = c.jobs_are_filled_once.ensures.excludes w; first = c.jobs_are_filled_once.ensures.first w })
+    j fault fails settled
     (job_in w job others (work command) status bytes is j short spells (case_of w command job others reads status caused))
 
 pub returns-clause-refused : goal.returns-clause-refused
-returns-clause-refused c command job w status bytes j site rule (others, reads) caused is short spells filled breaks =
-    refused_in w job others (work command) status j site rule filled breaks
+returns-clause-refused c command job w status bytes j full site rule (others, reads) caused is short spells filled breaks =
+    refused_in w job others (work command) status
+    (record { full = c.jobs_are_filled_once.ensures.full w; excludes = c.jobs_are_filled_once.ensures.excludes w; first = c.jobs_are_filled_once.ensures.first w })
+    j full filled site rule breaks
     (job_in w job others (work command) status bytes is j short spells (case_of w command job others reads status caused))
 
 pub returns-clause-bad : goal.returns-clause-bad
-returns-clause-bad c command job w status bytes j site (others, reads) caused is short spells filled sound is_bad tells first =
-    bad_in w job others (work command) status j site is_bad filled sound tells first
+returns-clause-bad c command job w status bytes j full site (others, reads) caused is short spells filled sound is_bad tells first =
+    bad_in w job others (work command) status
+    (record { full = c.jobs_are_filled_once.ensures.full w; excludes = c.jobs_are_filled_once.ensures.excludes w; first = c.jobs_are_filled_once.ensures.first w })
+    j full filled site is_bad sound tells first
     (job_in w job others (work command) status bytes is j short spells (case_of w command job others reads status caused))
