@@ -7,6 +7,7 @@ use Rattle.exact_records.specs.Records.{HasMeaning, RecordTree, SymStart, path, 
 use Rattle.exact_records.specs.View.{record_trees}
 use Rattle.exact_records.specs.Whole.{WalksHaveOnePath}
 use Rattle.run_answers.specs.declared.ending.Ending.TheVariants.{Done}
+use Rattle.record_lines.specs.declared.lines.RefutedSides.{RefutedSides}
 use Rattle.explore_command.specs.Explores.{IsReport}
 use Rattle.explore_command.specs.Headline.{IsHeadline, IsRefuted}
 
@@ -20,9 +21,9 @@ module _ (start : SymStart) where
   all_refuted [] h = tt
   all_refuted (x ∷ rs) h = (refuted_of x h.0.meaning, all_refuted rs h.1)
 
-pub headline_of : (hops limit : ℕ) (net : Network) (i : Entry) (whole : List ℕ) → WalksHaveOnePath net i hops → IsReport hops limit net i Done whole
-    → IsHeadline net i hops limit whole
-headline_of hops limit net i whole one h =
+pub headline_of : (hops limit : ℕ) (sides : RefutedSides) (net : Network) (i : Entry) (whole : List ℕ) → WalksHaveOnePath net i hops → IsReport hops limit sides net i Done whole
+    → IsHeadline net i hops limit sides whole
+headline_of hops limit sides net i whole one h =
     let exact = h.found.exact in record {
       records = h.records;
       line = h.line;

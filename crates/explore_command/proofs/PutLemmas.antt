@@ -14,7 +14,8 @@ use Rattle.path_exec.specs.Receiving.{Receiving}
 use Rattle.exact_records.specs.Packets.{AreExactUpToFor}
 use Rattle.exact_records.specs.View.{record_tree, record_trees}
 use Rattle.record_text.specs.Reports.{head_text, report_line, tail_text}
-use Rattle.record_lines.specs.Lines.{HasLines, PutAs, StopsInLine, records_text, refuted_count}
+use Rattle.record_lines.specs.Lines.{HasLines, PutAs, StopsInLine, records_text, refuted_count, written_of}
+use Rattle.record_lines.specs.declared.lines.RefutedSides.{RefutedSides}
 use Rattle.symbolic_engine.specs.Exploring.{ExploredFor}
 use Rattle.run_answers.specs.Inputs.{a_net}
 use Rattle.run_answers.specs.Runs.{Performs, WriteShows}
@@ -44,7 +45,7 @@ write_shows broken (Err (Own fault)) h = absurd h
 write_shows broken (Err Write) h = h
 write_shows broken (Err NoMemory) h = tt
 
-module _ (hops limit : ℕ) (net : Network) (i : Entry) where
+module _ (hops limit : ℕ) (sides : RefutedSides) (net : Network) (i : Entry) where
   same_up_to : (items done : List Record) (end' last : Record) → items ++ end' ∷ [] ≡ done ++ last ∷ []
       → AreExactUpToFor net i hops (record_trees items) (record_tree end') → AreExactUpToFor net i hops (record_trees done) (record_tree last)
   same_up_to items done end' last is h =
@@ -53,30 +54,31 @@ module _ (hops limit : ℕ) (net : Network) (i : Entry) where
       (subst (λ rs. AreExactUpToFor net i hops (record_trees rs) (record_tree end')) fronts h)
 
   -- an exploration over lines ended so
-  module _ {E : Type 0} (known now : Option (List ℕ)) (own : Network) (some : Bool) (refuted : ℕ) (m : Receiving Record)
-      (stands : (items : List Record) → m.StandsFor items → HasLines net known now own some refuted items)
-      (stopped : (items : List Record) → m.StoppedIn items → StopsInLine net known now items)
+  module _ {E : Type 0} (known now : Option (List ℕ)) (own : Network) (own_sides : RefutedSides) (some : Bool) (refuted : ℕ) (m : Receiving Record)
+      (stands : (items : List Record) → m.StandsFor items → HasLines net sides known now own own_sides some refuted items)
+      (stopped : (items : List Record) → m.StoppedIn items → StopsInLine net sides known now items)
       (stops before after : ℕ) where
-    pub records_put : (answer : Result Ended E) → ExploredFor net i hops limit stops m before after answer → PutsRecords hops limit net i known now (tail_of answer refuted)
+    pub records_put : (answer : Result Ended E) → ExploredFor net i hops limit stops m before after answer → PutsRecords hops limit sides net i known now (tail_of answer refuted)
     records_put (Ok ended.Whole) h =
         let has = stands h.items h.stands in (
-          records_text net h.items,
+          records_text net (written_of sides h.items),
           record { records = h.items; found = record { exact = h.exact; ends = h.tried }; counted = has.counted; pieces = refl },
           has.taken,
         )
     records_put (Ok ended.Partial) h =
         let has = stands h.items h.stands in (
-          records_text net h.items,
+          records_text net (written_of sides h.items),
           record { records = h.items; found = record { exact = h.exact; ends = h.untried }; counted = has.counted; pieces = refl },
           has.taken,
         )
     records_put (Ok ended.Stopped) h =
         let cut = stopped (h.items ++ h.last ∷ []) h.stopped in (
-          records_text net cut.done ++ cut.part,
+          records_text net (written_of sides cut.done) ++ cut.part,
           record {
             done = cut.done;
             last = cut.last;
             exact = same_up_to h.items cut.done h.last cut.last cut.is h.exact;
+            put = cut.put;
             own = cut.part;
             begins = cut.begins;
             pieces = refl;
@@ -84,23 +86,23 @@ module _ (hops limit : ℕ) (net : Network) (i : Entry) where
           cut.taken,
         )
     records_put (Err e) h =
-        (records_text net h.items, record { records = h.items; exact = h.exact; pieces = refl }, (stands h.items h.stands).taken)
+        (records_text net (written_of sides h.items), record { records = h.items; exact = h.exact; pieces = refl }, (stands h.items h.stands).taken)
 
   -- the tail comes behind all records
   module _ (known mid now : Option (List ℕ)) where
     joined : (first second : List ℕ) → mid ≡ append_known known first → now ≡ append_known mid second → now ≡ append_known known (first ++ second)
     joined first second is gained = gained ∙ (ap (λ k. append_known k second) is ∙ append_known-append known first second)
 
-    pub rest_put : (tail : Tail) (answer : Result Ending Stop) → PutsRecords hops limit net i known mid (Ok tail) → PutsEnd mid now tail answer
-        → PutsRest hops limit net i known now answer
+    pub rest_put : (tail : Tail) (answer : Result Ending Stop) → PutsRecords hops limit sides net i known mid (Ok tail) → PutsEnd mid now tail answer
+        → PutsRest hops limit sides net i known now answer
     rest_put tail (Ok ending) (part, all, is) (same, gained) = (
       part ++ tail_text tail.refuted (is_done tail.ending),
       record {
         records = all.records;
-        found = subst (λ e. AreFound hops limit net i e all.records) (sym same) all.found;
+        found = subst (λ e. AreFound hops limit sides net i e all.records) (sym same) all.found;
         pieces = ap (λ s. s ++ tail_text tail.refuted (is_done tail.ending)) all.pieces
-            ∙ (ap (λ n. records_text net all.records ++ tail_text n (is_done tail.ending)) all.counted
-            ∙ ap (λ e. records_text net all.records ++ end_of e all.records) (sym same));
+            ∙ (ap (λ n. records_text net (written_of sides all.records) ++ tail_text n (is_done tail.ending)) all.counted
+            ∙ ap (λ e. records_text net (written_of sides all.records) ++ end_of e all.records) (sym same));
       },
       joined part (tail_text tail.refuted (is_done tail.ending)) is gained,
     )
@@ -126,14 +128,14 @@ module _ (hops limit : ℕ) (net : Network) (i : Entry) where
 
     -- and all that behind the head
     pub report_put : Joins → (asks : List AskTree) (answer : Result Ending Stop) → mid ≡ append_known known (head_text hops limit)
-        → PutsRest hops limit net i mid now answer → Performs known now (explore_work hops limit) (a_net net i asks ∷ []) answer
+        → PutsRest hops limit sides net i mid now answer → Performs known now (explore_work hops limit sides) (a_net net i asks ∷ []) answer
     report_put joins asks (Ok ending) is (part, rest, gained) = (
       head_text hops limit ++ part,
       record {
         records = rest.records;
         found = rest.found;
         line = ap (λ s. head_text hops limit ++ s) rest.pieces
-            ∙ sym (joins net hops limit rest.records (refuted_count rest.records) (is_done ending));
+            ∙ sym (joins net hops limit (written_of sides rest.records) (refuted_count rest.records) (is_done ending));
       },
       joined (head_text hops limit) part is gained,
     )
@@ -146,7 +148,7 @@ module _ (hops limit : ℕ) (net : Network) (i : Entry) where
 
   module _ (known now : Option (List ℕ)) where
     -- no more was put than some of the records
-    pub rest_stopped : (stop : Stop) → PutsRecords hops limit net i known now (Err stop) → PutsRest hops limit net i known now (Err stop)
+    pub rest_stopped : (stop : Stop) → PutsRecords hops limit sides net i known now (Err stop) → PutsRest hops limit sides net i known now (Err stop)
     rest_stopped Write (part, cut, gained) = (part, inl cut, gained)
     rest_stopped NoMemory h = h
     rest_stopped (Input fault) h = absurd h
@@ -154,9 +156,9 @@ module _ (hops limit : ℕ) (net : Network) (i : Entry) where
 
     -- or than a beginning of the head, or nothing
     pub head_cut : (asks : List AskTree) → PutAs known now (head_text hops limit) putting.Failed
-        → Performs known now (explore_work hops limit) (a_net net i asks ∷ []) (Err Write)
+        → Performs known now (explore_work hops limit sides) (a_net net i asks ∷ []) (Err Write)
     head_cut asks (part, begins, gained) = (part, inl begins, gained)
 
     pub head_left : (asks : List AskTree) → PutAs known now (head_text hops limit) putting.NoMemory
-        → Performs known now (explore_work hops limit) (a_net net i asks ∷ []) (Err NoMemory)
+        → Performs known now (explore_work hops limit sides) (a_net net i asks ∷ []) (Err NoMemory)
     head_left asks same = ([], inl refl, same ∙ known_alone known)

@@ -9,7 +9,8 @@ use Rattle.exact_records.specs.Packets.{AreExactFor, AreExactSoFarFor, AreExactU
 use Rattle.exact_records.specs.Records.{RecordTree}
 use Rattle.exact_records.specs.View.{record_tree, record_trees}
 use Rattle.record_text.specs.Reports.{head_text, report_line, tail_text}
-use Rattle.record_lines.specs.Lines.{has_some, piece_text, records_text, refuted_count}
+use Rattle.record_lines.specs.Lines.{has_some, is_written, piece_text, records_text, refuted_count, written_of}
+use Rattle.record_lines.specs.declared.lines.RefutedSides.{RefutedSides}
 use Rattle.run_answers.specs.Inputs.{Given, a_net}
 use Rattle.run_answers.specs.Runs.{Outcome, OwnWork, text, refused}
 use Rattle.run_answers.specs.declared.ending.Ending.{Ending}
@@ -24,9 +25,9 @@ abbrev pub is_done : Ending → Bool
 is_done Done = true
 is_done Partial = false
 
--- the line of a report of records that end so
-abbrev pub line_of : ℕ → ℕ → Network → Ending → List Record → List ℕ
-line_of hops limit net ending records = report_line net hops limit records (refuted_count records) (is_done ending)
+-- the line of a report of records that end so, of which those are shown that are written
+abbrev pub line_of : ℕ → ℕ → RefutedSides → Network → Ending → List Record → List ℕ
+line_of hops limit sides net ending records = report_line net hops limit (written_of sides records) (refuted_count records) (is_done ending)
 
 -- what stands behind its records
 abbrev pub end_of : Ending → List Record → List ℕ
@@ -36,23 +37,24 @@ end_of ending records = tail_text (refuted_count records) (is_done ending)
 abbrev pub BehindHead : ℕ → ℕ → (List ℕ → Type 0) → List ℕ → Type 0
 BehindHead hops limit Is part = (own : List ℕ) × Is own × (part ≡ head_text hops limit ++ own)
 
-module _ (hops : ℕ) (net : Network) (i : Entry) where
+module _ (hops : ℕ) (sides : RefutedSides) (net : Network) (i : Entry) where
   -- the pieces of records that are exact so far
   pub record IsSoFar (part : List ℕ) : Type 0 where
     pub records : List Record
     pub exact : AreExactSoFarFor net i hops (record_trees records)
-    pub pieces : part ≡ records_text net records
+    pub pieces : part ≡ records_text net (written_of sides records)
 
-  -- those of all but the last, and a beginning of the piece of that
+  -- those of all but the last, which is written, and a beginning of the piece of that
   pub record IsCutInRecord (part : List ℕ) : Type 0 where
     pub done : List Record
     pub last : Record
     pub exact : AreExactUpToFor net i hops (record_trees done) (record_tree last)
+    pub put : is_written sides last ≡ true
     pub own : List ℕ
-    pub begins : IsPrefix own (piece_text net (has_some done) last)
-    pub pieces : part ≡ records_text net done ++ own
+    pub begins : IsPrefix own (piece_text net (has_some (written_of sides done)) last)
+    pub pieces : part ≡ records_text net (written_of sides done) ++ own
 
-module _ (hops limit : ℕ) (net : Network) (i : Entry) where
+module _ (hops limit : ℕ) (sides : RefutedSides) (net : Network) (i : Entry) where
   -- the records are exact for the net and the injection, and end so
   pub record AreFound (ending : Ending) (records : List Record) : Type 0 where
     pub exact : AreExactFor net i hops limit (record_trees records)
@@ -62,7 +64,7 @@ module _ (hops limit : ℕ) (net : Network) (i : Entry) where
   pub record IsReport (ending : Ending) (whole : List ℕ) : Type 0 where
     pub records : List Record
     pub found : AreFound ending records
-    pub line : whole ≡ line_of hops limit net ending records
+    pub line : whole ≡ line_of hops limit sides net ending records
 
   abbrev pub ReportsOf : Outcome → Type 0
   ReportsOf (text ending whole) = IsReport ending whole
@@ -75,15 +77,15 @@ module _ (hops limit : ℕ) (net : Network) (i : Entry) where
     pub found : AreFound ending records
     pub own : List ℕ
     pub begins : IsPrefix own (end_of ending records)
-    pub pieces : part ≡ records_text net records ++ own
+    pub pieces : part ≡ records_text net (written_of sides records) ++ own
 
   -- where the sink failed: in the head, in the piece of a record, or in the tail
   abbrev pub IsCut : List ℕ → Type 0
-  IsCut part = IsPrefix part (head_text hops limit) ⊎ BehindHead hops limit (λ own. IsCutInRecord hops net i own ⊎ IsCutInTail own) part
+  IsCut part = IsPrefix part (head_text hops limit) ⊎ BehindHead hops limit (λ own. IsCutInRecord hops sides net i own ⊎ IsCutInTail own) part
 
   -- where memory ended: nothing was put, or whole pieces
   abbrev pub IsLeft : List ℕ → Type 0
-  IsLeft part = (part ≡ []) ⊎ BehindHead hops limit (IsSoFar hops net i) part
+  IsLeft part = (part ≡ []) ⊎ BehindHead hops limit (IsSoFar hops sides net i) part
 
 -- a fact of the net and the injection of a job
 abbrev pub OfJob : List Given → (Network → Entry → Type 0) → Type 0
@@ -91,9 +93,9 @@ OfJob (a_net net i asks ∷ []) Fact = Fact net i
 OfJob _ Fact = ⊥
 
 -- `explore` of a job
-abbrev pub explore_work : ℕ → ℕ → OwnWork
-explore_work hops limit = record {
-  comes = λ given outcome. OfJob given (λ net i. ReportsOf hops limit net i outcome);
-  cut = λ given part. OfJob given (λ net i. IsCut hops limit net i part);
-  left = λ given part. OfJob given (λ net i. IsLeft hops limit net i part);
+abbrev pub explore_work : ℕ → ℕ → RefutedSides → OwnWork
+explore_work hops limit sides = record {
+  comes = λ given outcome. OfJob given (λ net i. ReportsOf hops limit sides net i outcome);
+  cut = λ given part. OfJob given (λ net i. IsCut hops limit sides net i part);
+  left = λ given part. OfJob given (λ net i. IsLeft hops limit sides net i part);
 }

@@ -10,6 +10,7 @@ use Rattle.exact_records.specs.Records.{IsPruned, RecordTree, SymStart, path, pr
 use Rattle.exact_records.specs.View.{record_trees}
 use Rattle.exact_records.specs.Whole.{IsPathOf}
 use Rattle.run_answers.specs.declared.ending.Ending.TheVariants.{Done}
+use Rattle.record_lines.specs.declared.lines.RefutedSides.{RefutedSides}
 use Rattle.explore_command.specs.Explores.{line_of}
 
 -- the checker accepts the refutation of a refuted side, for the condition of its decisions
@@ -31,8 +32,9 @@ module _ (net : Network) (i : Entry) (hops : ℕ) where
     pub not_taken : AllByRecursion (IsNotTaken net i hops) rs
     pub tried : AllByRecursion IsTried rs
 
-  -- the text is the report of records that tell all this
-  pub record IsHeadline (limit : ℕ) (whole : List ℕ) : Type 0 where
+  -- The text is the report of records that tell all this: of each of them, where refuted sides are written; else of the others and
+  -- of the number of these.
+  pub record IsHeadline (limit : ℕ) (sides : RefutedSides) (whole : List ℕ) : Type 0 where
     pub records : List Record
-    pub line : whole ≡ line_of hops limit net Done records
+    pub line : whole ≡ line_of hops limit sides net Done records
     pub tells : TellsAll (record_trees records)

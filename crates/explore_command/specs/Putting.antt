@@ -7,7 +7,8 @@ use Rattle.path_records.specs.declared.records.Record.{Record}
 use Rattle.path_exec.specs.declared.exploration.Ended.{Ended}
 use Rattle.path_exec.specs.declared.exploration.Ended.TheVariants as ended
 use Rattle.record_text.specs.Reports.{tail_text}
-use Rattle.record_lines.specs.Lines.{records_text, refuted_count}
+use Rattle.record_lines.specs.Lines.{records_text, refuted_count, written_of}
+use Rattle.record_lines.specs.declared.lines.RefutedSides.{RefutedSides}
 use Rattle.run_answers.specs.Runs.{Gains}
 use Rattle.run_answers.specs.declared.ending.Ending.{Ending}
 use Rattle.run_answers.specs.declared.ending.Ending.TheVariants.{Done, Partial}
@@ -36,31 +37,31 @@ PutsEnd known now tail (Err Write) = Gains known now (λ part. IsPrefix part (ta
 PutsEnd known now tail (Err NoMemory) = now ≡ known
 PutsEnd known now tail _ = ⊥
 
-module _ (hops limit : ℕ) (net : Network) (i : Entry) where
+module _ (hops limit : ℕ) (sides : RefutedSides) (net : Network) (i : Entry) where
   -- the pieces of all records, of which so many are refuted sides
   pub record AreAll (tail : Tail) (part : List ℕ) : Type 0 where
     pub records : List Record
-    pub found : AreFound hops limit net i tail.ending records
+    pub found : AreFound hops limit sides net i tail.ending records
     pub counted : tail.refuted ≡ refuted_count records
-    pub pieces : part ≡ records_text net records
+    pub pieces : part ≡ records_text net (written_of sides records)
 
   -- and the tail
   pub record AreRest (ending : Ending) (part : List ℕ) : Type 0 where
     pub records : List Record
-    pub found : AreFound hops limit net i ending records
-    pub pieces : part ≡ records_text net records ++ end_of ending records
+    pub found : AreFound hops limit sides net i ending records
+    pub pieces : part ≡ records_text net (written_of sides records) ++ end_of ending records
 
   module _ (known now : Option (List ℕ)) where
     -- the records were put
     abbrev pub PutsRecords : Result Tail Stop → Type 0
     PutsRecords (Ok tail) = Gains known now (AreAll tail)
-    PutsRecords (Err Write) = Gains known now (IsCutInRecord hops net i)
-    PutsRecords (Err NoMemory) = Gains known now (IsSoFar hops net i)
+    PutsRecords (Err Write) = Gains known now (IsCutInRecord hops sides net i)
+    PutsRecords (Err NoMemory) = Gains known now (IsSoFar hops sides net i)
     PutsRecords _ = ⊥
 
     -- the records and the tail were put
     abbrev pub PutsRest : Result Ending Stop → Type 0
     PutsRest (Ok ending) = Gains known now (AreRest ending)
-    PutsRest (Err Write) = Gains known now (λ part. IsCutInRecord hops net i part ⊎ IsCutInTail hops limit net i part)
-    PutsRest (Err NoMemory) = Gains known now (IsSoFar hops net i)
+    PutsRest (Err Write) = Gains known now (λ part. IsCutInRecord hops sides net i part ⊎ IsCutInTail hops limit sides net i part)
+    PutsRest (Err NoMemory) = Gains known now (IsSoFar hops sides net i)
     PutsRest _ = ⊥

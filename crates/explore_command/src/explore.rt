@@ -7,6 +7,7 @@ use crate::report::put_report;
 use command_runs::Work;
 use job_files::JobFile;
 use net_check::Accepted;
+use record_lines::RefutedSides;
 use run_answers::{Ending, Stop};
 use sn_edge::Sink;
 use std::alloc::Global;
@@ -18,6 +19,7 @@ pub struct Explore<'a> {
     pub source: JobFile<'a>,
     pub hops: u32,
     pub limit: RecordLimit,
+    pub sides: RefutedSides,
 }
 
 impl<'a> Work for Explore<'a> {
@@ -25,7 +27,7 @@ impl<'a> Work for Explore<'a> {
 
     ghost source = { λ e. e.source };
 
-    ghost work = { λ e. explore_work e.hops e.limit };
+    ghost work = { λ e. explore_work e.hops e.limit e.sides };
 
     fn source(&self) -> &JobFile<'a> {
         &self.source
@@ -37,6 +39,13 @@ impl<'a> Work for Explore<'a> {
         given: Accepted,
         out: &mut K,
     ) -> Result<Ending, Stop> {
-        put_report(alloc, &given, self.hops, self.limit.count(), out)
+        put_report(
+            alloc,
+            &given,
+            self.hops,
+            self.limit.count(),
+            self.sides,
+            out,
+        )
     }
 }

@@ -3,6 +3,7 @@
 ghost use Rattle.std.specs.Prelude.{◌⊎◌, ℕ, List, ◌++◌};
 ghost use Rattle.sn_edge.specs.Pieces.{IsPrefix};
 ghost use Rattle.net_check.specs.Network.{Entry, Network};
+ghost use Rattle.record_lines.specs.declared.lines.RefutedSides.{RefutedSides as SidesOf};
 ghost use Rattle.record_text.specs.Reports.{head_text};
 ghost use Rattle.run_answers.specs.declared.ending.Ending.{Ending as EndingOf};
 ghost use Rattle.run_answers.specs.declared.ending.Ending.TheVariants.{Done};
@@ -16,7 +17,7 @@ use record_text::laws::lines_join;
 /// The headline: where the report of a job is written whole and nothing was left out, it tells all walks of all packets that
 /// meet the injection.
 pub fn finished_reports_tell_all()
-    ensures { (hops limit : ℕ) (net : Network) (i : Entry) (whole : List ℕ) → IsReport hops limit net i Done whole → IsHeadline net i hops limit whole }
+    ensures { (hops limit : ℕ) (sides : SidesOf) (net : Network) (i : Entry) (whole : List ℕ) → IsReport hops limit sides net i Done whole → IsHeadline net i hops limit sides whole }
 {
     whole_records_have_one_path_a_walk();
 }
@@ -24,9 +25,9 @@ pub fn finished_reports_tell_all()
 /// What was written where the sink failed is a beginning of a report, or of the head and the pieces of records that are exact
 /// so far.
 pub fn cuts_are_beginnings()
-    ensures { (hops limit : ℕ) (net : Network) (i : Entry) (part : List ℕ) → IsCut hops limit net i part
-        → ((ending : EndingOf) × (whole : List ℕ) × IsReport hops limit net i ending whole × IsPrefix part whole)
-        ⊎ ((whole : List ℕ) × BehindHead hops limit (IsSoFar hops net i) whole × IsPrefix part whole) }
+    ensures { (hops limit : ℕ) (sides : SidesOf) (net : Network) (i : Entry) (part : List ℕ) → IsCut hops limit sides net i part
+        → ((ending : EndingOf) × (whole : List ℕ) × IsReport hops limit sides net i ending whole × IsPrefix part whole)
+        ⊎ ((whole : List ℕ) × BehindHead hops limit (IsSoFar hops sides net i) whole × IsPrefix part whole) }
 {
     lines_join();
     a_record_comes_behind_the_others();

@@ -8,3 +8,4 @@ mod report;
 
 pub use explore::Explore;
 pub use limit::RecordLimit;
+pub use record_lines::RefutedSides;

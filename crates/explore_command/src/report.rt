@@ -10,7 +10,7 @@ ghost use Rattle.explore_command.specs.Putting.{PutsEnd, PutsRecords, PutsRest, 
 
 use net_check::Accepted;
 use path_exec::Ended;
-use record_lines::{Lines, Mark, put_head, put_tail};
+use record_lines::{Lines, Mark, RefutedSides, put_head, put_tail};
 use record_text::laws::lines_join;
 use run_answers::{Ending, Stop};
 use sn_edge::{Put, Sink};
@@ -62,18 +62,20 @@ fn put_records<M: Mark, K: Sink, L: Ledger>(
     job: &Accepted,
     hops: u32,
     limit: u32,
+    sides: RefutedSides,
     out: &mut K,
     blank: Blank,
 ) -> Result<Tail, Stop>
     requires job { AreOfOneJob (network job.now.net) (entry job.now.injection) }
     requires limit { 0 < limit }
     requires net { network job.now.net ≡ M.net }
+    requires sides { sides ≡ M.sides }
     requires known { K.taken out.old ≡ M.known }
     requires name { blank.name ≡ L.name }
     requires parts { blank.parts ≡ L.parts }
     requires some { 0 < blank.parts }
     ensures faults_stay { K.faults out.old ≤ K.faults out.new }
-    ensures puts { PutsRecords hops limit (network job.now.net) (entry job.now.injection) M.known (K.taken out.new) result }
+    ensures puts { PutsRecords hops limit sides (network job.now.net) (entry job.now.injection) M.known (K.taken out.new) result }
     ensures shows { IfErr result (StopShows (K.faults out.old < K.faults out.new)) }
 {
     let mut steps = Steps::<L>::new(blank);
@@ -81,6 +83,7 @@ fn put_records<M: Mark, K: Sink, L: Ledger>(
         alloc,
         net: &job.net,
         out,
+        sides,
         some: false,
         refuted: 0,
         of: PhantomData,
@@ -116,15 +119,16 @@ fn put_rest<K: Sink>(
     job: &Accepted,
     hops: u32,
     limit: u32,
+    sides: RefutedSides,
     out: &mut K,
 ) -> Result<Ending, Stop>
     requires job { AreOfOneJob (network job.now.net) (entry job.now.injection) }
     requires limit { 0 < limit }
     ensures faults_stay { K.faults out.old ≤ K.faults out.new }
-    ensures puts { PutsRest hops limit (network job.now.net) (entry job.now.injection) (K.taken out.old) (K.taken out.new) result }
+    ensures puts { PutsRest hops limit sides (network job.now.net) (entry job.now.injection) (K.taken out.old) (K.taken out.new) result }
     ensures shows { IfErr result (StopShows (K.faults out.old < K.faults out.new)) }
 {
-    let tail = put_records::<Brand, K, Brand>(alloc, job, hops, limit, out, Blank::new(1))?;
+    let tail = put_records::<Brand, K, Brand>(alloc, job, hops, limit, sides, out, Blank::new(1))?;
     put_end(alloc, tail, out)
 }
 
@@ -134,17 +138,18 @@ pub(crate) fn put_report<K: Sink>(
     job: &Accepted,
     hops: u32,
     limit: u32,
+    sides: RefutedSides,
     out: &mut K,
 ) -> Result<Ending, Stop>
     requires job { AreOfOneJob (network job.now.net) (entry job.now.injection) }
     requires limit { 0 < limit }
     ensures faults_stay { K.faults out.old ≤ K.faults out.new }
-    ensures performs { Performs (K.taken out.old) (K.taken out.new) (explore_work hops limit) (given_of job.now ∷ []) result }
+    ensures performs { Performs (K.taken out.old) (K.taken out.new) (explore_work hops limit sides) (given_of job.now ∷ []) result }
     ensures shows { WriteShows (K.faults out.old < K.faults out.new) result }
 {
     lines_join();
     match put_head(alloc, hops, limit, out) {
-        Put::All => put_rest(alloc, job, hops, limit, out),
+        Put::All => put_rest(alloc, job, hops, limit, sides, out),
         Put::Failed => Err(Stop::Write),
         Put::NoMemory => Err(Stop::NoMemory),
     }

@@ -2,7 +2,7 @@
 use Rattle.std.proofs.Common.{◌≡◌, refl, ap, ◌∙◌, ℕ, List, Some, Err}
 use Rattle.sefl_lex.specs.declared.fault.LexFault.{LexFault}
 use Rattle.sefl_lex.specs.declared.fault.LexFault.TheVariants.{BadCharacter, BadNumber, OpenText, NoMemory as NoTokens}
-use Rattle.sefl_reader.specs.Outcome.{Outcome, a_job, not_text, no_tokens, expected, too_deep, IsOutcome, IsAnswer, Tells}
+use Rattle.sefl_reader.specs.Outcome.{Outcome, not_text, no_tokens, expected, too_deep, IsOutcome, IsAnswer, Tells}
 use Rattle.sefl_reader.specs.declared.fault.ReadFault.{ReadFault}
 use Rattle.sefl_reader.specs.declared.fault.ReadFault.TheVariants.{NotText, Lex, Expected, TooDeep, NoMemory as Unread}
 use Rattle.run_answers.specs.Flaws.{Flaw, flaw_at, flaw_of, fault_of_reading, fault_of_lex}

@@ -12,10 +12,11 @@ ghost use Rattle.run_answers.specs.Runs.{InputShows};
 
 use crate::file::load_file;
 use crate::refusal::{fault_of_reading, fault_of_refusal};
+use crate::table::fill_tables;
 use net_check::{Accepted, accept};
 use run_answers::{FILE_LIMIT, InputFault};
 use sefl_reader::read_job;
-use sefl_syntax::{Job, is_filled};
+use sefl_syntax::Job;
 use sn_edge::{Folder, Patterns};
 use std::alloc::Global;
 
@@ -30,7 +31,7 @@ fn read(alloc: Global, bytes: &[u8]) -> Result<Job, InputFault>
     }
 }
 
-/// The job of the file of this name, which has no tables.
+/// The job of the file of this name, with code for its tables.
 pub fn load_job<F: Folder>(alloc: Global, name: &str, folder: &mut F) -> Result<Job, InputFault>
     ensures faults_stay { F.faults folder.old ≤ F.faults folder.new }
     ensures misses_stay { F.misses folder.old ≤ F.misses folder.new }
@@ -42,14 +43,12 @@ pub fn load_job<F: Folder>(alloc: Global, name: &str, folder: &mut F) -> Result<
         (F.excesses folder.old < F.excesses folder.new) ⊥) }
 {
     let bytes = load_file(alloc, name, FILE_LIMIT, folder)?;
-    let job = read(alloc, &bytes)?;
-    if !is_filled(&job) {
-        return Err(InputFault::NotBuilt);
-    }
+    let mut job = read(alloc, &bytes)?;
+    fill_tables(alloc, &mut job, folder)?;
     Ok(job)
 }
 
-/// Accepts a job without tables.
+/// Accepts a job whose nodes have code.
 pub fn accept_filled<P: Patterns>(
     alloc: Global,
     job: Job,

@@ -5,6 +5,7 @@ mod file;
 mod job;
 mod refusal;
 mod source;
+mod table;
 
 pub use file::load_file;
 pub use job::{accept_filled, load_job, open_job};

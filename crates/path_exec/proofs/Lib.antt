@@ -8,4 +8,4 @@ pub mod Endings
 pub mod Leaving
 pub mod Guiding
 pub mod Gathering
-pub mod Stepping
+pub mod Further

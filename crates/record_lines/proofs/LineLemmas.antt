@@ -1,7 +1,9 @@
 -- What the pieces of records leave in a sink.
-use Rattle.std.proofs.Common.{◌≡◌, ◌∙◌, ap, sym, subst, refl, ℕ, ◌+◌, Bool, true, false, ◌||◌, List, [], ◌∷◌, ◌++◌, map, Option, append_assoc}
+use Rattle.std.proofs.Common.{◌≡◌, ◌∙◌, ap, sym, subst, refl, ℕ, ◌+◌, Bool, true, false, List, [], ◌∷◌, ◌++◌, map, Option, append_assoc}
+use Rattle.std.proofs.lemmas.Bool.{true≢false}
 use Rattle.std.proofs.lemmas.List.{append-nil, map-append}
-use Rattle.std.specs.Prelude.{fold}
+use Rattle.std.proofs.lemmas.List.Elements.{filter-append}
+use Rattle.std.specs.Prelude.{filter, fold}
 use Rattle.std.specs.Io.KnownBytes.{append_known}
 use Rattle.serde_json.specs.Data.{Data}
 use Rattle.serde_json.specs.Written.{comma_if, compact_text}
@@ -13,7 +15,9 @@ use Rattle.sn_edge.specs.Pieces.{IsPrefix, append_known-append}
 use Rattle.sn_edge.specs.Put.{OnAll, OnNoMemory}
 use Rattle.sn_edge.specs.declared.sink.Put.{Put}
 use Rattle.sn_edge.specs.declared.sink.Put.TheVariants.{All, Failed, NoMemory}
-use Rattle.record_lines.specs.Lines.{HasLines, PutAs, StopsInLine, has_some, piece_text, records_text, refuted_by, refuted_count}
+use Rattle.record_lines.specs.Lines.{HasLines, PutAs, StopsInLine, has_some, is_written, piece_text, records_text, refuted_by, refuted_count, written_of}
+use Rattle.record_lines.specs.declared.lines.RefutedSides.{RefutedSides}
+use Rattle.record_lines.specs.declared.lines.RefutedSides.TheVariants.{Written, Counted}
 
 -- the answers of a put, as one fact
 pub put_as : (known now : Option (List ℕ)) (piece : List ℕ) (answer : Put) → OnAll answer (now ≡ append_known known piece)
@@ -30,12 +34,30 @@ pieces_later (x ∷ ds) d =
     ∙ (ap (λ s. comma_if true ++ s) (sym (append_assoc (compact_text x) (record_pieces true ds) (comma_if true ++ compact_text d)))
     ∙ sym (append_assoc (comma_if true) (compact_text x ++ record_pieces true ds) (comma_if true ++ compact_text d)))
 
-pub text_with : (net : Network) (items : List Record) (item : Record) → records_text net (items ++ item ∷ []) ≡ records_text net items ++ piece_text net (has_some items) item
+text_with : (net : Network) (items : List Record) (item : Record) → records_text net (items ++ item ∷ []) ≡ records_text net items ++ piece_text net (has_some items) item
 text_with net [] item = append-nil (compact_text (record_data net item))
 text_with net (x ∷ items) item =
     ap (λ ds. compact_text (record_data net x) ++ record_pieces true ds) (map-append (record_data net) items (item ∷ []))
     ∙ (ap (λ s. compact_text (record_data net x) ++ s) (pieces_later (map (record_data net) items) (record_data net item))
     ∙ sym (append_assoc (compact_text (record_data net x)) (record_pieces true (map (record_data net) items)) (comma_if true ++ compact_text (record_data net item))))
+
+-- a record that is written, and one that is not
+written_with : (sides : RefutedSides) (items : List Record) (item : Record) → is_written sides item ≡ true
+    → written_of sides (items ++ item ∷ []) ≡ written_of sides items ++ item ∷ []
+written_with Written items item is = refl
+written_with Counted items item is = filter-append (is_written Counted) items (item ∷ []) ∙ ap (λ xs. written_of Counted items ++ xs) (rw (is) refl)
+
+written_without : (sides : RefutedSides) (items : List Record) (item : Record) → is_written sides item ≡ false
+    → written_of sides (items ++ item ∷ []) ≡ written_of sides items
+written_without Written items item is = absurd (true≢false is)
+written_without Counted items item is =
+    filter-append (is_written Counted) items (item ∷ [])
+    ∙ (ap (λ xs. written_of Counted items ++ xs) (let alone : filter (is_written Counted) (item ∷ []) ≡ [] = rw (is) refl in alone)
+    ∙ append-nil (written_of Counted items))
+
+pub written_behind : (net : Network) (sides : RefutedSides) (items : List Record) (item : Record) → is_written sides item ≡ true
+    → records_text net (written_of sides (items ++ item ∷ [])) ≡ records_text net (written_of sides items) ++ piece_text net (has_some (written_of sides items)) item
+written_behind net sides items item is = ap (records_text net) (written_with sides items item is) ∙ text_with net (written_of sides items) item
 
 has_some_with : {A : Type 0} (xs : List A) (x : A) → has_some (xs ++ x ∷ []) ≡ true
 has_some_with [] x = refl
@@ -49,29 +71,48 @@ counted_from first (x ∷ items) item = counted_from (first + refuted_by x) item
 count_with : (items : List Record) (item : Record) → refuted_count (items ++ item ∷ []) ≡ refuted_count items + refuted_by item
 count_with items item = counted_from 0 items item
 
-module _ (net own : Network) (known before now : Option (List ℕ)) (some : Bool) (refuted : ℕ) (item : Record) where
+module _ (net own : Network) (sides own_sides : RefutedSides) (known before now : Option (List ℕ)) (some : Bool) (refuted : ℕ) (item : Record) where
   -- the piece was put
-  pub one_more : (count : ℕ) → count ≡ refuted + refuted_by item → now ≡ append_known before (piece_text own some item)
-      → (items : List Record) → HasLines net known before own some refuted items → HasLines net known now own true count (items ++ item ∷ [])
-  one_more count counts gained items has = record {
-    same = has.same;
-    taken = gained ∙ (ap (λ n. append_known before (piece_text n some item)) has.same
-        ∙ (ap (λ b. append_known before (piece_text net b item)) has.has
-        ∙ (ap (λ k. append_known k (piece_text net (has_some items) item)) has.taken
-        ∙ (append_known-append known (records_text net items) (piece_text net (has_some items) item)
-        ∙ ap (append_known known) (sym (text_with net items item))))));
-    has = sym (has_some_with items item);
-    counted = counts ∙ (ap (λ n. n + refuted_by item) has.counted ∙ sym (count_with items item));
-  }
+  pub one_more : is_written own_sides item ≡ true → (count : ℕ) → count ≡ refuted + refuted_by item → now ≡ append_known before (piece_text own some item)
+      → (items : List Record) → HasLines net sides known before own own_sides some refuted items
+      → HasLines net sides known now own own_sides true count (items ++ item ∷ [])
+  one_more put count counts gained items has =
+      let is : is_written sides item ≡ true = subst (λ s. is_written s item ≡ true) has.same_sides put in
+      let before_it = written_of sides items in record {
+        same = has.same;
+        same_sides = has.same_sides;
+        taken = gained ∙ (ap (λ n. append_known before (piece_text n some item)) has.same
+            ∙ (ap (λ b. append_known before (piece_text net b item)) has.has
+            ∙ (ap (λ k. append_known k (piece_text net (has_some before_it) item)) has.taken
+            ∙ (append_known-append known (records_text net before_it) (piece_text net (has_some before_it) item)
+            ∙ ap (append_known known) (sym (written_behind net sides items item is))))));
+        has = sym (has_some_with before_it item) ∙ ap has_some (sym (written_with sides items item is));
+        counted = counts ∙ (ap (λ n. n + refuted_by item) has.counted ∙ sym (count_with items item));
+      }
 
-  -- or a beginning of it
-  pub stops_in : ((part : List ℕ) × IsPrefix part (piece_text own some item) × (now ≡ append_known before part))
-      → (items : List Record) → HasLines net known before own some refuted items → StopsInLine net known now (items ++ item ∷ [])
-  stops_in (part, begins, gained) items has = record {
+  -- it is not written
+  pub one_counted : is_written own_sides item ≡ false → (count : ℕ) → count ≡ refuted + refuted_by item
+      → (items : List Record) → HasLines net sides known before own own_sides some refuted items
+      → HasLines net sides known before own own_sides some count (items ++ item ∷ [])
+  one_counted left count counts items has =
+      let is : is_written sides item ≡ false = subst (λ s. is_written s item ≡ false) has.same_sides left in
+      let same : written_of sides items ≡ written_of sides (items ++ item ∷ []) = sym (written_without sides items item is) in record {
+        same = has.same;
+        same_sides = has.same_sides;
+        taken = has.taken ∙ ap (λ xs. append_known known (records_text net xs)) same;
+        has = has.has ∙ ap has_some same;
+        counted = counts ∙ (ap (λ n. n + refuted_by item) has.counted ∙ sym (count_with items item));
+      }
+
+  -- or a beginning of its piece was put
+  pub stops_in : is_written own_sides item ≡ true → ((part : List ℕ) × IsPrefix part (piece_text own some item) × (now ≡ append_known before part))
+      → (items : List Record) → HasLines net sides known before own own_sides some refuted items → StopsInLine net sides known now (items ++ item ∷ [])
+  stops_in put (part, begins, gained) items has = record {
     done = items;
     last = item;
     is = refl;
+    put = subst (λ s. is_written s item ≡ true) has.same_sides put;
     part = part;
     begins = subst (λ b. IsPrefix part (piece_text net b item)) has.has (subst (λ n. IsPrefix part (piece_text n some item)) has.same begins);
-    taken = gained ∙ (ap (λ k. append_known k part) has.taken ∙ append_known-append known (records_text net items) part);
+    taken = gained ∙ (ap (λ k. append_known k part) has.taken ∙ append_known-append known (records_text net (written_of sides items)) part);
   }

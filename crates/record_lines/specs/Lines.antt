@@ -1,10 +1,12 @@
 -- What a sink has gained of the records of a report.
-use Rattle.std.specs.Prelude.{ℕ, ◌≡◌, Bool, true, false, List, [], ◌∷◌, ◌++◌, map, sum_by, Option}
+use Rattle.std.specs.Prelude.{ℕ, ◌≡◌, Bool, true, false, List, [], ◌∷◌, ◌++◌, filter, map, sum_by, Option}
 use Rattle.std.specs.Io.KnownBytes.{append_known}
 use Rattle.serde_json.specs.Written.{comma_if, compact_text}
 use Rattle.net_check.specs.Network.{Network}
 use Rattle.path_records.specs.declared.records.Record.{Record}
 use Rattle.path_records.specs.declared.records.Record.TheVariants.{Path, Pruned, Unexplored}
+use Rattle.record_lines.specs.declared.lines.RefutedSides.{RefutedSides}
+use Rattle.record_lines.specs.declared.lines.RefutedSides.TheVariants.{Written, Counted}
 use Rattle.record_text.specs.Records.{record_data}
 use Rattle.record_text.specs.Reports.{record_pieces}
 use Rattle.sn_edge.specs.Pieces.{IsPrefix}
@@ -16,6 +18,18 @@ abbrev pub refuted_by : Record → ℕ
 refuted_by (Path decisions places ended fields verdict) = 0
 refuted_by (Pruned decisions before refutation) = 1
 refuted_by (Unexplored decisions) = 0
+
+-- whether the record is written, where refuted sides are written or only counted
+abbrev pub is_written : RefutedSides → Record → Bool
+is_written Written item = true
+is_written Counted (Path decisions places ended fields verdict) = true
+is_written Counted (Pruned decisions before refutation) = false
+is_written Counted (Unexplored decisions) = true
+
+-- those that are written
+abbrev pub written_of : RefutedSides → List Record → List Record
+written_of Written records = records
+written_of Counted records = filter (is_written Counted) records
 
 -- how many are refuted sides
 abbrev pub refuted_count : List Record → ℕ
@@ -39,23 +53,25 @@ PutAs known now piece All = now ≡ append_known known piece
 PutAs known now piece Failed = (part : List ℕ) × IsPrefix part piece × (now ≡ append_known known part)
 PutAs known now piece NoMemory = now ≡ known
 
-module _ (net : Network) (known now : Option (List ℕ)) where
-  -- behind what was known there are the pieces of these records, which are of the net; whether there is any, and how many are refuted
-  -- sides
-  pub record HasLines (own : Network) (some : Bool) (refuted : ℕ) (items : List Record) : Type 0 where
+module _ (net : Network) (sides : RefutedSides) (known now : Option (List ℕ)) where
+  -- behind what was known there are the pieces of those of these records that are written, which are of the net; whether there is
+  -- any, and how many are refuted sides
+  pub record HasLines (own : Network) (own_sides : RefutedSides) (some : Bool) (refuted : ℕ) (items : List Record) : Type 0 where
     pub same : own ≡ net
-    pub taken : now ≡ append_known known (records_text net items)
-    pub has : some ≡ has_some items
+    pub same_sides : own_sides ≡ sides
+    pub taken : now ≡ append_known known (records_text net (written_of sides items))
+    pub has : some ≡ has_some (written_of sides items)
     pub counted : refuted ≡ refuted_count items
 
-  -- or those of all but the last, and a beginning of the piece of that
+  -- or those of all but the last, which is written, and a beginning of the piece of that
   pub record StopsInLine (items : List Record) : Type 0 where
     pub done : List Record
     pub last : Record
     pub is : items ≡ done ++ last ∷ []
+    pub put : is_written sides last ≡ true
     pub part : List ℕ
-    pub begins : IsPrefix part (piece_text net (has_some done) last)
-    pub taken : now ≡ append_known known (records_text net done ++ part)
+    pub begins : IsPrefix part (piece_text net (has_some (written_of sides done)) last)
+    pub taken : now ≡ append_known known (records_text net (written_of sides done) ++ part)
 
 -- a net without nodes, whose records nobody writes
 abbrev pub no_net : Network

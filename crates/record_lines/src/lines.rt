@@ -2,7 +2,7 @@
 
 ghost use Rattle.std.specs.Prelude.{◌≡◌, ◌+◌, string_bytes, IfOk, IfSome};
 ghost use Rattle.net_check.specs.Network.{network};
-ghost use Rattle.record_lines.specs.Lines.{HasLines, StopsInLine, piece_text, refuted_by};
+ghost use Rattle.record_lines.specs.Lines.{HasLines, StopsInLine, is_written, piece_text, refuted_by};
 
 use crate::ends::put_piece;
 use net_check::Net;
@@ -14,12 +14,24 @@ use sn_width::NoMemory;
 use std::alloc::Global;
 use std::marker::{Brand, PhantomData};
 
-/// The net that records are of, and what a sink held before the first of them.
+/// What is put of refuted sides.
+#[derive(Clone, Copy)]
+pub enum RefutedSides {
+    /// All of them, as other records.
+    Written,
+    /// None: only their number is told.
+    Counted,
+}
+
+/// The net that records are of, which of them are written, and what a sink held before the first of them.
 pub trait Mark {
     ghost use Rattle.std.specs.Prelude.{ℕ, List, Option};
     ghost use Rattle.net_check.specs.Network.{Network};
+    ghost use Rattle.record_lines.specs.declared.lines.RefutedSides.{RefutedSides as Sides};
 
     ghost net: { Network };
+
+    ghost sides: { Sides };
 
     ghost known: { Option (List ℕ) };
 }
@@ -27,21 +39,26 @@ pub trait Mark {
 impl Mark for Brand {
     ghost use Rattle.std.specs.Prelude.{None};
     ghost use Rattle.record_lines.specs.Lines.{no_net};
+    ghost use Rattle.record_lines.specs.declared.lines.RefutedSides.TheVariants.{Written};
 
     ghost net = { no_net };
+
+    ghost sides = { Written };
 
     ghost known = { None };
 }
 
-/// Puts each record of a net into a sink, behind a comma where another one was put before it. It keeps none of them.
+/// Puts each record of a net that is written into a sink, behind a comma where another one was put before it. It keeps none of
+/// them.
 #[derive(Drop)]
 pub struct Lines<'a, M: Mark, K: Sink> {
     pub alloc: Global,
     pub net: &'a Net,
     pub out: &'a mut K,
+    pub sides: RefutedSides,
     /// Whether a record was put.
     pub some: bool,
-    /// How many of those that were put are refuted sides.
+    /// How many refuted sides were taken.
     pub refuted: u64,
     pub of: PhantomData<M>,
 }
@@ -67,12 +84,25 @@ fn refuted_with(refuted: u64, item: &Record) -> Option<u64>
     }
 }
 
+/// Whether a record is written.
+fn is_written(sides: RefutedSides, item: &Record) -> bool
+    ensures { result ≡ is_written sides item.now }
+{
+    match sides {
+        RefutedSides::Written => true,
+        RefutedSides::Counted => match item {
+            Record::Pruned { .. } => false,
+            Record::Path { .. } | Record::Unexplored { .. } => true,
+        },
+    }
+}
+
 impl<M: Mark, K: Sink> Receiver for Lines<'_, M, K> {
     type Item = Record;
 
     ghost seen = { λ lines. record {
-      StandsFor = HasLines M.net M.known (K.taken lines.out.now) (network lines.net.now) lines.some lines.refuted;
-      StoppedIn = StopsInLine M.net M.known (K.taken lines.out.now);
+      StandsFor = HasLines M.net M.sides M.known (K.taken lines.out.now) (network lines.net.now) lines.sides lines.some lines.refuted;
+      StoppedIn = StopsInLine M.net M.sides M.known (K.taken lines.out.now);
       stops = K.faults lines.out.now;
       target = lines.out.ghost_name;
       Takes = λ item. Unit {0};
@@ -82,6 +112,10 @@ impl<M: Mark, K: Sink> Receiver for Lines<'_, M, K> {
         let Some(refuted) = refuted_with(self.refuted, &item) else {
             return Took::NoMemory;
         };
+        if !is_written(self.sides, &item) {
+            self.refuted = refuted;
+            return Took::More;
+        }
         let Ok(piece) = piece_of(self.alloc, self.net, self.some, &item) else {
             return Took::NoMemory;
         };

@@ -1,14 +1,14 @@
 -- In a world, inputs come to one thing.
-use Rattle.std.proofs.Common.{◌≡◌, ◌⊎◌, inl, inr, ◌∙◌, ap, sym, subst, refl, List, [], ◌∷◌, ◌<◌, ℕ, length, Option, Some, None, true, false, arith}
-use Rattle.std.proofs.lemmas.Bool.{true≢false}
+use Rattle.std.proofs.Common.{◌≡◌, inl, inr, ◌∙◌, ap, sym, subst, refl, List, [], ◌∷◌, ◌<◌, ℕ, length, Option, Some, None, arith}
 use Rattle.std.proofs.lemmas.Option.{none-some, same_Some}
 use Rattle.std.specs.Prelude.{IsSomeAnd, Bool}
 use Rattle.std.specs.Option.{ForSome}
 use Rattle.sn_width.specs.declared.ids.Site.{Site}
-use Rattle.sefl_syntax.specs.Filled.{is_filled}
-use Rattle.sefl_syntax.specs.Trees.{JobTree}
+use Rattle.sefl_syntax.specs.declared.net.Style.{Style}
+use Rattle.sefl_syntax.specs.declared.net.TableKind.{TableKind}
+use Rattle.sefl_syntax.specs.Trees.{NodeTree, BodyTree, code, table, DeclTree, JobTree}
+use Rattle.table_files.specs.FileNodes.{FilesHaveOneNode, IsNodeOf, NodesHaveNoBadLine}
 use Rattle.sefl_reader.specs.Outcome.{Outcome, a_job}
-use Rattle.job_items.specs.Rules.{refusal}
 use Rattle.job_items.specs.declared.rule.Rule.{Rule}
 use Rattle.net_tables.specs.Places.{node_position}
 use Rattle.net_check.specs.Network.{Network, Entry}
@@ -16,12 +16,13 @@ use Rattle.net_check.specs.Sound.{IsSound, IsNetOf, IsEntryOf}
 use Rattle.run_answers.specs.Files.{Files, HasFile, LoadFails}
 use Rattle.run_answers.specs.Flaws.{Flaw, syntax}
 use Rattle.run_answers.specs.Refusals.{fault_by_number, fault_by_rule, rule_number}
-use Rattle.run_answers.specs.Jobs.{AcceptFails, HasFilled, HasJob, IsOnlyFlaw, IsOnlyJob, IsRefusedAt, JobFails, ListsFound, ReadFails, TablesFail, first_bad}
+use Rattle.run_answers.specs.Tables.{AllFilled, CodeFails, FirstUnfilled, IsCodeOf, IsFilled, TableFails}
+use Rattle.run_answers.specs.Jobs.{AcceptFails, HasFilled, HasJob, IsOnlyFlaw, IsOnlyJob, IsRefusedAt, JobFails, ReadFails, first_bad}
 use Rattle.run_answers.specs.Outside.{World, world}
 use Rattle.run_answers.specs.Inputs.{Input, Given, a_job as of_job, a_file, a_net, some_bytes, AllOpen, FirstFails, Opens, Fails, IsSettled}
 use Rattle.run_answers.specs.declared.limits.TheConstants.{FILE_LIMIT}
 use Rattle.run_answers.specs.declared.fault.InputFault.{InputFault}
-use Rattle.run_answers.specs.declared.fault.InputFault.TheVariants.{NoFile, ReadFault, TooBig, Syntax, BadTable, BadPattern, Refused, NotBuilt, NoMemory}
+use Rattle.run_answers.specs.declared.fault.InputFault.TheVariants.{NoFile, ReadFault, TooBig, Syntax, BadTable, BadPattern, Refused, NoMemory}
 
 same_in : {T : Type 0} (o : Option T) (x y : T) → o ≡ Some x → o ≡ Some y → x ≡ y
 same_in o x y h k = same_Some x y (sym h ∙ k)
@@ -55,17 +56,6 @@ read_once w bytes NoMemory g s t h k = absurd s
 read_once w bytes f NoMemory s t h k = absurd t
 read_once w bytes (Syntax a b c) g s t h k = absurd k
 read_once w bytes f g s t h k = absurd h
-
--- ---- tables
-
-tables_exclude : (j : JobTree) (f : InputFault) → is_filled j ≡ true → TablesFail j f → ⊥
-tables_exclude j NotBuilt filled h = true≢false (sym filled ∙ h)
-tables_exclude j f filled h = h
-
-tables_once : (j : JobTree) (f g : InputFault) → TablesFail j f → TablesFail j g → f ≡ g
-tables_once j NotBuilt NotBuilt h k = refl
-tables_once j NotBuilt g h k = absurd k
-tables_once j f g h k = absurd h
 
 -- ---- acceptance
 
@@ -103,7 +93,7 @@ same_entry j a b of_a of_b =
     same_Some a.node.0 b.node.0 (sym of_a.node ∙ (ap (λ o. node_position j.net o.node) own ∙ of_b.node)) in
     λ k. record { own = own k; node = record { 0 = node k } }
 
-module _ (w : World) where
+module _ (one_node : FilesHaveOneNode) (no_bad : NodesHaveNoBadLine) (w : World) where
   abbrev files : Files
   files = Some w.at
 
@@ -143,18 +133,87 @@ module _ (w : World) where
   load_once limit name (TooBig a) g s t h k = absurd k
   load_once limit name f g s t h k = absurd h
 
+  -- ---- tables
+
+  table_excludes : (kind : TableKind) (name bytes : List ℕ) (style : Style) (node : NodeTree) (f : InputFault) → IsSettled w f → IsNodeOf kind bytes style node
+      → TableFails kind name bytes f → ⊥
+  table_excludes kind name bytes style node (BadTable own line rule) s is k = none-some (line, rule) (sym (no_bad kind bytes style node is) ∙ k.1)
+  table_excludes kind name bytes style node NoMemory s is k = s
+  table_excludes kind name bytes style node f s is k = k
+
+  table_once : (kind : TableKind) (name bytes : List ℕ) (f g : InputFault) → IsSettled w f → IsSettled w g → TableFails kind name bytes f → TableFails kind name bytes g → f ≡ g
+  table_once kind name bytes (BadTable own line rule) (BadTable other at kind') s t h k =
+      let names = h.0 ∙ sym k.0 in
+      let lines : ◌≡◌ {A = ℕ × ℕ} (line, rule) (at, kind') = same_Some (line, rule) (at, kind') (sym h.1 ∙ k.1) in
+      λ i. BadTable (names i) (lines i).0 (lines i).1
+  table_once kind name bytes NoMemory g s t h k = absurd s
+  table_once kind name bytes f NoMemory s t h k = absurd t
+  table_once kind name bytes (BadTable own line rule) g s t h k = absurd k
+  table_once kind name bytes f g s t h k = absurd h
+
+  code_once : (body : BodyTree) (a b : NodeTree) → IsCodeOf files body a → IsCodeOf files body b → a ≡ b
+  code_once (code own) a b h k = h ∙ sym k
+  code_once (table kind name style) a b (x, file, is) (y, file', is') =
+      one_node kind y style a b (subst (λ bs. IsNodeOf kind bs style a) (bytes_once FILE_LIMIT name x y file file') is) is'
+
+  code_excludes : (body : BodyTree) (node : NodeTree) (f : InputFault) → IsSettled w f → IsCodeOf files body node → CodeFails files body f → ⊥
+  code_excludes (code own) node f s h k = k
+  code_excludes (table kind name style) node f s (x, file, is) (inl k) = loads FILE_LIMIT name x f file s k
+  code_excludes (table kind name style) node f s (x, file, is) (inr (y, file', k)) =
+      table_excludes kind name y style node f s (subst (λ bs. IsNodeOf kind bs style node) (bytes_once FILE_LIMIT name x y file file') is) k
+
+  code_fails_once : (body : BodyTree) (f g : InputFault) → IsSettled w f → IsSettled w g → CodeFails files body f → CodeFails files body g → f ≡ g
+  code_fails_once (code own) f g s t h k = absurd h
+  code_fails_once (table kind name style) f g s t (inl h) (inl k) = load_once FILE_LIMIT name f g s t h k
+  code_fails_once (table kind name style) f g s t (inl h) (inr (y, file, k)) = absurd (loads FILE_LIMIT name y f file s h)
+  code_fails_once (table kind name style) f g s t (inr (x, file, h)) (inl k) = absurd (loads FILE_LIMIT name x g file t k)
+  code_fails_once (table kind name style) f g s t (inr (x, file, h)) (inr (y, file', k)) =
+      table_once kind name y f g s t (subst (λ bs. TableFails kind name bs f) (bytes_once FILE_LIMIT name x y file file') h) k
+
+  nodes_once : (ds a b : List DeclTree) → AllFilled files ds a → AllFilled files ds b → a ≡ b
+  nodes_once [] a b h k = h ∙ sym k
+  nodes_once (d ∷ ds) a b (x, is, rest, more, same) (y, is', rest', more', same') =
+      let codes = code_once d.body x y is is' in
+      let later = nodes_once ds rest rest' more more' in
+      same ∙ ((λ i. record { name = d.name; body = code (codes i) } ∷ later i) ∙ sym same')
+
+  pub nodes_exclude : (ds a : List DeclTree) (f : InputFault) → IsSettled w f → AllFilled files ds a → FirstUnfilled files ds f → ⊥
+  nodes_exclude [] a f s h k = k
+  nodes_exclude (d ∷ ds) a f s (x, is, rest, more, same) (inl k) = code_excludes d.body x f s is k
+  nodes_exclude (d ∷ ds) a f s (x, is, rest, more, same) (inr (y, is', k)) = nodes_exclude ds rest f s more k
+
+  pub unfilled_once : (ds : List DeclTree) (f g : InputFault) → IsSettled w f → IsSettled w g → FirstUnfilled files ds f → FirstUnfilled files ds g → f ≡ g
+  unfilled_once [] f g s t h k = absurd h
+  unfilled_once (d ∷ ds) f g s t (inl h) (inl k) = code_fails_once d.body f g s t h k
+  unfilled_once (d ∷ ds) f g s t (inl h) (inr (y, is, k)) = absurd (code_excludes d.body y f s is h)
+  unfilled_once (d ∷ ds) f g s t (inr (x, is, h)) (inl k) = absurd (code_excludes d.body x g t is k)
+  unfilled_once (d ∷ ds) f g s t (inr (x, is, h)) (inr (y, is', k)) = unfilled_once ds f g s t h k
+
+  pub full_once : (j a b : JobTree) → IsFilled files j a → IsFilled files j b → a ≡ b
+  full_once j a b of_a of_b =
+      let nodes = nodes_once j.net.nodes a.net.nodes b.net.nodes of_a.nodes of_b.nodes in
+      let links = of_a.links ∙ sym of_b.links in
+      let injection = of_a.injection ∙ sym of_b.injection in
+      let asks = of_a.asks ∙ sym of_b.asks in
+      λ i. record { net = record { nodes = nodes i; links = links i }; injection = injection i; asks = asks i }
+
   -- ---- a job
 
   job_once : (name : List ℕ) (j k : JobTree) → HasJob files name j → HasJob files name k → j ≡ k
   job_once name j k (b, file, is) (c, file', is') =
       job_of_bytes c j k (subst (λ bs. IsOnlyJob bs j) (bytes_once FILE_LIMIT name b c file file') is) is'
 
-  filled_excludes : (name : List ℕ) (j : JobTree) (f : InputFault) → IsSettled w f → HasFilled files name j → JobFails files name f → ⊥
-  filled_excludes name j f s ((b, file, is), filled) (inl k) = loads FILE_LIMIT name b f file s k
-  filled_excludes name j f s ((b, file, is), filled) (inr (inl (c, file', k))) =
+  filled_once : (name : List ℕ) (a b : JobTree) → HasFilled files name a → HasFilled files name b → a ≡ b
+  filled_once name a b (j, has, is) (k, has', is') =
+      full_once k a b (subst (λ (x : JobTree). IsFilled files x a) (job_once name j k has has') is) is'
+
+  filled_excludes : (name : List ℕ) (full : JobTree) (f : InputFault) → IsSettled w f → HasFilled files name full → JobFails files name f → ⊥
+  filled_excludes name full f s (j, (b, file, is), filled) (inl k) = loads FILE_LIMIT name b f file s k
+  filled_excludes name full f s (j, (b, file, is), filled) (inr (inl (c, file', k))) =
       read_excludes w c j f s (subst (λ bs. IsOnlyJob bs j) (bytes_once FILE_LIMIT name b c file file') is) k
-  filled_excludes name j f s (has, filled) (inr (inr (k, has', fails))) =
-      tables_exclude k f (subst (λ (x : JobTree). is_filled x ≡ true) (job_once name j k has has') filled) fails
+  filled_excludes name full f s (j, has, filled) (inr (inr (k, has', fails))) =
+      nodes_exclude j.net.nodes full.net.nodes f s filled.nodes
+      (subst (λ (x : JobTree). FirstUnfilled files x.net.nodes f) (job_once name k j has' has) fails)
 
   job_fails_once : (name : List ℕ) (f g : InputFault) → IsSettled w f → IsSettled w g → JobFails files name f → JobFails files name g → f ≡ g
   job_fails_once name f g s t (inl h) (inl k) = load_once FILE_LIMIT name f g s t h k
@@ -169,7 +228,7 @@ module _ (w : World) where
   job_fails_once name f g s t (inr (inr (j, (b, file, is), h))) (inr (inl (c, file', k))) =
       absurd (read_excludes w b j g t is (subst (λ bs. ReadFails bs g) (bytes_once FILE_LIMIT name c b file' file) k))
   job_fails_once name f g s t (inr (inr (j, has, h))) (inr (inr (k, has', m))) =
-      tables_once k f g (subst (λ (x : JobTree). TablesFail x f) (job_once name j k has has') h) m
+      unfilled_once k.net.nodes f g s t (subst (λ (x : JobTree). FirstUnfilled files x.net.nodes f) (job_once name j k has has') h) m
 
   -- ---- its acceptance
 
@@ -204,7 +263,7 @@ module _ (w : World) where
   opens_once : (i : Input) (a b : Given) (finds : List ℕ → List ℕ → Bool) → w.finds ≡ Some finds → Opens (world w) tt i a tt → Opens (world w) tt i b tt → a ≡ b
   opens_once (a_file limit name) a b finds told (x, file, is, u) (y, file', is', v) = is ∙ (ap some_bytes (bytes_once limit name x y file file') ∙ sym is')
   opens_once (of_job name) a b finds told (j, has, net, i, taken, is) (k, has', other, e, taken', is') =
-      let jobs = job_once name j k has.0 has'.0 in
+      let jobs = filled_once name j k has has' in
       let (nets, entries) = taken_once k net other i e finds told (subst (λ (x : JobTree). (world w).takes tt x net i tt) jobs taken) taken' in
       is ∙ (same_given j k net other i e jobs nets entries ∙ sym is')
 
@@ -212,7 +271,7 @@ module _ (w : World) where
   opens_exclude (a_file limit name) a f s (x, file, is, u) k = loads limit name x f file s k.0
   opens_exclude (of_job name) a f s (j, has, net, i, taken, is) (inl k) = filled_excludes name j f s has k.0
   opens_exclude (of_job name) a f s (j, has, net, i, (sound, of_net, of_entry, found, good), is) (inr (other, has', k)) =
-      let same = job_once name j other has.0 has'.0 in
+      let same = filled_once name j other has has' in
       accept_excludes other f s (subst IsSound same sound) (subst (λ (x : JobTree). ForSome w.is_bad (λ b. first_bad b x ≡ None)) same good) k
 
   fails_once : (i : Input) (f g : InputFault) → IsSettled w f → IsSettled w g → Fails (world w) tt i f tt → Fails (world w) tt i g tt → f ≡ g
@@ -221,7 +280,7 @@ module _ (w : World) where
   fails_once (of_job name) f g s t (inl h) (inr (j, has, k)) = absurd (filled_excludes name j f s has h.0)
   fails_once (of_job name) f g s t (inr (j, has, h)) (inl k) = absurd (filled_excludes name j g t has k.0)
   fails_once (of_job name) f g s t (inr (j, has, h)) (inr (other, has', k)) =
-      accept_once other f g s t (subst (λ (x : JobTree). AcceptFails (world w).refuses tt x f tt) (job_once name j other has.0 has'.0) h) k
+      accept_once other f g s t (subst (λ (x : JobTree). AcceptFails (world w).refuses tt x f tt) (filled_once name j other has has') h) k
 
   -- all inputs are good in one way, and then none is refused
   pub all_once : (is : List Input) (a b : List Given) (finds : List ℕ → List ℕ → Bool) → w.finds ≡ Some finds → AllOpen (world w) tt is a tt → AllOpen (world w) tt is b tt → a ≡ b

@@ -1,9 +1,8 @@
 -- A job that is read and accepted, and why it is not.
-use Rattle.std.specs.Prelude.{ℕ, ◌≡◌, ◌⊎◌, Bool, true, false, List, Option, None, Some}
+use Rattle.std.specs.Prelude.{ℕ, ◌≡◌, ◌⊎◌, Bool, List, Option, None, Some}
 use Rattle.std.specs.Option.{ForSome}
 use Rattle.sn_width.specs.declared.ids.Site.{Site}
 use Rattle.sn_edge.specs.declared.patterns.Found.{Found}
-use Rattle.sefl_syntax.specs.Filled.{is_filled}
 use Rattle.sefl_syntax.specs.Trees.{JobTree}
 use Rattle.sefl_reader.specs.Outcome.{Outcome, a_job, IsOutcome}
 use Rattle.job_items.specs.Rules.{refusal}
@@ -17,9 +16,10 @@ use Rattle.net_check.specs.Sound.{IsSound, IsNetOf, IsEntryOf}
 use Rattle.run_answers.specs.Files.{Files, HasFile, LoadFails}
 use Rattle.run_answers.specs.Flaws.{HasFlaw, flaw_of, Flaw}
 use Rattle.run_answers.specs.Refusals.{rule_number}
+use Rattle.run_answers.specs.Tables.{FirstUnfilled, IsFilled}
 use Rattle.run_answers.specs.declared.limits.TheConstants.{FILE_LIMIT}
 use Rattle.run_answers.specs.declared.fault.InputFault.{InputFault}
-use Rattle.run_answers.specs.declared.fault.InputFault.TheVariants.{Syntax, BadPattern, Refused, NotBuilt, NoMemory}
+use Rattle.run_answers.specs.declared.fault.InputFault.TheVariants.{Syntax, BadPattern, Refused, NoMemory}
 
 -- ---- the job's text
 
@@ -43,26 +43,21 @@ ReadFails bytes (Syntax line column kind) = IsOnlyFlaw bytes (record { line = li
 ReadFails bytes NoMemory = Unit {0}
 ReadFails bytes _ = ⊥
 
--- why the tables of a job are not read: none is read yet
-abbrev pub TablesFail : JobTree → InputFault → Type 0
-TablesFail j NotBuilt = is_filled j ≡ false
-TablesFail j _ = ⊥
-
 module _ (files : Files) where
   -- the file under the name has a text of the job
   abbrev pub HasJob : List ℕ → JobTree → Type 0
   HasJob name j = (bytes : List ℕ) × HasFile files FILE_LIMIT name bytes × IsOnlyJob bytes j
 
-  -- and the job has no tables
+  -- and with code for its tables the job is this
   abbrev pub HasFilled : List ℕ → JobTree → Type 0
-  HasFilled name j = HasJob name j × (is_filled j ≡ true)
+  HasFilled name full = (j : JobTree) × HasJob name j × IsFilled files j full
 
-  -- there is no such job: for the file, its text, or the tables
+  -- there is no such job: for the file, its text, or the first of its tables that has no node
   abbrev pub JobFails : List ℕ → InputFault → Type 0
   JobFails name fault =
       LoadFails files FILE_LIMIT name fault
       ⊎ (((bytes : List ℕ) × HasFile files FILE_LIMIT name bytes × ReadFails bytes fault)
-      ⊎ ((j : JobTree) × HasJob name j × TablesFail j fault))
+      ⊎ ((j : JobTree) × HasJob name j × FirstUnfilled files j.net.nodes fault))
 
 -- ---- acceptance
 
@@ -97,7 +92,7 @@ module _ {S : Type 0} (step : S → List ℕ → List ℕ → Found → S → Ty
 abbrev pub IsRefusedAt : JobTree → Site → ℕ → Type 0
 IsRefusedAt j site kind = (rule : Rule) × (refusal j ≡ Some (site.0, rule)) × (rule_number rule ≡ Some kind)
 
--- why a job without tables is not accepted, by what refuses its patterns
+-- why a job whose nodes have code is not accepted, by what refuses its patterns
 abbrev pub AcceptFails : {S : Type 0} → (S → JobTree → Site → S → Type 0) → S → JobTree → InputFault → S → Type 0
 AcceptFails refuses u j (Refused site kind) v = IsRefusedAt j site kind × (v ≡ u)
 AcceptFails refuses u j (BadPattern site) v = refuses u j site v

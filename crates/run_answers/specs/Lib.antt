@@ -1,6 +1,7 @@
 pub mod Files
 pub mod Flaws
 pub mod Refusals
+pub mod Tables
 pub mod Jobs
 pub mod Outside
 pub mod Inputs

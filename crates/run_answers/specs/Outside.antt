@@ -10,8 +10,8 @@ use Rattle.net_check.specs.Sound.{IsSound, IsNetOf, IsEntryOf}
 use Rattle.run_answers.specs.Files.{Files}
 use Rattle.run_answers.specs.Jobs.{IsTaken, IsBadAt, ListsFound, first_bad}
 
--- the folder's files, where it tells them; that a job without tables is accepted as a net and an injection, or its pattern at
--- a site is refused, the patterns going from state to state
+-- the folder's files, where it tells them; that a job whose nodes have code is accepted as a net and an injection, or its
+-- pattern at a site is refused, the patterns going from state to state
 pub record Outside (S : Type 0) : Type 1 where
   pub files : Files
   pub takes : S → JobTree → Network → Entry → S → Type 0

@@ -1,12 +1,14 @@
--- How a refusal tells the rule that a job breaks.
-use Rattle.std.specs.Prelude.{ℕ, Option, None, Some}
+-- How a refusal tells the rule that a job or a table breaks.
+use Rattle.std.specs.Prelude.{ℕ, List, Option, None, Some}
 use Rattle.sn_width.specs.declared.ids.Site.{Site}
 use Rattle.job_items.specs.declared.rule.Rule.{Rule}
 use Rattle.job_items.specs.declared.rule.Rule.TheVariants.{TwiceNode, NoNode, PortRange, TwoLinks, TwiceCode, WidthMismatch, TooWide, Unbound, OutForward, EmptyFork, BadRanges, Overlap, Limit, NestedFor, BadAddress, BadPattern}
 use Rattle.net_check.specs.declared.fault.AcceptFault.{AcceptFault}
 use Rattle.net_check.specs.declared.fault.AcceptFault.TheVariants.{Refused as RefusedBy, NoMemory as OutOfMemory}
+use Rattle.table_files.specs.declared.node.FileFault.{FileFault}
+use Rattle.table_files.specs.declared.node.FileFault.TheVariants.{Bad, NoMemory as NoNode}
 use Rattle.run_answers.specs.declared.fault.InputFault.{InputFault}
-use Rattle.run_answers.specs.declared.fault.InputFault.TheVariants.{NoMemory, BadPattern as BadPatternAt, Refused}
+use Rattle.run_answers.specs.declared.fault.InputFault.TheVariants.{NoMemory, BadPattern as BadPatternAt, BadTable, Refused}
 
 -- the number of a rule that looks at the job alone; bad patterns have a refusal of their own
 abbrev pub rule_number : Rule → Option ℕ
@@ -39,3 +41,8 @@ fault_by_rule site rule = fault_by_number site (rule_number rule)
 abbrev pub fault_of_refusal : AcceptFault → InputFault
 fault_of_refusal (RefusedBy site rule) = fault_by_rule site rule
 fault_of_refusal OutOfMemory = NoMemory
+
+-- the refusal that tells why the file under the name gives no node
+abbrev pub fault_of_table : List ℕ → FileFault → InputFault
+fault_of_table name (Bad line rule) = BadTable name line rule
+fault_of_table name NoNode = NoMemory

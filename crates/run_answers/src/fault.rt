@@ -13,22 +13,21 @@ pub enum InputFault {
     /// The file is the text of no job. The kind is 1 for bytes that are no text, 2 to 4 for a bad character, a bad
     /// number and an open text, 5 for what no job has there, and 6, with column 1, for too many constructs open at once.
     Syntax { line: u64, column: u64, kind: u8 },
-    /// The line of a table's file breaks the rule of this kind.
+    /// The line of the file of one of the job's tables is the first that breaks a rule. The kind is 1 for a line that is no
+    /// row, 2 for a row that an earlier one contradicts, and 3 for the first row past the limit.
     BadTable { name: Text, line: u64, kind: u8 },
     /// The pattern of the For at the site is refused, and no rule is broken.
     BadPattern { site: Site },
     /// The item at the site is the first in the text that breaks a rule, and the kind is the number of the first rule
     /// that it breaks, 1 to 15.
     Refused { site: Site, kind: u8 },
-    /// The job has tables, which are not read yet.
-    NotBuilt,
     NoMemory,
 }
 
 /// Why the own work of a command gives no text, though all inputs are good.
 #[derive(Drop)]
 pub enum OwnFault {
-    /// The line of the file breaks the rule of this kind.
+    /// The line of the file is the first that breaks a rule, whose kind is that of a job's table.
     BadTable { name: Text, line: u64, kind: u8 },
     /// The packet does not start: the kind is 1 for too few numbers, 2 for one that is too wide, and 3 for a test of
     /// the injection that is not true; 4 where the packet's file is no list of numbers.

@@ -9,10 +9,12 @@ ghost use Rattle.sefl_reader.specs.Outcome.{IsSpellable};
 ghost use Rattle.run_answers.specs.Inputs.{AllOpen, FirstFails, Given, Input, IsSettled};
 ghost use Rattle.run_answers.specs.Jobs.{IsRefusedAt, IsTextOf};
 ghost use Rattle.run_answers.specs.Outside.{World, world};
+ghost use Rattle.run_answers.specs.Tables.{FirstUnfilled, IsFilled};
 ghost use Rattle.run_answers.specs.declared.fault.InputFault.{InputFault};
 ghost use Rattle.run_answers.specs.declared.fault.InputFault.TheVariants.{Refused};
 
 use sefl_grammar::laws::canonical_text_is_read;
+use table_files::laws::files_have_one_node;
 
 /// The canonical text of a job that can be spelled with at most 64 constructs open at once is a text of that job.
 pub fn canonical_texts_are_read()
@@ -36,4 +38,18 @@ pub fn worlds_decide()
         → AllOpen (world w) tt is given tt → FirstFails (world w) tt is f tt → ⊥ }
     ensures all { (w : World) (is : List Input) (a b : List Given) (finds : List ℕ → List ℕ → Bool) → w.finds ≡ Some finds
         → AllOpen (world w) tt is a tt → AllOpen (world w) tt is b tt → a ≡ b }
-{}
+{
+    files_have_one_node();
+}
+
+/// In a world the tables of a job are filled in one way, or the first that has no node has none for one cause, where the world
+/// decides it, and not both.
+pub fn jobs_are_filled_once()
+    ensures full { (w : World) (j a b : JobTree) → IsFilled (Some w.at) j a → IsFilled (Some w.at) j b → a ≡ b }
+    ensures excludes { (w : World) (j full : JobTree) (f : InputFault) → IsSettled w f → IsFilled (Some w.at) j full
+        → FirstUnfilled (Some w.at) j.net.nodes f → ⊥ }
+    ensures first { (w : World) (j : JobTree) (f g : InputFault) → IsSettled w f → IsSettled w g
+        → FirstUnfilled (Some w.at) j.net.nodes f → FirstUnfilled (Some w.at) j.net.nodes g → f ≡ g }
+{
+    files_have_one_node();
+}

@@ -1,11 +1,9 @@
 -- How far a run got in a world: with what is under the name of the job.
-use Rattle.std.proofs.Common.{◌≡◌, ◌⊎◌, inl, inr, refl, sym, ap, subst, ◌∙◌, ℕ, ◌<◌, ◌≤◌, List, [], ◌∷◌, length, Bool, Option, None, Some, true, false, arith}
-use Rattle.std.proofs.lemmas.Bool.{true≢false}
+use Rattle.std.proofs.Common.{◌≡◌, ◌⊎◌, inl, inr, refl, sym, ap, subst, ◌∙◌, ℕ, ◌<◌, ◌≤◌, List, [], ◌∷◌, length, Bool, Option, None, Some, arith}
 use Rattle.std.proofs.lemmas.Option.{none-some, same_Some}
 use Rattle.std.specs.Prelude.{IsSomeAnd}
 use Rattle.sn_width.specs.declared.ids.Site.{Site}
-use Rattle.sefl_syntax.specs.Filled.{is_filled}
-use Rattle.sefl_syntax.specs.Trees.{AskTree, JobTree}
+use Rattle.sefl_syntax.specs.Trees.{AskTree, BodyTree, code, table, DeclTree, JobTree}
 use Rattle.sefl_reader.specs.Outcome.{Outcome as OutcomeOf, a_job as job_outcome, IsOutcome}
 use Rattle.job_items.specs.Rules.{refusal}
 use Rattle.job_items.specs.declared.rule.Rule.{Rule}
@@ -14,22 +12,24 @@ use Rattle.net_check.specs.Sound.{IsSound}
 use Rattle.run_answers.specs.Files.{HasFile, LoadFails}
 use Rattle.run_answers.specs.Flaws.{Flaw, HasFlaw, flaw_of}
 use Rattle.run_answers.specs.Refusals.{fault_by_number, fault_by_rule}
-use Rattle.run_answers.specs.Jobs.{AcceptFails, HasFilled, HasJob, IsOnlyFlaw, IsOnlyJob, IsRefusedAt, IsTextOf, ReadFails, TablesFail, first_bad}
+use Rattle.run_answers.specs.Jobs.{AcceptFails, HasJob, IsOnlyFlaw, IsOnlyJob, IsRefusedAt, IsTextOf, ReadFails, first_bad}
 use Rattle.run_answers.specs.Outside.{World, world}
-use Rattle.run_answers.specs.Inputs.{Input, Given, a_job, a_file, a_net, AllOpen, FirstFails, Opens, Fails}
+use Rattle.run_answers.specs.Inputs.{Input, Given, a_job, a_net, AllOpen, FirstFails, IsSettled, Opens, Fails}
 use Rattle.run_answers.specs.Runs.{OwnWork, Outcome, text, refused}
-use Rattle.run_answers.specs.declared.limits.TheConstants.{FILE_LIMIT, HOPS, LIMIT}
+use Rattle.run_answers.specs.Tables.{CodeFails, FirstUnfilled, IsFilled}
+use Rattle.run_answers.specs.declared.limits.TheConstants.{FILE_LIMIT}
 use Rattle.run_answers.specs.declared.ending.Ending.TheVariants as ending
 use Rattle.run_answers.specs.declared.fault.InputFault.{InputFault}
 use Rattle.run_answers.specs.declared.fault.InputFault.TheVariants as input
 use Rattle.run_answers.specs.declared.fault.OwnFault.TheVariants as working
 use Rattle.explore_command.specs.Explores.{ReportsOf}
-use Rattle.symnet_program.specs.Commands.{work}
+use Rattle.symnet_program.specs.Commands.{inputs, sides_of, work}
 use Rattle.symnet_program.specs.Program.{Cause, Comes, IsCaused}
 use Rattle.symnet_program.specs.Status.{IsStopped, IsWritten, MayBeBad, input_status, outcome_status}
-use Rattle.symnet_program.specs.Words.{Command, explore, walk, job_name}
+use Rattle.command_words.specs.Commands.{Command, explore}
+use Rattle.command_words.specs.declared.command.Pruned.{Pruned}
 use Rattle.symnet_program.specs.declared.status.Status.{Status}
-use Rattle.symnet_program.specs.declared.status.Status.TheVariants.{Done, NoMemory, Usage, NoFile, ReadFault, WriteFault, TooBig, Syntax, BadPattern, Refused, BadTable, BadPacket, Partial, TooMany, BadReport, NotConfirmed, BadAsk, NotBuilt, BadCompare}
+use Rattle.symnet_program.specs.declared.status.Status.TheVariants.{Done, NoMemory, Usage, NoFile, ReadFault, WriteFault, TooBig, Syntax, BadPattern, Refused, BadTable, BadPacket, Partial, TooMany, BadReport, NotConfirmed, BadAsk, BadCompare}
 
 some_and : {T : Type 0} (o : Option T) (P : T → Type 0) → IsSomeAnd o P → (x : T) × (o ≡ Some x) × P x
 some_and None P h = absurd h
@@ -43,6 +43,34 @@ abbrev tree_or : OutcomeOf → JobTree → JobTree
 tree_or (job_outcome j) other = j
 tree_or _ other = other
 
+-- the files of tables are refused for what a world decides, or the run was stopped
+no_pattern : (p : World) (ds : List DeclTree) (site : Site) → FirstUnfilled (Some p.at) ds (input.BadPattern site) → ⊥
+no_pattern p [] site h = h
+no_pattern p (d ∷ ds) site (inl h) = by d.body h
+  where
+    by : (body : BodyTree) → CodeFails (Some p.at) body (input.BadPattern site) → ⊥
+    by (code own) h = h
+    by (table kind name style) (inl h) = h
+    by (table kind name style) (inr (bytes, has, h)) = h
+no_pattern p (d ∷ ds) site (inr (node, is, h)) = no_pattern p ds site h
+
+settled_or : (p : World) (ds : List DeclTree) (fault : InputFault) → FirstUnfilled (Some p.at) ds fault → IsSettled p fault ⊎ IsStopped (input_status fault)
+settled_or p ds (input.ReadFault own) h = inr tt
+settled_or p ds input.NoMemory h = inr tt
+settled_or p ds (input.BadPattern site) h = absurd (no_pattern p ds site h)
+settled_or p ds (input.NoFile own) h = inl tt
+settled_or p ds (input.TooBig own) h = inl tt
+settled_or p ds (input.Syntax line column kind) h = inl tt
+settled_or p ds (input.BadTable own line kind) h = inl tt
+settled_or p ds (input.Refused site kind) h = inl tt
+
+-- the tables of a job are filled in one way, or not for one cause
+pub record FilledOnce (p : World) : Type 0 where
+  pub full : (j a b : JobTree) → IsFilled (Some p.at) j a → IsFilled (Some p.at) j b → a ≡ b
+  pub excludes : (j full : JobTree) (f : InputFault) → IsSettled p f → IsFilled (Some p.at) j full → FirstUnfilled (Some p.at) j.net.nodes f → ⊥
+  pub first : (j : JobTree) (f g : InputFault) → IsSettled p f → IsSettled p g → FirstUnfilled (Some p.at) j.net.nodes f → FirstUnfilled (Some p.at) j.net.nodes g
+      → f ≡ g
+
 module _ (p : World) (name : List ℕ) (rest : List Input) (w : OwnWork) where
   -- behind the job, which gave this: the run was stopped; or the inputs were good, and the own work came to an outcome; or an
   -- input is refused
@@ -54,10 +82,11 @@ module _ (p : World) (name : List ℕ) (rest : List Input) (w : OwnWork) where
 
   -- with a job
   pub data JobCase (j : JobTree) (status : Status) : Type 0 where
-    has_tables : is_filled j ≡ false → status ≡ NotBuilt → JobCase j status
-    breaks_rule : (site : Site) (kind : ℕ) → is_filled j ≡ true → IsRefusedAt j site kind → status ≡ Refused site kind → JobCase j status
-    has_bad : (site : Site) → is_filled j ≡ true → (world p).refuses tt j site tt → status ≡ BadPattern site → JobCase j status
-    is_taken : (net : Network) (i : Entry) → HasFilled (Some p.at) name j → (world p).takes tt j net i tt → Behind (a_net net i j.asks) status → JobCase j status
+    is_unfilled : (fault : InputFault) → IsSettled p fault → FirstUnfilled (Some p.at) j.net.nodes fault → status ≡ input_status fault → JobCase j status
+    breaks_rule : (full : JobTree) (site : Site) (kind : ℕ) → IsFilled (Some p.at) j full → IsRefusedAt full site kind → status ≡ Refused site kind → JobCase j status
+    has_bad : (full : JobTree) (site : Site) → IsFilled (Some p.at) j full → (world p).refuses tt full site tt → status ≡ BadPattern site → JobCase j status
+    is_taken : (full : JobTree) (net : Network) (i : Entry) → HasJob (Some p.at) name j → IsFilled (Some p.at) j full → (world p).takes tt full net i tt
+        → Behind (a_net net i full.asks) status → JobCase j status
 
   -- with what is under the name
   pub data FileCase (status : Status) : Type 0 where
@@ -86,26 +115,29 @@ module _ (p : World) (name : List ℕ) (rest : List Input) (w : OwnWork) where
   with_job : (status : Status) (j : JobTree) → HasJob (Some p.at) name j → JobCase j status → FileCase status
   with_job status j (bytes, has, only) h = has_job bytes j (has.1 p.at refl) has.0 only h
 
-  of_tables : (fault : InputFault) (j : JobTree) → HasJob (Some p.at) name j → TablesFail j fault → FileCase (input_status fault)
-  of_tables input.NotBuilt j has h = with_job NotBuilt j has (has_tables h refl)
-  of_tables fault j has h = absurd h
+  of_tables : (fault : InputFault) (j : JobTree) → HasJob (Some p.at) name j → FirstUnfilled (Some p.at) j.net.nodes fault → FileCase (input_status fault)
+  of_tables fault j has h = by (settled_or p j.net.nodes fault h)
+    where
+      by : IsSettled p fault ⊎ IsStopped (input_status fault) → FileCase (input_status fault)
+      by (inl settled) = with_job (input_status fault) j has (is_unfilled fault settled h refl)
+      by (inr stopped) = is_stopped stopped
 
-  of_accept : (fault : InputFault) (j : JobTree) → HasJob (Some p.at) name j → is_filled j ≡ true → AcceptFails (world p).refuses tt j fault tt
+  of_accept : (fault : InputFault) (j full : JobTree) → HasJob (Some p.at) name j → IsFilled (Some p.at) j full → AcceptFails (world p).refuses tt full fault tt
       → FileCase (input_status fault)
-  of_accept (input.Refused site kind) j has filled h = with_job (Refused site kind) j has (breaks_rule site kind filled h.0 refl)
-  of_accept (input.BadPattern site) j has filled h = with_job (BadPattern site) j has (has_bad site filled h refl)
-  of_accept input.NoMemory j has filled h = is_stopped tt
-  of_accept fault j has filled h = absurd h
+  of_accept (input.Refused site kind) j full has filled h = with_job (Refused site kind) j has (breaks_rule full site kind filled h.0 refl)
+  of_accept (input.BadPattern site) j full has filled h = with_job (BadPattern site) j has (has_bad full site filled h refl)
+  of_accept input.NoMemory j full has filled h = is_stopped tt
+  of_accept fault j full has filled h = absurd h
 
   of_fault : (fault : InputFault) → Fails (world p) tt (a_job name) fault tt → FileCase (input_status fault)
   of_fault fault (inl (inl load, same)) = of_load fault load
   of_fault fault (inl (inr (inl (bytes, has, reads)), same)) = of_text fault bytes has reads
   of_fault fault (inl (inr (inr (j, has, tables)), same)) = of_tables fault j has tables
-  of_fault fault (inr (j, (has, filled), accept)) = of_accept fault j has filled accept
+  of_fault fault (inr (full, (j, has, filled), accept)) = of_accept fault j full has filled accept
 
   of_opens : (status : Status) (g : Given) → Opens (world p) tt (a_job name) g tt → Behind g status → FileCase status
-  of_opens status g (j, (has, filled), net, i, taken, is) behind =
-      with_job status j has (is_taken net i (has, filled) taken (subst (λ x. Behind x status) is behind))
+  of_opens status g (full, (j, has, filled), net, i, taken, is) behind =
+      with_job status j has (is_taken full net i has filled taken (subst (λ x. Behind x status) is behind))
 
   stops : (fault : InputFault) → FirstFails (world p) tt (a_job name ∷ rest) fault tt → FileCase (input_status fault)
   stops fault (inl h) = of_fault fault h
@@ -134,20 +166,13 @@ module _ (p : World) (name : List ℕ) (rest : List Input) (w : OwnWork) where
   of_cause (BadReport kind pointer) h = comes (refused (working.BadReport kind pointer)) h
   of_cause (NotConfirmed number kind) h = comes (refused (working.NotConfirmed number kind)) h
   of_cause (BadAsk number kind) h = comes (refused (working.BadAsk number kind)) h
-  of_cause NotBuilt h = stops input.NotBuilt h
   of_cause (BadCompare kind one other) h = comes (refused (working.BadCompare kind one other)) h
 
--- what a command reads behind its job
-abbrev pub others_of : Command → List Input
-others_of (explore job) = []
-others_of (walk job packet) = a_file FILE_LIMIT packet ∷ []
-
-abbrev pub CommandCase : World → Command → Status → Type 0
-CommandCase p command = FileCase p (job_name command) (others_of command) (work command)
-
-pub case_of : (p : World) (command : Command) (status : Status) → IsCaused (world p) tt tt (Some command) status → CommandCase p command status
-case_of p (explore job) status h = of_cause p job [] (work (explore job)) status h
-case_of p (walk job packet) status h = of_cause p job (a_file FILE_LIMIT packet ∷ []) (work (walk job packet)) status h
+-- of a command that reads a job first
+pub case_of : (p : World) (command : Command) (job : List ℕ) (others : List Input) → inputs command ≡ a_job job ∷ others
+    → (status : Status) → IsCaused (world p) tt tt (Some command) status → FileCase p job others (work command) status
+case_of p command job others reads status h =
+    of_cause p job others (work command) status (subst (λ is. Cause (world p) tt tt is (work command) status) reads h)
 
 -- ---- what is told
 
@@ -201,12 +226,15 @@ module _ (p : World) (name : List ℕ) (rest : List Input) (w : OwnWork) (status
         let one : j ≡ k = ap (λ o. tree_or o j) (only.only (job_outcome j) (subst (IsTextOf j) (same_bytes own has) spells)) in
         inl (subst (λ t. JobCase p name rest w t status) (sym one) h)
 
-  pub tables_in : (j : JobTree) → is_filled j ≡ false → JobCase p name rest w j status ⊎ IsStopped status → (status ≡ NotBuilt) ⊎ IsStopped status
-  tables_in j tables (inr h) = inr h
-  tables_in j tables (inl (has_tables own is)) = inl is
-  tables_in j tables (inl (breaks_rule site kind filled breaks is)) = absurd (true≢false (sym filled ∙ tables))
-  tables_in j tables (inl (has_bad site filled refuses is)) = absurd (true≢false (sym filled ∙ tables))
-  tables_in j tables (inl (is_taken net i has taken behind)) = absurd (true≢false (sym has.1 ∙ tables))
+  module _ (once : FilledOnce p) where
+    pub tables_in : (j : JobTree) (fault : InputFault) → FirstUnfilled (Some p.at) j.net.nodes fault → IsSettled p fault → JobCase p name rest w j status ⊎ IsStopped status
+        → (status ≡ input_status fault) ⊎ IsStopped status
+    tables_in j fault fails settled (inr h) = inr h
+    tables_in j fault fails settled (inl (is_unfilled own own_settled own_fails is)) =
+        inl (is ∙ ap input_status (once.first j own fault own_settled settled own_fails fails))
+    tables_in j fault fails settled (inl (breaks_rule full site kind filled breaks is)) = absurd (once.excludes j full fault settled filled fails)
+    tables_in j fault fails settled (inl (has_bad full site filled refuses is)) = absurd (once.excludes j full fault settled filled fails)
+    tables_in j fault fails settled (inl (is_taken full net i has filled taken behind)) = absurd (once.excludes j full fault settled filled fails)
 
   -- the first rule that is broken tells its number
   by_rule : (j : JobTree) (site own : Site) (rule : Rule) (kind : ℕ) → refusal j ≡ Some (site.0, rule) → IsRefusedAt j own kind
@@ -218,47 +246,58 @@ module _ (p : World) (name : List ℕ) (rest : List Input) (w : OwnWork) (status
   sound_or_broken : (j : JobTree) (site : Site) (rule : Rule) → IsSound j → refusal j ≡ Some (site.0, rule) → ⊥
   sound_or_broken j site rule sound breaks = none-some (site.0, rule) (sym sound ∙ breaks)
 
-  pub refused_in : (j : JobTree) (site : Site) (rule : Rule) → is_filled j ≡ true → refusal j ≡ Some (site.0, rule)
-      → JobCase p name rest w j status ⊎ IsStopped status → (status ≡ input_status (fault_by_rule site rule)) ⊎ IsStopped status
-  refused_in j site rule filled breaks (inr h) = inr h
-  refused_in j site rule filled breaks (inl (has_tables tables is)) = absurd (true≢false (sym filled ∙ tables))
-  refused_in j site rule filled breaks (inl (breaks_rule own kind own_filled own_breaks is)) = inl (is ∙ by_rule j site own rule kind breaks own_breaks)
-  refused_in j site rule filled breaks (inl (has_bad own own_filled refuses is)) = absurd (sound_or_broken j site rule refuses.0 breaks)
-  refused_in j site rule filled breaks (inl (is_taken net i has taken behind)) = absurd (sound_or_broken j site rule taken.0 breaks)
+  module _ (once : FilledOnce p) (j full : JobTree) (filled : IsFilled (Some p.at) j full) where
+    pub refused_in : (site : Site) (rule : Rule) → refusal full ≡ Some (site.0, rule)
+        → JobCase p name rest w j status ⊎ IsStopped status → (status ≡ input_status (fault_by_rule site rule)) ⊎ IsStopped status
+    refused_in site rule breaks (inr h) = inr h
+    refused_in site rule breaks (inl (is_unfilled fault settled fails is)) = absurd (once.excludes j full fault settled filled fails)
+    refused_in site rule breaks (inl (breaks_rule own at kind own_filled own_breaks is)) =
+        inl (is ∙ by_rule full site at rule kind breaks (subst (λ (t : JobTree). IsRefusedAt t at kind) (once.full j own full own_filled filled) own_breaks))
+    refused_in site rule breaks (inl (has_bad own at own_filled refuses is)) =
+        absurd (sound_or_broken full site rule (subst IsSound (once.full j own full own_filled filled) refuses.0) breaks)
+    refused_in site rule breaks (inl (is_taken own net i has own_filled taken behind)) =
+        absurd (sound_or_broken full site rule (subst IsSound (once.full j own full own_filled filled) taken.0) breaks)
 
-  pub bad_in : (j : JobTree) (site : Site) (is_bad : List ℕ → Bool) → is_filled j ≡ true → IsSound j → p.is_bad ≡ Some is_bad → first_bad is_bad j ≡ Some site.0
-      → JobCase p name rest w j status ⊎ IsStopped status → (status ≡ BadPattern site) ⊎ IsStopped status
-  bad_in j site is_bad filled sound tells first (inr h) = inr h
-  bad_in j site is_bad filled sound tells first (inl (has_tables tables is)) = absurd (true≢false (sym filled ∙ tables))
-  bad_in j site is_bad filled sound tells first (inl (breaks_rule own kind own_filled breaks is)) = absurd (sound_or_refused j own kind sound breaks)
-  bad_in j site is_bad filled sound tells first (inl (has_bad own own_filled refuses is)) =
-      let same : own.0 ≡ site.0 = same_Some own.0 site.0 (sym (refuses.1 is_bad tells) ∙ first) in
-      inl (is ∙ (λ k. BadPattern (record { 0 = same k })))
-  bad_in j site is_bad filled sound tells first (inl (is_taken net i has taken behind)) = absurd (none-some site.0 (sym (taken.4 is_bad tells) ∙ first))
+    pub bad_in : (site : Site) (is_bad : List ℕ → Bool) → IsSound full → p.is_bad ≡ Some is_bad → first_bad is_bad full ≡ Some site.0
+        → JobCase p name rest w j status ⊎ IsStopped status → (status ≡ BadPattern site) ⊎ IsStopped status
+    bad_in site is_bad sound tells first (inr h) = inr h
+    bad_in site is_bad sound tells first (inl (is_unfilled fault settled fails is)) = absurd (once.excludes j full fault settled filled fails)
+    bad_in site is_bad sound tells first (inl (breaks_rule own at kind own_filled breaks is)) =
+        absurd (sound_or_refused own at kind (subst IsSound (sym (once.full j own full own_filled filled)) sound) breaks)
+    bad_in site is_bad sound tells first (inl (has_bad own at own_filled refuses is)) =
+        let is_first : first_bad is_bad full ≡ Some at.0 =
+        subst (λ (t : JobTree). first_bad is_bad t ≡ Some at.0) (once.full j own full own_filled filled) (refuses.1 is_bad tells) in
+        let same : at.0 ≡ site.0 = same_Some at.0 site.0 (sym is_first ∙ first) in
+        inl (is ∙ (λ k. BadPattern (record { 0 = same k })))
+    bad_in site is_bad sound tells first (inl (is_taken own net i has own_filled taken behind)) =
+        let none : first_bad is_bad full ≡ None =
+        subst (λ (t : JobTree). first_bad is_bad t ≡ None) (once.full j own full own_filled filled) (taken.4 is_bad tells) in
+        absurd (none-some site.0 (sym none ∙ first))
 
 -- ---- of a job that is explored
 
-module _ (p : World) (name : List ℕ) (status : Status) where
+module _ (p : World) (name : List ℕ) (hops limit : ℕ) (pruned : Pruned) (status : Status) where
   abbrev pub Explored : JobTree → Type 0
-  Explored j = JobCase p name [] (work (explore name)) j status
+  Explored j = JobCase p name [] (work (explore name hops limit pruned)) j status
 
   reported : (net : Network) (i : Entry) (asks : List AskTree) (given : List Given) (outcome : Outcome) → given ≡ []
-      → (work (explore name)).comes (a_net net i asks ∷ given) outcome → ReportsOf HOPS LIMIT net i outcome
-  reported net i asks given outcome none h = subst (λ gs. (work (explore name)).comes (a_net net i asks ∷ gs) outcome) none h
+      → (work (explore name hops limit pruned)).comes (a_net net i asks ∷ given) outcome → ReportsOf hops limit (sides_of pruned) net i outcome
+  reported net i asks given outcome none h = subst (λ gs. (work (explore name hops limit pruned)).comes (a_net net i asks ∷ gs) outcome) none h
 
   -- each outcome is a text
-  written : (net : Network) (i : Entry) (outcome : Outcome) → status ≡ outcome_status outcome → ReportsOf HOPS LIMIT net i outcome → IsWritten status
+  written : (net : Network) (i : Entry) (outcome : Outcome) → status ≡ outcome_status outcome → ReportsOf hops limit (sides_of pruned) net i outcome → IsWritten status
   written net i (text ending.Done whole) is h = inl is
   written net i (text ending.Partial whole) is h = inr is
   written net i (refused fault) is h = absurd h
 
-  -- of a job without tables that breaks no rule
-  pub explored_in : (j : JobTree) → is_filled j ≡ true → IsSound j → Explored j ⊎ IsStopped status → IsWritten status ⊎ MayBeBad status
-  explored_in j filled sound (inr h) = inr (inl h)
-  explored_in j filled sound (inl (has_tables tables is)) = absurd (true≢false (sym filled ∙ tables))
-  explored_in j filled sound (inl (breaks_rule own kind own_filled breaks is)) = absurd (sound_or_refused j own kind sound breaks)
-  explored_in j filled sound (inl (has_bad own own_filled refuses is)) = inr (inr (own, is))
-  explored_in j filled sound (inl (is_taken net i has taken (inl h))) = inr (inl h)
-  explored_in j filled sound (inl (is_taken net i has taken (inr (inl (outcome, given, opened, h, is))))) =
-      inl (written net i outcome is (reported net i j.asks given outcome opened.0 h))
-  explored_in j filled sound (inl (is_taken net i has taken (inr (inr (fault, h, is))))) = absurd h
+  -- of a job that with code for its tables breaks no rule
+  pub explored_in : FilledOnce p → (j full : JobTree) → IsFilled (Some p.at) j full → IsSound full → Explored j ⊎ IsStopped status → IsWritten status ⊎ MayBeBad status
+  explored_in once j full filled sound (inr h) = inr (inl h)
+  explored_in once j full filled sound (inl (is_unfilled fault settled fails is)) = absurd (once.excludes j full fault settled filled fails)
+  explored_in once j full filled sound (inl (breaks_rule own at kind own_filled breaks is)) =
+      absurd (sound_or_refused own at kind (subst IsSound (sym (once.full j own full own_filled filled)) sound) breaks)
+  explored_in once j full filled sound (inl (has_bad own at own_filled refuses is)) = inr (inr (at, is))
+  explored_in once j full filled sound (inl (is_taken own net i has own_filled taken (inl h))) = inr (inl h)
+  explored_in once j full filled sound (inl (is_taken own net i has own_filled taken (inr (inl (outcome, given, opened, h, is))))) =
+      inl (written net i outcome is (reported net i own.asks given outcome opened.0 h))
+  explored_in once j full filled sound (inl (is_taken own net i has own_filled taken (inr (inr (fault, h, is))))) = absurd h

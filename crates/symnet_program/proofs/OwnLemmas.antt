@@ -10,7 +10,7 @@ use Rattle.run_answers.specs.declared.fault.OwnFault.TheVariants as own
 use Rattle.symnet_program.specs.Program.{Cause, Comes}
 use Rattle.symnet_program.specs.Status.{MayStop, outcome_status}
 use Rattle.symnet_program.specs.declared.status.Status.{Status}
-use Rattle.symnet_program.specs.declared.status.Status.TheVariants.{Done, NoMemory, Usage, NoFile, ReadFault, WriteFault, TooBig, Syntax, BadPattern, Refused, BadTable, BadPacket, Partial, TooMany, BadReport, NotConfirmed, BadAsk, NotBuilt, BadCompare}
+use Rattle.symnet_program.specs.declared.status.Status.TheVariants.{Done, NoMemory, Usage, NoFile, ReadFault, WriteFault, TooBig, Syntax, BadPattern, Refused, BadTable, BadPacket, Partial, TooMany, BadReport, NotConfirmed, BadAsk, BadCompare}
 
 module _ (is : List Input) (w : OwnWork) (p : World) (given : List Given)
     (once : (other : List Given) → AllOpen (world p) tt is other tt → other ≡ given)
@@ -44,5 +44,4 @@ module _ (is : List Input) (w : OwnWork) (p : World) (given : List Given)
   own_told (BadReport kind pointer) h = comes (refused (own.BadReport kind pointer)) h
   own_told (NotConfirmed number kind) h = comes (refused (own.NotConfirmed number kind)) h
   own_told (BadAsk number kind) h = comes (refused (own.BadAsk number kind)) h
-  own_told NotBuilt h = absurd (excludes input.NotBuilt tt h)
   own_told (BadCompare kind one other) h = comes (refused (own.BadCompare kind one other)) h

@@ -14,18 +14,18 @@ use Rattle.run_answers.specs.declared.fault.OwnFault.TheVariants as own
 use Rattle.run_answers.specs.declared.ending.Ending.{Ending}
 use Rattle.run_answers.specs.declared.ending.Ending.TheVariants as ending
 use Rattle.run_answers.specs.declared.ending.Stop.{Stop}
-use Rattle.run_answers.specs.declared.limits.TheConstants.{HOPS, LIMIT}
 use Rattle.run_answers.specs.declared.ending.Stop.TheVariants.{Input as ByInput, Own, Write, NoMemory as NoRoom}
 use Rattle.symnet_program.proofs.ToldLemmas.{first_told, all_told}
 use Rattle.symnet_program.specs.Status.{MayStop, input_status, own_status, status_of}
-use Rattle.symnet_program.specs.Commands.{inputs, work}
+use Rattle.symnet_program.specs.Commands.{inputs, sides_of, work}
 use Rattle.explore_command.specs.Explores.{IsReport}
 use Rattle.explore_command.specs.Headline.{IsHeadline}
 use Rattle.symnet_program.specs.Headline.{TellsJob}
-use Rattle.symnet_program.specs.Words.{Command, explore}
+use Rattle.command_words.specs.Commands.{Command, explore}
+use Rattle.command_words.specs.declared.command.Pruned.{Pruned}
 use Rattle.symnet_program.specs.Program.{Cause, Comes, IsAnswered, IsCaused, MayWrite, RefusesInput, Shown, Stops, Writes}
 use Rattle.symnet_program.specs.declared.status.Status.{Status}
-use Rattle.symnet_program.specs.declared.status.Status.TheVariants.{Done, NoMemory, Usage, NoFile, ReadFault, WriteFault, TooBig, Syntax, BadPattern, Refused, BadTable, BadPacket, Partial, TooMany, BadReport, NotConfirmed, BadAsk, NotBuilt, BadCompare}
+use Rattle.symnet_program.specs.declared.status.Status.TheVariants.{Done, NoMemory, Usage, NoFile, ReadFault, WriteFault, TooBig, Syntax, BadPattern, Refused, BadTable, BadPacket, Partial, TooMany, BadReport, NotConfirmed, BadAsk, BadCompare}
 
 gains_nothing : (known now : Option (List ℕ)) → now ≡ known → now ≡ append_known known []
 gains_nothing None now same = same
@@ -42,7 +42,6 @@ module _ {S : Type 0} (o : Outside S) (u v : S) (is : List Input) (w : OwnWork) 
   cause_input (input.BadTable name line kind) h = inl h
   cause_input (input.BadPattern site) h = h
   cause_input (input.Refused site kind) h = h
-  cause_input input.NotBuilt h = h
   cause_input input.NoMemory h = tt
 
   cause_own : (given : List Given) → AllOpen o u is given v → (fault : OwnFault) → IsRefusal (w.comes given) fault → Cause o u v is w (own_status fault)
@@ -72,7 +71,6 @@ module _ {S : Type 0} (o : Outside S) (u v : S) (is : List Input) (w : OwnWork) 
   nothing_input (input.BadTable name line kind) = refl
   nothing_input (input.BadPattern site) = refl
   nothing_input (input.Refused site kind) = refl
-  nothing_input input.NotBuilt = refl
 
   nothing_own : (fault : OwnFault) → Writes o u v is w (own_status fault) []
   nothing_own own.NoMemory = inl refl
@@ -118,7 +116,6 @@ module _ {S : Type 0} (o : Outside S) (u v : S) (is : List Input) (w : OwnWork) 
   complete_of failed missed passed raised broken (BadPacket kind) s f m p b good h = good (BadPacket kind) tt h
   complete_of failed missed passed raised broken (BadReport kind pointer) s f m p b good h = good (BadReport kind pointer) tt h
   complete_of failed missed passed raised broken (BadAsk number kind) s f m p b good h = good (BadAsk number kind) tt h
-  complete_of failed missed passed raised broken NotBuilt s f m p b good h = good NotBuilt tt h
   complete_of failed missed passed raised broken (BadCompare kind one other) s f m p b good h = tt
 
 -- ---- in a world
@@ -148,7 +145,6 @@ module _ {S : Type 0} (o : Outside S) (u v : S) (is : List Input) (w : OwnWork) 
   cause_in (BadReport kind pointer) h = comes (refused (own.BadReport kind pointer)) h
   cause_in (NotConfirmed number kind) h = comes (refused (own.NotConfirmed number kind)) h
   cause_in (BadAsk number kind) h = comes (refused (own.BadAsk number kind)) h
-  cause_in NotBuilt h = first input.NotBuilt h
   cause_in (BadCompare kind one other) h = comes (refused (own.BadCompare kind one other)) h
 
 pub told_of : {S : Type 0} (files : Option (List ℕ → Option (List ℕ))) (matches : S → Option (List ℕ → List ℕ → Bool)) (bad : S → Option (List ℕ → Bool)) (refusals : S → ℕ) (gives : S → List ℕ → List ℕ → Found → S → Type 0) (u v : S) (is : List Input) (w : OwnWork) (p : World)
@@ -195,14 +191,13 @@ module _ (is : List Input) (w : OwnWork) (p : World) (decides : Decides p) (faul
   exact_of (BadReport kind pointer) h = none (refused (own.BadReport kind pointer)) h
   exact_of (NotConfirmed number kind) h = none (refused (own.NotConfirmed number kind)) h
   exact_of (BadAsk number kind) h = none (refused (own.BadAsk number kind)) h
-  exact_of NotBuilt h = one input.NotBuilt tt h
   exact_of (BadCompare kind one other) h = none (refused (own.BadCompare kind one other)) h
 
 -- ---- what a finished exploration tells
 
-module _ {S : Type 0} (o : Outside S) (u v : S)
-    (law : (net : Network) (i : Entry) (whole : List ℕ) → IsReport HOPS LIMIT net i ending.Done whole → IsHeadline net i HOPS LIMIT whole) where
-  pub job_told : (job whole : List ℕ) → MayWrite o u v (Some (explore job)) Done whole → TellsJob o u v job whole
+module _ {S : Type 0} (o : Outside S) (u v : S) (hops limit : ℕ) (pruned : Pruned)
+    (law : (net : Network) (i : Entry) (whole : List ℕ) → IsReport hops limit (sides_of pruned) net i ending.Done whole → IsHeadline net i hops limit (sides_of pruned) whole) where
+  pub job_told : (job whole : List ℕ) → MayWrite o u v (Some (explore job hops limit pruned)) Done whole → TellsJob o u v job hops limit (sides_of pruned) whole
   job_told job whole (given, (g, m, (j, has, net, i, taken, is), rest, (none, last), all), comes) = record {
     job = j;
     in_file = has;
@@ -210,8 +205,19 @@ module _ {S : Type 0} (o : Outside S) (u v : S)
     injection = i;
     accepted = subst (λ s. o.takes u j net i s) (sym last) taken;
     headline = law net i whole
-        (subst (λ gs. (work (explore job)).comes gs (text ending.Done whole)) (all ∙ (ap (λ x. x ∷ rest) is ∙ ap (λ r. a_net net i j.asks ∷ r) none)) comes);
+        (subst (λ gs. (work (explore job hops limit pruned)).comes gs (text ending.Done whole)) (all ∙ (ap (λ x. x ∷ rest) is ∙ ap (λ r. a_net net i j.asks ∷ r) none)) comes);
   }
+
+-- ---- memory ended while the words were read
+
+pub unread : {S : Type 0} (o : Outside S) (u : S) (said : Option Command) → IsCaused o u u said NoMemory
+unread o u None = (inr refl, refl)
+unread o u (Some c) = tt
+
+pub unwritten : {S : Type 0} (o : Outside S) (u : S) (known : Option (List ℕ)) (said : Option Command)
+    → (part : List ℕ) × MayWrite o u u said NoMemory part × (known ≡ append_known known part)
+unwritten o u known None = ([], refl, gains_nothing known known refl)
+unwritten o u known (Some c) = ([], inl refl, gains_nothing known known refl)
 
 -- ---- of the call: the words said the command c, and the run of it came to the answer that the status tells
 
@@ -235,13 +241,14 @@ module _ {S : Type 0} (files : Option (List ℕ → Option (List ℕ))) (matches
         gained,
       )
 
-  pub headline_said : ((net : Network) (i : Entry) (whole : List ℕ) → IsReport HOPS LIMIT net i ending.Done whole → IsHeadline net i HOPS LIMIT whole)
-      → (job : List ℕ) → said ≡ Some (explore job) → status ≡ Done
-      → (whole : List ℕ) × TellsJob (outside files matches bad refusals gives) u v job whole × (now ≡ append_known known whole)
-  headline_said law job is done =
+  pub headline_said : (job : List ℕ) (hops limit : ℕ) (pruned : Pruned)
+      → ((net : Network) (i : Entry) (whole : List ℕ) → IsReport hops limit (sides_of pruned) net i ending.Done whole → IsHeadline net i hops limit (sides_of pruned) whole)
+      → said ≡ Some (explore job hops limit pruned) → status ≡ Done
+      → (whole : List ℕ) × TellsJob (outside files matches bad refusals gives) u v job hops limit (sides_of pruned) whole × (now ≡ append_known known whole)
+  headline_said job hops limit pruned law is done =
       let (part, writes, gained) = written_said in (
         part,
-        job_told (outside files matches bad refusals gives) u v law job part
+        job_told (outside files matches bad refusals gives) u v hops limit pruned law job part
             (subst (λ r. MayWrite (outside files matches bad refusals gives) u v r Done part) is
             (subst (λ s. MayWrite (outside files matches bad refusals gives) u v said s part) done writes)),
         gained,
@@ -273,7 +280,6 @@ shown_input failed missed passed raised broken (input.BadPattern site) h = h
 shown_input failed missed passed raised broken (input.Syntax line column kind) h = tt
 shown_input failed missed passed raised broken (input.BadTable name line kind) h = tt
 shown_input failed missed passed raised broken (input.Refused site kind) h = tt
-shown_input failed missed passed raised broken input.NotBuilt h = tt
 shown_input failed missed passed raised broken input.NoMemory h = tt
 
 shown_own : (failed missed passed raised broken : Type 0) (fault : OwnFault) → Shown failed missed passed raised broken (own_status fault)

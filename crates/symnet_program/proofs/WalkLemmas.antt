@@ -1,17 +1,18 @@
--- What `walk` tells in a world of a job without tables that breaks no rule.
+-- What `walk` tells in a world of a job that with code for its tables breaks no rule.
 use Rattle.std.proofs.Common.{◌≡◌, ◌⊎◌, inl, inr, refl, sym, ap, subst, ◌∙◌, ℕ, ◌<◌, ◌≤◌, List, [], ◌∷◌, length, None, Some}
-use Rattle.std.proofs.lemmas.Bool.{true≢false}
 use Rattle.std.proofs.lemmas.Option.{same_Some}
 use Rattle.std.specs.Option.{ForSome}
 use Rattle.std.specs.Prelude.{IsSomeAnd}
+use Rattle.sefl_syntax.specs.Trees.{JobTree}
 use Rattle.net_check.specs.Network.{Network, Entry}
+use Rattle.net_check.specs.Sound.{IsSound}
 use Rattle.packet_file.specs.Packet.{packet_of}
 use Rattle.run_answers.specs.Files.{LoadFails}
 use Rattle.run_answers.specs.Jobs.{HasFilled, ListsFound, first_bad}
 use Rattle.run_answers.specs.Outside.{World, world}
 use Rattle.run_answers.specs.Inputs.{Given, a_job, a_file, a_net, some_bytes, AllOpen, Opens, IsSettled}
 use Rattle.run_answers.specs.Runs.{Outcome}
-use Rattle.run_answers.specs.declared.limits.TheConstants.{FILE_LIMIT, HOPS, LIMIT}
+use Rattle.run_answers.specs.declared.limits.TheConstants.{FILE_LIMIT}
 use Rattle.run_answers.specs.declared.fault.InputFault.{InputFault}
 use Rattle.run_answers.specs.declared.fault.InputFault.TheVariants as input
 use Rattle.walk_command.specs.Walks.{WalksOf}
@@ -19,10 +20,10 @@ use Rattle.symnet_program.specs.Commands.{inputs, work}
 use Rattle.symnet_program.specs.Program.{IsCaused}
 use Rattle.symnet_program.specs.Status.{IsStopped, MayBeBad, MayStop, input_status, outcome_status}
 use Rattle.symnet_program.specs.Told.{TellsNet}
-use Rattle.symnet_program.specs.Words.{walk}
+use Rattle.command_words.specs.Commands.{walk}
 use Rattle.symnet_program.specs.declared.status.Status.{Status}
 use Rattle.symnet_program.specs.declared.status.Status.TheVariants.{NoMemory, NoFile, ReadFault, WriteFault, TooBig, BadPattern}
-use Rattle.symnet_program.proofs.CaseLemmas.{JobCase, case_of, has_bad, has_tables, breaks_rule, is_taken, job_in, sound_or_refused}
+use Rattle.symnet_program.proofs.CaseLemmas.{FilledOnce, JobCase, case_of, has_bad, is_unfilled, breaks_rule, is_taken, job_in, sound_or_refused}
 use Rattle.symnet_program.proofs.OwnLemmas.{own_told}
 use Rattle.symnet_program.proofs.ProgramLemmas.{Decides, exact_of}
 
@@ -33,23 +34,28 @@ stop_or_bad p WriteFault h = inl tt
 stop_or_bad p (BadPattern site) h = inr (site, refl)
 stop_or_bad p status h = absurd h
 
-module _ (job packet : List ℕ) (p : World) (status : Status) (net : Network) (i : Entry)
-    (caused : IsCaused (world p) tt tt (Some (walk job packet)) status) (is : TellsNet p job net i) where
+module _ (job packet : List ℕ) (hops limit : ℕ) (p : World) (status : Status) (net : Network) (i : Entry)
+    (caused : IsCaused (world p) tt tt (Some (walk job packet hops limit)) status) (is : TellsNet p job net i) (filled_once : FilledOnce p) where
   -- the file has the job, and no pattern is bad; or the status tells why not
   abbrev IsGood : Type 0
   IsGood = HasFilled (Some p.at) job is.tree × ForSome p.is_bad (λ b. first_bad b is.tree ≡ None)
 
-  good_or : JobCase p job (a_file FILE_LIMIT packet ∷ []) (work (walk job packet)) is.tree status ⊎ IsStopped status → IsGood ⊎ MayBeBad status
+  good_or : JobCase p job (a_file FILE_LIMIT packet ∷ []) (work (walk job packet hops limit)) is.job status ⊎ IsStopped status → IsGood ⊎ MayBeBad status
   good_or (inr h) = inr (inl h)
-  good_or (inl (has_tables tables told)) = absurd (true≢false (sym is.filled ∙ tables))
-  good_or (inl (breaks_rule site kind filled breaks told)) = absurd (sound_or_refused is.tree site kind is.sound breaks)
-  good_or (inl (has_bad site filled refuses told)) = inr (inr (site, told))
-  good_or (inl (is_taken own o has taken behind)) = inl (has, taken.4)
+  good_or (inl (is_unfilled fault settled fails told)) = absurd (filled_once.excludes is.job is.tree fault settled is.filled fails)
+  good_or (inl (breaks_rule own site kind filled breaks told)) =
+      absurd (sound_or_refused own site kind (subst IsSound (sym (filled_once.full is.job own is.tree filled is.filled)) is.sound) breaks)
+  good_or (inl (has_bad own site filled refuses told)) = inr (inr (site, told))
+  good_or (inl (is_taken own net' o has filled taken behind)) =
+      inl (
+        (is.job, has, is.filled),
+        subst (λ (t : JobTree). ForSome p.is_bad (λ b. first_bad b t ≡ None)) (filled_once.full is.job own is.tree filled is.filled) taken.4,
+      )
 
   good : IsGood ⊎ MayBeBad status
   good =
-      good_or (job_in p job (a_file FILE_LIMIT packet ∷ []) (work (walk job packet)) status is.bytes is.file is.tree is.short is.text
-      (case_of p (walk job packet) status caused))
+      good_or (job_in p job (a_file FILE_LIMIT packet ∷ []) (work (walk job packet hops limit)) status is.bytes is.file is.job is.short is.text
+      (case_of p (walk job packet hops limit) job (a_file FILE_LIMIT packet ∷ []) refl status caused))
 
   -- what is due of such a job, the run told, unless it was stopped or a pattern is bad
   due : (told : Status) → (IsGood → (status ≡ told) ⊎ MayStop p status) → IsGood ⊎ MayBeBad status → (status ≡ told) ⊎ MayBeBad status
@@ -75,7 +81,7 @@ module _ (job packet : List ℕ) (p : World) (status : Status) (net : Network) (
     refused_file : (fault : InputFault) → IsSettled p fault → LoadFails (Some p.at) FILE_LIMIT packet fault → (status ≡ input_status fault) ⊎ MayBeBad status
     refused_file fault settled fails =
         due (input_status fault)
-        (λ h. exact_of (inputs (walk job packet)) (work (walk job packet)) p decides fault settled
+        (λ h. exact_of (inputs (walk job packet hops limit)) (work (walk job packet hops limit)) p decides fault settled
         (inr (a_net net i is.tree.asks, tt, opens h, inl (fails, refl))) status caused)
         good
 
@@ -91,11 +97,11 @@ module _ (job packet : List ℕ) (p : World) (status : Status) (net : Network) (
         )
 
   -- it has these bytes
-  module _ (once : (a b : List Given) → AllOpen (world p) tt (inputs (walk job packet)) a tt → AllOpen (world p) tt (inputs (walk job packet)) b tt → a ≡ b)
+  module _ (once : (a b : List Given) → AllOpen (world p) tt (inputs (walk job packet hops limit)) a tt → AllOpen (world p) tt (inputs (walk job packet hops limit)) b tt → a ≡ b)
       (decides : Decides p) (bytes : List ℕ) (has : p.at packet ≡ Some bytes) (short : length bytes ≤ FILE_LIMIT) (outcome : Outcome)
-      (comes : WalksOf HOPS LIMIT net i (packet_of bytes) outcome)
-      (alone : (other : Outcome) → WalksOf HOPS LIMIT net i (packet_of bytes) other → other ≡ outcome) where
-    all_open : IsGood → AllOpen (world p) tt (inputs (walk job packet)) (a_net net i is.tree.asks ∷ some_bytes bytes ∷ []) tt
+      (comes : WalksOf hops limit net i (packet_of bytes) outcome)
+      (alone : (other : Outcome) → WalksOf hops limit net i (packet_of bytes) other → other ≡ outcome) where
+    all_open : IsGood → AllOpen (world p) tt (inputs (walk job packet hops limit)) (a_net net i is.tree.asks ∷ some_bytes bytes ∷ []) tt
     all_open h = (
       a_net net i is.tree.asks,
       tt,
@@ -108,14 +114,14 @@ module _ (job packet : List ℕ) (p : World) (status : Status) (net : Network) (
     pub walked_packet : (status ≡ outcome_status outcome) ⊎ MayBeBad status
     walked_packet = due (outcome_status outcome) (λ h. by (came h)) good
       where
-        came : IsGood → ((other : Outcome) × (work (walk job packet)).comes (a_net net i is.tree.asks ∷ some_bytes bytes ∷ []) other × (status ≡ outcome_status other)) ⊎ MayStop p status
+        came : IsGood → ((other : Outcome) × (work (walk job packet hops limit)).comes (a_net net i is.tree.asks ∷ some_bytes bytes ∷ []) other × (status ≡ outcome_status other)) ⊎ MayStop p status
         came h =
-            own_told (inputs (walk job packet)) (work (walk job packet)) p (a_net net i is.tree.asks ∷ some_bytes bytes ∷ [])
+            own_told (inputs (walk job packet hops limit)) (work (walk job packet hops limit)) p (a_net net i is.tree.asks ∷ some_bytes bytes ∷ [])
             (λ other opened. once other (a_net net i is.tree.asks ∷ some_bytes bytes ∷ []) opened (all_open h))
-            (λ fault settled fails. decides.excludes (inputs (walk job packet)) (a_net net i is.tree.asks ∷ some_bytes bytes ∷ []) fault settled (all_open h) fails)
+            (λ fault settled fails. decides.excludes (inputs (walk job packet hops limit)) (a_net net i is.tree.asks ∷ some_bytes bytes ∷ []) fault settled (all_open h) fails)
             status caused
 
-        by : ((other : Outcome) × (work (walk job packet)).comes (a_net net i is.tree.asks ∷ some_bytes bytes ∷ []) other × (status ≡ outcome_status other)) ⊎ MayStop p status
+        by : ((other : Outcome) × (work (walk job packet hops limit)).comes (a_net net i is.tree.asks ∷ some_bytes bytes ∷ []) other × (status ≡ outcome_status other)) ⊎ MayStop p status
             → (status ≡ outcome_status outcome) ⊎ MayStop p status
         by (inl (other, h, told)) = inl (told ∙ ap outcome_status (alone other h))
         by (inr h) = inr h

@@ -1,16 +1,54 @@
 -- Each command: what it reads, in order, and its own work.
-use Rattle.std.specs.Prelude.{List, [], ◌∷◌}
+use Rattle.std.specs.Prelude.{ℕ, ◌≡◌, List, [], ◌∷◌}
 use Rattle.run_answers.specs.Inputs.{Input, a_job, a_file}
 use Rattle.run_answers.specs.Runs.{OwnWork, one_piece}
-use Rattle.run_answers.specs.declared.limits.TheConstants.{FILE_LIMIT, HOPS, LIMIT}
+use Rattle.run_answers.specs.declared.limits.TheConstants.{FILE_LIMIT}
 use Rattle.explore_command.specs.Explores.{explore_work}
+use Rattle.replay_command.specs.Replays.{ReplayComes}
+use Rattle.replay_command.specs.declared.replay.TheConstants.{REPORT_LIMIT}
+use Rattle.model_command.specs.Models.{ModelComes}
+use Rattle.sefl_syntax.specs.declared.net.Style.{Style as NodeStyle}
+use Rattle.sefl_syntax.specs.declared.net.Style.TheVariants.{Chain, Grouped, Egress}
+use Rattle.sefl_syntax.specs.declared.net.TableKind.{TableKind}
+use Rattle.sefl_syntax.specs.declared.net.TableKind.TheVariants.{Mac, Fib}
 use Rattle.walk_command.specs.Walks.{WalkComes}
-use Rattle.symnet_program.specs.Words.{Command, explore, walk}
+use Rattle.record_lines.specs.declared.lines.RefutedSides.{RefutedSides}
+use Rattle.record_lines.specs.declared.lines.RefutedSides.TheVariants.{Written, Counted}
+use Rattle.command_words.specs.Commands.{Command, explore, walk, replay, model}
+use Rattle.command_words.specs.declared.command.Pruned.{Pruned}
+use Rattle.command_words.specs.declared.command.Pruned.TheVariants.{All, Count}
+use Rattle.command_words.specs.declared.command.Style.{Style}
+use Rattle.command_words.specs.declared.command.Style.TheVariants as style
+use Rattle.command_words.specs.declared.command.Table.{Table}
+use Rattle.command_words.specs.declared.command.Table.TheVariants as table
 
 abbrev pub inputs : Command → List Input
-inputs (explore job) = a_job job ∷ []
-inputs (walk job packet) = a_job job ∷ a_file FILE_LIMIT packet ∷ []
+inputs (explore job hops limit pruned) = a_job job ∷ []
+inputs (walk job packet hops limit) = a_job job ∷ a_file FILE_LIMIT packet ∷ []
+inputs (replay job report) = a_job job ∷ a_file REPORT_LIMIT report ∷ []
+inputs (model table file style) = a_file FILE_LIMIT file ∷ []
+
+-- the first that it reads is the job under this name
+abbrev pub ReadsJob : Command → List ℕ → Type 0
+ReadsJob command job = (others : List Input) × (inputs command ≡ a_job job ∷ others)
+
+-- pruned records are those of refuted sides
+abbrev pub sides_of : Pruned → RefutedSides
+sides_of All = Written
+sides_of Count = Counted
+
+-- the table, and the style of its node, as in a job
+abbrev pub kind_of : Table → TableKind
+kind_of table.Mac = Mac
+kind_of table.Fib = Fib
+
+abbrev pub style_of : Style → NodeStyle
+style_of style.Chain = Chain
+style_of style.Grouped = Grouped
+style_of style.Egress = Egress
 
 abbrev pub work : Command → OwnWork
-work (explore job) = explore_work HOPS LIMIT
-work (walk job packet) = one_piece (WalkComes HOPS LIMIT)
+work (explore job hops limit pruned) = explore_work hops limit (sides_of pruned)
+work (walk job packet hops limit) = one_piece (WalkComes hops limit)
+work (replay job report) = one_piece ReplayComes
+work (model table file style) = one_piece (ModelComes (kind_of table) (style_of style) file)

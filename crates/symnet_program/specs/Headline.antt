@@ -4,15 +4,15 @@ use Rattle.sefl_syntax.specs.Trees.{JobTree}
 use Rattle.net_check.specs.Network.{Network, Entry}
 use Rattle.run_answers.specs.Jobs.{HasFilled}
 use Rattle.run_answers.specs.Outside.{Outside}
-use Rattle.run_answers.specs.declared.limits.TheConstants.{HOPS, LIMIT}
+use Rattle.record_lines.specs.declared.lines.RefutedSides.{RefutedSides}
 use Rattle.explore_command.specs.Headline.{IsHeadline}
 
 -- The file under the name has a job, which is accepted as this net and this injection; and the text is a report that tells all
--- walks of all packets that meet the injection.
-pub record TellsJob {S : Type 0} (o : Outside S) (u v : S) (name whole : List ℕ) : Type 0 where
+-- walks, with so many hops, of all packets that meet the injection.
+pub record TellsJob {S : Type 0} (o : Outside S) (u v : S) (name : List ℕ) (hops limit : ℕ) (sides : RefutedSides) (whole : List ℕ) : Type 0 where
   pub job : JobTree
   pub in_file : HasFilled o.files name job
   pub net : Network
   pub injection : Entry
   pub accepted : o.takes u job net injection v
-  pub headline : IsHeadline net injection HOPS LIMIT whole
+  pub headline : IsHeadline net injection hops limit sides whole

@@ -7,10 +7,10 @@ use Rattle.run_answers.specs.declared.fault.InputFault.{InputFault}
 use Rattle.run_answers.specs.declared.fault.InputFault.TheVariants as input
 use Rattle.run_answers.specs.declared.fault.OwnFault.TheVariants as own
 use Rattle.run_answers.specs.declared.ending.Ending.TheVariants as ending
-use Rattle.symnet_program.specs.Words.{Command}
+use Rattle.command_words.specs.Commands.{Command}
 use Rattle.symnet_program.specs.Commands.{inputs, work}
 use Rattle.symnet_program.specs.declared.status.Status.{Status}
-use Rattle.symnet_program.specs.declared.status.Status.TheVariants.{Done, NoMemory, Usage, NoFile, ReadFault, WriteFault, TooBig, Syntax, BadPattern, Refused, BadTable, BadPacket, Partial, TooMany, BadReport, NotConfirmed, BadAsk, NotBuilt, BadCompare}
+use Rattle.symnet_program.specs.declared.status.Status.TheVariants.{Done, NoMemory, Usage, NoFile, ReadFault, WriteFault, TooBig, Syntax, BadPattern, Refused, BadTable, BadPacket, Partial, TooMany, BadReport, NotConfirmed, BadAsk, BadCompare}
 
 -- of an outside whose patterns go from state to state, a command with these inputs and this own work
 module _ {S : Type 0} (o : Outside S) (u v : S) (is : List Input) (w : OwnWork) where
@@ -41,7 +41,6 @@ module _ {S : Type 0} (o : Outside S) (u v : S) (is : List Input) (w : OwnWork) 
   Cause (BadReport kind pointer) = Comes (refused (own.BadReport kind pointer))
   Cause (NotConfirmed number kind) = Comes (refused (own.NotConfirmed number kind))
   Cause (BadAsk number kind) = Comes (refused (own.BadAsk number kind))
-  Cause NotBuilt = Stops input.NotBuilt
   Cause (BadCompare kind one other) = Comes (refused (own.BadCompare kind one other))
 
   -- what the sink gained with each
@@ -52,10 +51,10 @@ module _ {S : Type 0} (o : Outside S) (u v : S) (is : List Input) (w : OwnWork) 
   Writes NoMemory part = (part ≡ []) ⊎ ((given : List Given) × AllOpen o u is given v × w.left given part)
   Writes _ part = part ≡ []
 
--- the same of what the words say; without a reading nothing is read, asked or written
+-- the same of what the words say; without a reading nothing is read, asked or written, and memory may end while they are read
 module _ {S : Type 0} (o : Outside S) (u v : S) where
   abbrev pub IsCaused : Option Command → Status → Type 0
-  IsCaused None status = (status ≡ Usage) × (v ≡ u)
+  IsCaused None status = ((status ≡ Usage) ⊎ (status ≡ NoMemory)) × (v ≡ u)
   IsCaused (Some c) status = Cause o u v (inputs c) (work c) status
 
   abbrev pub MayWrite : Option Command → Status → List ℕ → Type 0
@@ -71,7 +70,7 @@ Shown failed missed passed raised broken (BadPattern site) = raised
 Shown failed missed passed raised broken WriteFault = broken
 Shown failed missed passed raised broken _ = Unit {0}
 
--- a job, a table, a packet, a report or a question is refused with this status, or a job is of a form not built yet
+-- a job, a table, a packet, a report or a question is refused with this status
 abbrev pub RefusesInput : Status → Type 0
 RefusesInput (Syntax line column kind) = Unit {0}
 RefusesInput (BadPattern site) = Unit {0}
@@ -80,7 +79,6 @@ RefusesInput (BadTable name line kind) = Unit {0}
 RefusesInput (BadPacket kind) = Unit {0}
 RefusesInput (BadReport kind pointer) = Unit {0}
 RefusesInput (BadAsk number kind) = Unit {0}
-RefusesInput NotBuilt = Unit {0}
 RefusesInput _ = ⊥
 
 -- the command was run to its end, or there was no memory

@@ -12,7 +12,7 @@ use Rattle.run_answers.specs.declared.fault.InputFault.TheVariants as input
 use Rattle.run_answers.specs.declared.fault.OwnFault.{OwnFault}
 use Rattle.run_answers.specs.declared.fault.OwnFault.TheVariants as own
 use Rattle.symnet_program.specs.declared.status.Status.{Status}
-use Rattle.symnet_program.specs.declared.status.Status.TheVariants.{Done, NoMemory, Usage, NoFile, ReadFault, WriteFault, TooBig, Syntax, BadPattern, Refused, BadTable, BadPacket, Partial, TooMany, BadReport, NotConfirmed, BadAsk, NotBuilt, BadCompare}
+use Rattle.symnet_program.specs.declared.status.Status.TheVariants.{Done, NoMemory, Usage, NoFile, ReadFault, WriteFault, TooBig, Syntax, BadPattern, Refused, BadTable, BadPacket, Partial, TooMany, BadReport, NotConfirmed, BadAsk, BadCompare}
 
 -- why an input is refused
 abbrev pub input_status : InputFault → Status
@@ -23,7 +23,6 @@ input_status (input.Syntax line column kind) = Syntax line column kind
 input_status (input.BadTable name line kind) = BadTable name line kind
 input_status (input.BadPattern site) = BadPattern site
 input_status (input.Refused site kind) = Refused site kind
-input_status input.NotBuilt = NotBuilt
 input_status input.NoMemory = NoMemory
 
 -- why the own work of a command gives no text
@@ -94,7 +93,6 @@ number_of (TooMany count) = 13
 number_of (BadReport kind pointer) = 14
 number_of (NotConfirmed number kind) = 15
 number_of (BadAsk number kind) = 16
-number_of NotBuilt = 17
 number_of (BadCompare kind one other) = 18
 
 unfoldable pub syntax_text : ℕ → ℕ → ℕ → List ℕ
@@ -136,5 +134,4 @@ text_of (TooMany count) = codes "symnet: too many walks " ++ decimal count
 text_of (BadReport kind pointer) = bad_report_text kind pointer
 text_of (NotConfirmed number kind) = not_confirmed_text number kind
 text_of (BadAsk number kind) = bad_ask_text number kind
-text_of NotBuilt = codes "symnet: not built"
 text_of (BadCompare kind one other) = codes "symnet: bad compare " ++ decimal kind

@@ -1,23 +1,24 @@
 -- What a world tells of the job of `walk`.
-use Rattle.std.specs.Prelude.{ℕ, ◌≡◌, ◌≤◌, Bool, true, List, length, Some}
-use Rattle.sefl_syntax.specs.Filled.{is_filled}
+use Rattle.std.specs.Prelude.{ℕ, ◌≡◌, ◌≤◌, Bool, List, length, Some}
 use Rattle.sefl_syntax.specs.Trees.{JobTree}
 use Rattle.net_check.specs.Network.{Network, Entry}
 use Rattle.net_check.specs.Sound.{IsSound, IsNetOf, IsEntryOf}
 use Rattle.run_answers.specs.Jobs.{IsTextOf, ListsFound}
 use Rattle.run_answers.specs.Outside.{World}
+use Rattle.run_answers.specs.Tables.{IsFilled}
 use Rattle.run_answers.specs.declared.limits.TheConstants.{FILE_LIMIT}
 
--- The file under the name has a text of a job that has no tables and breaks no rule, these are the net and the injection of that
--- job, and it is told what its patterns find: what the net lists.
+-- The file under the name has a text of a job that with code for its tables breaks no rule, these are the net and the injection
+-- of that, and it is told what its patterns find: what the net lists.
 pub record TellsNet (w : World) (name : List ℕ) (net : Network) (i : Entry) : Type 0 where
   pub bytes : List ℕ
+  pub job : JobTree
   pub tree : JobTree
   pub finds : List ℕ → List ℕ → Bool
   pub file : w.at name ≡ Some bytes
   pub short : length bytes ≤ FILE_LIMIT
-  pub text : IsTextOf tree bytes
-  pub filled : is_filled tree ≡ true
+  pub text : IsTextOf job bytes
+  pub filled : IsFilled (Some w.at) job tree
   pub sound : IsSound tree
   pub of_net : IsNetOf tree net
   pub of_entry : IsEntryOf tree i

@@ -4,7 +4,6 @@
 pub mod laws;
 mod program;
 mod status;
-mod words;
 
 pub use program::symnet;
 pub use status::{Status, status_text};

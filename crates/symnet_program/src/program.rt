@@ -1,30 +1,62 @@
 //! The program's top call.
 
-ghost use Rattle.std.specs.Prelude.{◌≡◌, ◌⊎◌, ◌<◌, ◌≤◌, ◌↔◌, List, ℕ, Some, None, IsSome};
+ghost use Rattle.std.specs.Prelude.{◌≡◌, ◌⊎◌, ◌<◌, ◌≤◌, List, ℕ, Some, None, IsSome};
 ghost use Rattle.std.specs.Io.KnownBytes.{append_known};
 ghost use Rattle.run_answers.specs.Inputs.{FirstFails, IsSettled};
 ghost use Rattle.run_answers.specs.Outside.{Tells, World, outside, world};
 ghost use Rattle.run_answers.specs.Runs.{Runs, Shows};
 ghost use Rattle.run_answers.specs.declared.fault.InputFault.{InputFault as InputFaultOf};
-ghost use Rattle.symnet_program.specs.Commands.{inputs, work};
+ghost use Rattle.symnet_program.specs.Commands.{inputs, kind_of, sides_of, style_of, work};
 ghost use Rattle.symnet_program.specs.Headline.{TellsJob};
 ghost use Rattle.symnet_program.specs.Program.{Cause, IsAnswered, IsCaused, MayWrite, RefusesInput, Shown};
 ghost use Rattle.symnet_program.specs.Status.{MayStop, input_status};
-ghost use Rattle.symnet_program.specs.Words.{Command as CommandOf, command_of, explore, reading};
+ghost use Rattle.command_words.specs.Commands.{Command as CommandOf, HasRanges, command_of, explore, reading};
+ghost use Rattle.command_words.specs.declared.command.Pruned.{Pruned as PrunedOf};
 ghost use Rattle.symnet_program.specs.declared.status.Status.{Status as StatusOf};
 ghost use Rattle.symnet_program.specs.declared.status.Status.TheVariants.{Done, Usage};
 
 use crate::status::{Status, status_of};
-use crate::words::{Command, reading};
 use command_runs::{Piece, run};
+use command_words::{Command, Pruned, Style, Table, reading};
 use explore_command::laws::finished_reports_tell_all;
-use explore_command::{Explore, RecordLimit};
+use explore_command::{Explore, RecordLimit, RefutedSides};
 use job_files::{Both, ByteFile, JobFile};
+use model_command::TableModel;
+use replay_command::{REPORT_LIMIT, Replay};
 use run_answers::laws::worlds_decide;
-use run_answers::{Ending, FILE_LIMIT, HOPS, LIMIT, Stop};
+use run_answers::{Ending, FILE_LIMIT, Stop};
+use sefl_syntax::{Style as NodeStyle, TableKind};
 use sn_edge::{Folder, Patterns, Sink};
 use std::alloc::Global;
 use walk_command::Walk;
+
+fn sides_of(pruned: Pruned) -> RefutedSides
+    ensures { result ≡ sides_of pruned }
+{
+    match pruned {
+        Pruned::All => RefutedSides::Written,
+        Pruned::Count => RefutedSides::Counted,
+    }
+}
+
+fn kind_of(table: Table) -> TableKind
+    ensures { result ≡ kind_of table }
+{
+    match table {
+        Table::Mac => TableKind::Mac,
+        Table::Fib => TableKind::Fib,
+    }
+}
+
+fn style_of(style: Style) -> NodeStyle
+    ensures { result ≡ style_of style }
+{
+    match style {
+        Style::Chain => NodeStyle::Chain,
+        Style::Grouped => NodeStyle::Grouped,
+        Style::Egress => NodeStyle::Egress,
+    }
+}
 
 /// Runs a command.
 fn run_command<F: Folder, P: Patterns, K: Sink>(
@@ -34,6 +66,7 @@ fn run_command<F: Folder, P: Patterns, K: Sink>(
     patterns: &mut P,
     out: &mut K,
 ) -> Result<Ending, Stop>
+    requires { HasRanges (command_of command) }
     ensures faults_stay { F.faults folder.old ≤ F.faults folder.new }
     ensures misses_stay { F.misses folder.old ≤ F.misses folder.new }
     ensures excesses_stay { F.excesses folder.old ≤ F.excesses folder.new }
@@ -49,15 +82,26 @@ fn run_command<F: Folder, P: Patterns, K: Sink>(
         (K.faults out.old < K.faults out.new) result }
 {
     match command {
-        Command::Explore { job } => {
+        Command::Explore {
+            job,
+            hops,
+            limit,
+            pruned,
+        } => {
             let command = Explore {
                 source: JobFile { name: job },
-                hops: HOPS,
-                limit: RecordLimit::new(LIMIT),
+                hops,
+                limit: RecordLimit::new(limit),
+                sides: sides_of(pruned),
             };
             run(alloc, &command, folder, patterns, out)
         }
-        Command::Walk { job, packet } => {
+        Command::Walk {
+            job,
+            packet,
+            hops,
+            limit,
+        } => {
             let source = Both {
                 first: JobFile { name: job },
                 second: ByteFile {
@@ -67,8 +111,29 @@ fn run_command<F: Folder, P: Patterns, K: Sink>(
             };
             let command = Piece(Walk {
                 source,
-                hops: HOPS,
-                limit: LIMIT,
+                hops,
+                limit,
+            });
+            run(alloc, &command, folder, patterns, out)
+        }
+        Command::Replay { job, report } => {
+            let source = Both {
+                first: JobFile { name: job },
+                second: ByteFile {
+                    name: report,
+                    limit: REPORT_LIMIT,
+                },
+            };
+            run(alloc, &Piece(Replay { source }), folder, patterns, out)
+        }
+        Command::Model { table, file, style } => {
+            let command = Piece(TableModel {
+                source: ByteFile {
+                    name: file,
+                    limit: FILE_LIMIT,
+                },
+                kind: kind_of(table),
+                style: style_of(style),
             });
             run(alloc, &command, folder, patterns, out)
         }
@@ -95,7 +160,7 @@ pub fn symnet<F: Folder, P: Patterns, K: Sink>(
     ensures bad_kept { P.bad_patterns patterns.new ≡ P.bad_patterns patterns.old }
 
     // Each status has its cause, and the count of the outside that it blames rose.
-    ensures usage { (result ≡ Usage) ↔ (reading words.now ≡ None) }
+    ensures usage { result ≡ Usage → reading words.now ≡ None }
     ensures cause { IsCaused (outside (F.files folder.old) P.matches P.bad_patterns P.refusals P.find_gives) patterns.old patterns.new (reading words.now) result }
     ensures shown { Shown (F.faults folder.old < F.faults folder.new) (F.misses folder.old < F.misses folder.new)
         (F.excesses folder.old < F.excesses folder.new) (P.refusals patterns.old < P.refusals patterns.new)
@@ -108,9 +173,9 @@ pub fn symnet<F: Folder, P: Patterns, K: Sink>(
 
     // The headline: with Done `explore` wrote the report of the job in the file, and this tells all walks of all packets that
     // meet the injection.
-    ensures headline { (job : List ℕ) → reading words.now ≡ Some (explore job) → result ≡ Done
+    ensures headline { (job : List ℕ) (hops limit : ℕ) (pruned : PrunedOf) → reading words.now ≡ Some (explore job hops limit pruned) → result ≡ Done
         → (whole : List ℕ)
-        × TellsJob (outside (F.files folder.old) P.matches P.bad_patterns P.refusals P.find_gives) patterns.old patterns.new job whole
+        × TellsJob (outside (F.files folder.old) P.matches P.bad_patterns P.refusals P.find_gives) patterns.old patterns.new job hops limit (sides_of pruned) whole
         × (K.taken out.new ≡ append_known (K.taken out.old) whole) }
 
     // Where the outside tells a world, the cause is one in that world; and an input that is refused there is refused.
@@ -130,8 +195,9 @@ pub fn symnet<F: Folder, P: Patterns, K: Sink>(
 {
     worlds_decide();
     finished_reports_tell_all();
-    match reading(words) {
-        Some(command) => status_of(run_command(alloc, command, folder, patterns, out)),
-        None => Status::Usage,
+    match reading(alloc, words) {
+        Ok(Some(command)) => status_of(run_command(alloc, command, folder, patterns, out)),
+        Ok(None) => Status::Usage,
+        Err(_) => Status::NoMemory,
     }
 }

@@ -27,7 +27,7 @@ pub enum Status {
     /// The item at the site is the first in the text that breaks a rule, and the kind is the number of the
     /// first rule that it breaks, 1 to 15.
     Refused { site: Site, kind: u8 },
-    /// The line of a table's file breaks the rule of this kind. No command reads a table yet.
+    /// The line of a table's file is the first that breaks a rule; the kind is 1 to 3, as in `InputFault`.
     BadTable { name: Text, line: u64, kind: u8 },
     /// The packet does not start, or its file has no packet; the kind is 1 to 4, as in `OwnFault`.
     BadPacket { kind: u8 },
@@ -41,8 +41,6 @@ pub enum Status {
     NotConfirmed { number: u64, kind: u8 },
     /// The question of this number cannot be asked. No command asks one yet.
     BadAsk { number: u64, kind: u8 },
-    /// The job has tables, which are not read yet.
-    NotBuilt,
     /// The two jobs cannot be compared. No command compares jobs yet.
     BadCompare { kind: u8, one: u64, other: u64 },
 }
@@ -72,7 +70,6 @@ impl Status {
             Status::BadReport { .. } => 14,
             Status::NotConfirmed { .. } => 15,
             Status::BadAsk { .. } => 16,
-            Status::NotBuilt => 17,
             Status::BadCompare { .. } => 18,
         }
     }
@@ -90,7 +87,6 @@ fn input_status(fault: InputFault) -> Status
         InputFault::BadTable { name, line, kind } => Status::BadTable { name, line, kind },
         InputFault::BadPattern { site } => Status::BadPattern { site },
         InputFault::Refused { site, kind } => Status::Refused { site, kind },
-        InputFault::NotBuilt => Status::NotBuilt,
         InputFault::NoMemory => Status::NoMemory,
     }
 }
@@ -189,7 +185,6 @@ pub fn status_text(alloc: Global, status: &Status) -> Result<String, NoMemory>
         Status::BadReport { kind, pointer } => bad_report_text(alloc, *kind, pointer),
         Status::NotConfirmed { number, kind } => not_confirmed_text(alloc, *number, *kind),
         Status::BadAsk { number, kind } => bad_ask_text(alloc, *number, *kind),
-        Status::NotBuilt => Ok(String::from_str(alloc, "symnet: not built")?),
         Status::BadCompare { kind, .. } => Ok(format!(in alloc; "symnet: bad compare {kind}")?),
     }
 }

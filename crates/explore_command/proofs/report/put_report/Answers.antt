@@ -7,6 +7,6 @@ use Rattle.explore_command.proofs.report.put_report.Goals as goal
 pub returns-in-All-clause-performs : goal.returns-in-All-clause-performs
 returns-in-All-clause-performs g c =
     let job = c.args.job.now in
-    report_put c.args.hops c.args.limit (network job.net) (entry job.injection)
+    report_put c.args.hops c.args.limit c.args.sides (network job.net) (entry job.injection)
     (g.K.Sink.taken c.args.out.now) (g.K.Sink.taken c.put_head.new.out) (g.K.Sink.taken c.put_rest.new.out)
     c.lines_join.ensures (map ask_tree job.asks.items) c.put_rest.result c.in-All.ensures.puts c.put_rest.ensures.puts

@@ -16,8 +16,8 @@ take-requires g c =
     let e : is_offered c.in-AtNode.offer c.args.decision ≡ true = search rules in
     offered_there x c.in-AtNode.node c.in-AtNode.offer c.args.decision (subst (IsKind x) c.in-AtNode.is c.requires) e
 
-pub returns : goal.returns
-returns g c =
+pub returns-in_ok-place-in-AtNode : goal.returns-in_ok-place-in-AtNode
+returns-in_ok-place-in-AtNode g c =
     let x = g.E.Engine.views c.args.engine.now in
     let e : is_offered c.in-AtNode.offer c.args.decision ≡ true = search rules in
     subst (λ n. Turns x n c.args.decision (Some c.in_ok-place-in-AtNode.place)) (sym c.in-AtNode.is)

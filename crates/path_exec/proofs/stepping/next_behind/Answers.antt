@@ -1,6 +1,6 @@
-use Rattle.std.proofs.Common.{None, Some, subst}
+use Rattle.std.proofs.Common.{subst}
 use Rattle.path_exec.specs.Following.{LeadsTo, Turns}
-use Rattle.path_exec.proofs.Stepping.{closed_there}
+use Rattle.path_exec.proofs.Further.{closed_there}
 use Rattle.path_exec.proofs.stepping.next_behind.Goals as goal
 
 pub turn-requires : goal.turn-requires

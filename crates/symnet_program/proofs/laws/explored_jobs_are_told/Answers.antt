@@ -1,10 +1,12 @@
-use Rattle.std.proofs.Common.{[]}
+use Rattle.std.proofs.Common.{[], refl}
 use Rattle.symnet_program.specs.Commands.{work}
-use Rattle.symnet_program.specs.Words.{explore}
+use Rattle.command_words.specs.Commands.{explore}
 use Rattle.symnet_program.proofs.CaseLemmas.{case_of, explored_in, job_in}
 use Rattle.symnet_program.proofs.laws.explored_jobs_are_told.Goals as goal
 
 pub returns : goal.returns
-returns c job w status bytes j caused is short spells filled sound =
-    explored_in w job status j filled sound
-    (job_in w job [] (work (explore job)) status bytes is j short spells (case_of w (explore job) status caused))
+returns c job hops limit pruned w status bytes j full caused is short spells filled sound =
+    explored_in w job hops limit pruned status
+    (record { full = c.jobs_are_filled_once.ensures.full w; excludes = c.jobs_are_filled_once.ensures.excludes w; first = c.jobs_are_filled_once.ensures.first w })
+    j full filled sound
+    (job_in w job [] (work (explore job hops limit pruned)) status bytes is j short spells (case_of w (explore job hops limit pruned) job [] refl status caused))

@@ -1,16 +1,39 @@
-use Rattle.std.proofs.Common.{ℕ, [], ◌∷◌, subst}
-use Rattle.run_answers.specs.Inputs.{a_job}
+use Rattle.std.proofs.Common.{ℕ, [], ◌∷◌, arith, subst}
+use Rattle.record_lines.specs.declared.lines.RefutedSides.{RefutedSides}
+use Rattle.sefl_syntax.specs.declared.net.Style.{Style}
+use Rattle.sefl_syntax.specs.declared.net.TableKind.{TableKind}
+use Rattle.run_answers.specs.Inputs.{a_job, a_file}
 use Rattle.run_answers.specs.Outside.{outside}
-use Rattle.run_answers.specs.Runs.{Runs}
-use Rattle.run_answers.specs.declared.limits.TheConstants.{HOPS}
+use Rattle.run_answers.specs.Runs.{Runs, one_piece}
+use Rattle.run_answers.specs.declared.limits.TheConstants.{FILE_LIMIT}
 use Rattle.explore_command.specs.Explores.{explore_work}
+use Rattle.model_command.specs.Models.{ModelComes}
+use Rattle.symnet_program.specs.Commands.{kind_of}
 use Rattle.symnet_program.proofs.program.run_command.Goals as goal
+
+pub new-requires : goal.new-requires
+new-requires g c = let ranges = rw (c.in-Explore.is) at c.requires in omega (arith, ranges)
 
 pub returns-in-Explore-clause-ran : goal.returns-in-Explore-clause-ran
 returns-in-Explore-clause-ran g c =
-    rw (c.in-Explore.is) (subst (λ (limit : ℕ). Runs (g.K.Sink.taken c.args.out.now) (g.K.Sink.taken c.run.new.out)
+    rw (c.in-Explore.is) (subst (λ (s : RefutedSides). Runs (g.K.Sink.taken c.args.out.now) (g.K.Sink.taken c.run.new.out)
     (outside (g.F.Folder.files c.args.folder.now) g.P.Patterns.matches g.P.Patterns.bad_patterns g.P.Patterns.refusals g.P.Patterns.find_gives)
-    c.args.patterns.now c.run.new.patterns (a_job c.in-Explore.job.now ∷ []) (explore_work HOPS limit) c.run.result) c.new.ensures c.run.ensures.ran)
+    c.args.patterns.now c.run.new.patterns (a_job c.in-Explore.job.now ∷ []) (explore_work c.in-Explore.hops c.in-Explore.limit s) c.run.result) c.sides_of.ensures
+    (subst (λ (limit : ℕ). Runs (g.K.Sink.taken c.args.out.now) (g.K.Sink.taken c.run.new.out)
+    (outside (g.F.Folder.files c.args.folder.now) g.P.Patterns.matches g.P.Patterns.bad_patterns g.P.Patterns.refusals g.P.Patterns.find_gives)
+    c.args.patterns.now c.run.new.patterns (a_job c.in-Explore.job.now ∷ []) (explore_work c.in-Explore.hops limit c.sides_of.result) c.run.result) c.new.ensures c.run.ensures.ran))
 
 pub returns-in-Walk-clause-ran : goal.returns-in-Walk-clause-ran
 returns-in-Walk-clause-ran g c = rw (c.in-Walk.is) c.run-in-Walk.ensures.ran
+
+pub returns-in-Replay-clause-ran : goal.returns-in-Replay-clause-ran
+returns-in-Replay-clause-ran g c = rw (c.in-Replay.is) c.run-in-Replay.ensures.ran
+
+pub returns-in-Model-clause-ran : goal.returns-in-Model-clause-ran
+returns-in-Model-clause-ran g c =
+    rw (c.in-Model.is) (subst (λ (s : Style). Runs (g.K.Sink.taken c.args.out.now) (g.K.Sink.taken c.run-in-Model.new.out)
+    (outside (g.F.Folder.files c.args.folder.now) g.P.Patterns.matches g.P.Patterns.bad_patterns g.P.Patterns.refusals g.P.Patterns.find_gives)
+    c.args.patterns.now c.run-in-Model.new.patterns (a_file FILE_LIMIT c.in-Model.file.now ∷ []) (one_piece (ModelComes (kind_of c.in-Model.table) s c.in-Model.file.now)) c.run-in-Model.result) c.style_of.ensures
+    (subst (λ (k : TableKind). Runs (g.K.Sink.taken c.args.out.now) (g.K.Sink.taken c.run-in-Model.new.out)
+    (outside (g.F.Folder.files c.args.folder.now) g.P.Patterns.matches g.P.Patterns.bad_patterns g.P.Patterns.refusals g.P.Patterns.find_gives)
+    c.args.patterns.now c.run-in-Model.new.patterns (a_file FILE_LIMIT c.in-Model.file.now ∷ []) (one_piece (ModelComes k c.style_of.result c.in-Model.file.now)) c.run-in-Model.result) c.kind_of.ensures c.run-in-Model.ensures.ran))

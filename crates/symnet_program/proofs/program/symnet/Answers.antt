@@ -1,46 +1,47 @@
 use Rattle.std.proofs.Common.{◌<◌, arith}
-use Rattle.run_answers.specs.declared.limits.TheConstants.{HOPS, LIMIT}
-use Rattle.symnet_program.specs.Words.{command_of}
-use Rattle.symnet_program.proofs.ProgramLemmas.{cause_said, complete_said, exact_said, headline_said, shown_said, told_said, written_said}
+use Rattle.run_answers.specs.Outside.{outside, world}
+use Rattle.command_words.specs.Commands.{command_of, reading}
+use Rattle.symnet_program.specs.Commands.{sides_of}
+use Rattle.symnet_program.proofs.ProgramLemmas.{cause_said, complete_said, exact_said, headline_said, shown_said, told_said, unread, unwritten, written_said}
 use Rattle.symnet_program.proofs.program.symnet.Goals as goal
 
-pub returns-in-Some-clause-cause : goal.returns-in-Some-clause-cause
-returns-in-Some-clause-cause g c =
+pub returns-in-Ok-Some-clause-cause : goal.returns-in-Ok-Some-clause-cause
+returns-in-Ok-Some-clause-cause g c =
     cause_said (g.F.Folder.files c.args.folder.now) g.P.Patterns.matches g.P.Patterns.bad_patterns g.P.Patterns.refusals g.P.Patterns.find_gives c.args.patterns.now c.run_command.new.patterns
-    (g.K.Sink.taken c.args.out.now) (g.K.Sink.taken c.run_command.new.out) _ (command_of c.in-Some.command) c.in-Some.ensures c.run_command.result c.status_of.result c.status_of.ensures c.run_command.ensures.ran
+    (g.K.Sink.taken c.args.out.now) (g.K.Sink.taken c.run_command.new.out) _ (command_of c.in-Ok-Some.command) (rw c.in-Ok-Some.field-0-is at c.in-Ok-Some.ensures.command) c.run_command.result c.status_of.result c.status_of.ensures c.run_command.ensures.ran
 
-pub returns-in-Some-clause-written : goal.returns-in-Some-clause-written
-returns-in-Some-clause-written g c =
+pub returns-in-Ok-Some-clause-written : goal.returns-in-Ok-Some-clause-written
+returns-in-Ok-Some-clause-written g c =
     written_said (g.F.Folder.files c.args.folder.now) g.P.Patterns.matches g.P.Patterns.bad_patterns g.P.Patterns.refusals g.P.Patterns.find_gives c.args.patterns.now c.run_command.new.patterns
-    (g.K.Sink.taken c.args.out.now) (g.K.Sink.taken c.run_command.new.out) _ (command_of c.in-Some.command) c.in-Some.ensures c.run_command.result c.status_of.result c.status_of.ensures c.run_command.ensures.ran
+    (g.K.Sink.taken c.args.out.now) (g.K.Sink.taken c.run_command.new.out) _ (command_of c.in-Ok-Some.command) (rw c.in-Ok-Some.field-0-is at c.in-Ok-Some.ensures.command) c.run_command.result c.status_of.result c.status_of.ensures c.run_command.ensures.ran
 
-pub returns-in-Some-clause-headline : goal.returns-in-Some-clause-headline
-returns-in-Some-clause-headline g c job named done =
+pub returns-in-Ok-Some-clause-headline : goal.returns-in-Ok-Some-clause-headline
+returns-in-Ok-Some-clause-headline g c job hops limit pruned named done =
     headline_said (g.F.Folder.files c.args.folder.now) g.P.Patterns.matches g.P.Patterns.bad_patterns g.P.Patterns.refusals g.P.Patterns.find_gives c.args.patterns.now c.run_command.new.patterns
-    (g.K.Sink.taken c.args.out.now) (g.K.Sink.taken c.run_command.new.out) _ (command_of c.in-Some.command) c.in-Some.ensures c.run_command.result c.status_of.result c.status_of.ensures c.run_command.ensures.ran
-    (c.finished_reports_tell_all.ensures HOPS LIMIT) job named done
+    (g.K.Sink.taken c.args.out.now) (g.K.Sink.taken c.run_command.new.out) _ (command_of c.in-Ok-Some.command) (rw c.in-Ok-Some.field-0-is at c.in-Ok-Some.ensures.command) c.run_command.result c.status_of.result c.status_of.ensures c.run_command.ensures.ran
+    job hops limit pruned (c.finished_reports_tell_all.ensures hops limit (sides_of pruned)) named done
 
-pub returns-in-Some-clause-told : goal.returns-in-Some-clause-told
-returns-in-Some-clause-told g c w told =
+pub returns-in-Ok-Some-clause-told : goal.returns-in-Ok-Some-clause-told
+returns-in-Ok-Some-clause-told g c w told =
     told_said (g.F.Folder.files c.args.folder.now) g.P.Patterns.matches g.P.Patterns.bad_patterns g.P.Patterns.refusals g.P.Patterns.find_gives c.args.patterns.now c.run_command.new.patterns
-    (g.K.Sink.taken c.args.out.now) (g.K.Sink.taken c.run_command.new.out) _ (command_of c.in-Some.command) c.in-Some.ensures c.run_command.result c.status_of.result c.status_of.ensures c.run_command.ensures.ran w told
+    (g.K.Sink.taken c.args.out.now) (g.K.Sink.taken c.run_command.new.out) _ (command_of c.in-Ok-Some.command) (rw c.in-Ok-Some.field-0-is at c.in-Ok-Some.ensures.command) c.run_command.result c.status_of.result c.status_of.ensures c.run_command.ensures.ran w told
 
-pub returns-in-Some-clause-exact : goal.returns-in-Some-clause-exact
-returns-in-Some-clause-exact g c command w fault named told fails settled =
+pub returns-in-Ok-Some-clause-exact : goal.returns-in-Ok-Some-clause-exact
+returns-in-Ok-Some-clause-exact g c command w fault named told fails settled =
     exact_said (g.F.Folder.files c.args.folder.now) g.P.Patterns.matches g.P.Patterns.bad_patterns g.P.Patterns.refusals g.P.Patterns.find_gives c.args.patterns.now c.run_command.new.patterns
-    (g.K.Sink.taken c.args.out.now) (g.K.Sink.taken c.run_command.new.out) _ (command_of c.in-Some.command) c.in-Some.ensures c.run_command.result c.status_of.result c.status_of.ensures c.run_command.ensures.ran command w fault
+    (g.K.Sink.taken c.args.out.now) (g.K.Sink.taken c.run_command.new.out) _ (command_of c.in-Ok-Some.command) (rw c.in-Ok-Some.field-0-is at c.in-Ok-Some.ensures.command) c.run_command.result c.status_of.result c.status_of.ensures c.run_command.ensures.ran command w fault
     (record { first = c.worlds_decide.ensures.first w; excludes = c.worlds_decide.ensures.excludes w }) named told fails settled
 
-pub returns-in-Some-clause-shown : goal.returns-in-Some-clause-shown
-returns-in-Some-clause-shown g c =
+pub returns-in-Ok-Some-clause-shown : goal.returns-in-Ok-Some-clause-shown
+returns-in-Ok-Some-clause-shown g c =
     shown_said (g.F.Folder.faults c.args.folder.now < g.F.Folder.faults c.run_command.new.folder) (g.F.Folder.misses c.args.folder.now < g.F.Folder.misses c.run_command.new.folder)
     (g.F.Folder.excesses c.args.folder.now < g.F.Folder.excesses c.run_command.new.folder) (g.P.Patterns.refusals c.args.patterns.now < g.P.Patterns.refusals c.run_command.new.patterns)
     (g.K.Sink.faults c.args.out.now < g.K.Sink.faults c.run_command.new.out) c.run_command.result c.status_of.result c.status_of.ensures c.run_command.ensures.shows
 
-pub returns-in-Some-clause-complete : goal.returns-in-Some-clause-complete
-returns-in-Some-clause-complete g c command named faults misses excesses broken good =
+pub returns-in-Ok-Some-clause-complete : goal.returns-in-Ok-Some-clause-complete
+returns-in-Ok-Some-clause-complete g c command named faults misses excesses broken good =
     complete_said (g.F.Folder.files c.args.folder.now) g.P.Patterns.matches g.P.Patterns.bad_patterns g.P.Patterns.refusals g.P.Patterns.find_gives c.args.patterns.now c.run_command.new.patterns
-    (g.K.Sink.taken c.args.out.now) (g.K.Sink.taken c.run_command.new.out) _ (command_of c.in-Some.command) c.in-Some.ensures c.run_command.result c.status_of.result c.status_of.ensures c.run_command.ensures.ran command
+    (g.K.Sink.taken c.args.out.now) (g.K.Sink.taken c.run_command.new.out) _ (command_of c.in-Ok-Some.command) (rw c.in-Ok-Some.field-0-is at c.in-Ok-Some.ensures.command) c.run_command.result c.status_of.result c.status_of.ensures c.run_command.ensures.ran command
     (g.F.Folder.faults c.args.folder.now < g.F.Folder.faults c.run_command.new.folder) (g.F.Folder.misses c.args.folder.now < g.F.Folder.misses c.run_command.new.folder)
     (g.F.Folder.excesses c.args.folder.now < g.F.Folder.excesses c.run_command.new.folder) (g.P.Patterns.refusals c.args.patterns.now < g.P.Patterns.refusals c.run_command.new.patterns)
     (g.K.Sink.faults c.args.out.now < g.K.Sink.faults c.run_command.new.out) named
@@ -48,3 +49,16 @@ returns-in-Some-clause-complete g c command named faults misses excesses broken 
     (g.F.Folder.excesses c.args.folder.now < g.F.Folder.excesses c.run_command.new.folder) (g.P.Patterns.refusals c.args.patterns.now < g.P.Patterns.refusals c.run_command.new.patterns)
     (g.K.Sink.faults c.args.out.now < g.K.Sink.faults c.run_command.new.out) c.run_command.result c.status_of.result c.status_of.ensures c.run_command.ensures.shows)
     (λ h. omega (arith, faults, h)) (λ h. omega (arith, misses, h)) (λ h. omega (arith, excesses, h)) (λ h. omega (arith, broken, h)) good
+
+pub returns-in-Err-clause-cause : goal.returns-in-Err-clause-cause
+returns-in-Err-clause-cause g c =
+    unread (outside (g.F.Folder.files c.args.folder.now) g.P.Patterns.matches g.P.Patterns.bad_patterns g.P.Patterns.refusals g.P.Patterns.find_gives) c.args.patterns.now
+    (reading c.args.words.now)
+
+pub returns-in-Err-clause-written : goal.returns-in-Err-clause-written
+returns-in-Err-clause-written g c =
+    unwritten (outside (g.F.Folder.files c.args.folder.now) g.P.Patterns.matches g.P.Patterns.bad_patterns g.P.Patterns.refusals g.P.Patterns.find_gives) c.args.patterns.now
+    (g.K.Sink.taken c.args.out.now) (reading c.args.words.now)
+
+pub returns-in-Err-clause-told : goal.returns-in-Err-clause-told
+returns-in-Err-clause-told g c w told = unread (world w) tt (reading c.args.words.now)

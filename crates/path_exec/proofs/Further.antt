@@ -1,11 +1,11 @@
 -- Guided runs, one decision further.
-use Rattle.std.proofs.Common.{◌≡◌, ◌↔◌, ℕ, Bool, true, false, List, [], ◌∷◌, ◌++◌, Option, Some, None, option_map, refl, sym, ap, subst, ◌∙◌, if◌then◌else◌}
+use Rattle.std.proofs.Common.{◌≡◌, ◌↔◌, ℕ, Bool, true, false, List, [], ◌∷◌, ◌++◌, Some, None, option_map, refl, sym, ap, subst, ◌∙◌, if◌then◌else◌}
 use Rattle.lin_term.specs.Terms.{LinearTerm}
 use Rattle.path_formula.specs.Formulas.{FormulaTree}
 use Rattle.sefl_meaning.specs.declared.walk.Decision.{Decision}
 use Rattle.sefl_meaning.specs.declared.walk.Decision.TheVariants.{Then, Else, Pass, Broken, Copy}
 use Rattle.sefl_meaning.specs.Courses.{Asking, at_if, at_constrain, Progress}
-use Rattle.sefl_meaning.specs.Trees.{Tree, over, arrives, tests, splits}
+use Rattle.sefl_meaning.specs.Trees.{over, arrives, tests, splits}
 use Rattle.sefl_meaning.specs.Taken.{decision_at}
 use Rattle.sefl_meaning.specs.Routes.{Has, IsOpen, offers, route, truth_of}
 use Rattle.exact_records.specs.Records.{SymRoute, SymTree}
@@ -16,7 +16,7 @@ use Rattle.path_exec.specs.declared.engine.Next.{Next}
 use Rattle.path_exec.specs.declared.engine.Next.TheVariants.{AtEnd, AtNode}
 use Rattle.path_exec.specs.declared.engine.Offer.{Offer}
 use Rattle.path_exec.specs.declared.engine.Offer.TheVariants.{If, Constrain, Fork}
-use Rattle.path_exec.specs.Following.{Turns, here_of, spot_of}
+use Rattle.path_exec.specs.Following.{Turns, here_of}
 use Rattle.path_exec.specs.Here.{spot_at, waiting_at}
 use Rattle.path_exec.specs.Offers.{IsAsking, IsNode, IsOver, is_offered, next_by, next_spot}
 use Rattle.path_exec.specs.Stepping.{IsLedThere, IsSideBehind, SideBehind, is_side}

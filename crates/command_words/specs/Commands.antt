@@ -1,0 +1,139 @@
+-- The commands, and the words that give them.
+use Rattle.std.specs.Prelude.{ℕ, ◌≤◌, List, [], ◌∷◌, map, String, string_bytes, codes, Option, Some, None, option_map, option_and_then, if◌then◌else◌}
+use Rattle.std.specs.Str.{bytes_eq}
+use Rattle.std.specs.declared.alloc.Global.{Global}
+use Rattle.command_words.specs.Forms.{Form, Text, read_form, value_of}
+use Rattle.command_words.specs.Numbers.{number_or}
+use Rattle.command_words.specs.declared.command.TheConstants.{HOPS, LIMIT, MOST_HOPS, MOST_LIMIT}
+use Rattle.command_words.specs.declared.command.Command.{Command as CommandOf}
+use Rattle.command_words.specs.declared.command.Command.TheVariants as given
+use Rattle.command_words.specs.declared.command.Pruned.{Pruned}
+use Rattle.command_words.specs.declared.command.Pruned.TheVariants.{All, Count}
+use Rattle.command_words.specs.declared.command.Style.{Style}
+use Rattle.command_words.specs.declared.command.Style.TheVariants.{Chain, Grouped, Egress}
+use Rattle.command_words.specs.declared.command.Table.{Table}
+use Rattle.command_words.specs.declared.command.Table.TheVariants.{Mac, Fib}
+use Rattle.command_words.specs.declared.command.Verb.{Verb}
+use Rattle.command_words.specs.declared.command.Verb.TheVariants.{Explore, Walk, Replay, Model}
+
+-- a command, with the names of the files that it reads, and what its options give
+pub data Command : Type 0 where
+  -- the job; hops and limit, and what is written of pruned records
+  explore : Text → ℕ → ℕ → Pruned → Command
+  -- the job and the packet; hops and limit
+  walk : Text → Text → ℕ → ℕ → Command
+  -- the job and the report
+  replay : Text → Text → Command
+  -- a table's file; and the style of its node
+  model : Table → Text → Style → Command
+
+abbrev pub command_of : CommandOf → Command
+command_of (given.Explore job hops limit pruned) = explore job.now hops limit pruned
+command_of (given.Walk job packet hops limit) = walk job.now packet.now hops limit
+command_of (given.Replay job report) = replay job.now report.now
+command_of (given.Model table file style) = model table file.now style
+
+-- numbers of options are in their ranges
+abbrev pub AreInRange : ℕ → ℕ → Type 0
+AreInRange hops limit = (1 ≤ hops) × (hops ≤ MOST_HOPS) × (1 ≤ limit) × (limit ≤ MOST_LIMIT)
+
+abbrev pub HasRanges : Command → Type 0
+HasRanges (explore job hops limit pruned) = AreInRange hops limit
+HasRanges (walk job packet hops limit) = AreInRange hops limit
+HasRanges (replay job report) = Unit {0}
+HasRanges (model table file style) = Unit {0}
+
+-- what the words behind a command's name may be
+abbrev pub form_of_verb : Verb → Form
+form_of_verb Explore = record { positionals = codes "JOB" ∷ []; options = codes "hops" ∷ codes "limit" ∷ codes "pruned" ∷ [] }
+form_of_verb Walk = record { positionals = codes "JOB" ∷ codes "PACKET" ∷ []; options = codes "hops" ∷ codes "limit" ∷ [] }
+form_of_verb Replay = record { positionals = codes "JOB" ∷ codes "REPORT" ∷ []; options = [] }
+form_of_verb (Model table) = record { positionals = codes "FILE" ∷ []; options = codes "style" ∷ [] }
+
+-- the command of a name
+abbrev pub verb_of : Text → Option Verb
+verb_of word =
+    if bytes_eq word (codes "explore") then Some Explore
+    else if bytes_eq word (codes "walk") then Some Walk
+    else if bytes_eq word (codes "replay") then Some Replay
+    else None
+
+-- the command of the name behind `model`
+abbrev pub model_of : Text → Option Verb
+model_of word =
+    if bytes_eq word (codes "mac") then Some (Model Mac)
+    else if bytes_eq word (codes "fib") then Some (Model Fib)
+    else None
+
+-- the command that the first words name, and the words behind its name
+abbrev pub named : List Text → Option (Verb × List Text)
+named [] = None
+named (word ∷ []) = option_map (λ verb. (verb, [])) (verb_of word)
+named (word ∷ kind ∷ rest) =
+    if bytes_eq word (codes "model") then option_map (λ verb. (verb, rest)) (model_of kind)
+    else option_map (λ verb. (verb, kind ∷ rest)) (verb_of word)
+
+abbrev pub pruned_of : Text → Option Pruned
+pruned_of word =
+    if bytes_eq word (codes "all") then Some All
+    else if bytes_eq word (codes "count") then Some Count
+    else None
+
+abbrev pub pruned_or_all : Option Text → Option Pruned
+pruned_or_all None = Some All
+pruned_or_all (Some word) = pruned_of word
+
+abbrev pub style_of : Text → Option Style
+style_of word =
+    if bytes_eq word (codes "chain") then Some Chain
+    else if bytes_eq word (codes "grouped") then Some Grouped
+    else if bytes_eq word (codes "egress") then Some Egress
+    else None
+
+abbrev pub style_or_grouped : Option Text → Option Style
+style_or_grouped None = Some Grouped
+style_or_grouped (Some word) = style_of word
+
+-- of values by their names
+module _ (value : Text → Option Text) where
+  abbrev pub hops_in : Option ℕ
+  hops_in = number_or 1 MOST_HOPS HOPS (value (codes "hops"))
+
+  abbrev pub limit_in : Option ℕ
+  limit_in = number_or 1 MOST_LIMIT LIMIT (value (codes "limit"))
+
+  abbrev pub pruned_in : Option Pruned
+  pruned_in = pruned_or_all (value (codes "pruned"))
+
+  abbrev pub with_bounds : (ℕ → ℕ → Option Command) → Option Command
+  with_bounds next = option_and_then (λ hops. option_and_then (next hops) limit_in) hops_in
+
+  abbrev pub explore_from : Option Command
+  explore_from = option_and_then (λ job. with_bounds (λ hops limit. option_map (explore job hops limit) pruned_in)) (value (codes "JOB"))
+
+  abbrev pub walk_from : Option Command
+  walk_from = option_and_then (λ job. option_and_then (λ packet. with_bounds (λ hops limit. Some (walk job packet hops limit))) (value (codes "PACKET"))) (value (codes "JOB"))
+
+  abbrev pub style_in : Option Style
+  style_in = style_or_grouped (value (codes "style"))
+
+  abbrev pub replay_from : Option Command
+  replay_from = option_and_then (λ job. option_map (replay job) (value (codes "REPORT"))) (value (codes "JOB"))
+
+  abbrev pub model_from : Table → Option Command
+  model_from table = option_and_then (λ file. option_map (model table file) style_in) (value (codes "FILE"))
+
+-- the command with these values
+abbrev pub command_from : Verb → (Text → Option Text) → Option Command
+command_from Explore = explore_from
+command_from Walk = walk_from
+command_from Replay = replay_from
+command_from (Model table) = λ value. model_from value table
+
+-- the reading of the words: the first name the command, and those behind have a reading in its form, with numbers in their ranges
+abbrev pub read_command : List Text → Option Command
+read_command words =
+    option_and_then (λ p. option_and_then (λ given. command_from p.0 (value_of given)) (read_form (form_of_verb p.0) p.1)) (named words)
+
+abbrev pub reading : List (String Global) → Option Command
+reading words = read_command (map (λ w. string_bytes w) words)

@@ -1,0 +1,261 @@
+//! The commands, and the words that give them.
+
+ghost use Rattle.std.specs.Prelude.{◌≡◌, ◌≤◌, IfOk, IfSome, Some, option_map, codes, map, string_bytes};
+ghost use Rattle.clap.specs.Words.{first_value, found_of};
+ghost use Rattle.command_words.specs.Commands.{Command as CommandOf, HasRanges, command_from, command_of, form_of_verb, hops_in, limit_in, model_of, named, pruned_in, pruned_of, reading, style_in, style_of, verb_of};
+ghost use Rattle.command_words.specs.Shapes.{form_of, named_of};
+
+use crate::form::Form;
+use crate::number::number_in;
+use crate::values::read;
+use clap::ArgMatches;
+use std::alloc::{AllocError, Global};
+
+/// The hops, and the limit of walks or records, where no option gives them.
+pub const HOPS: u32 = 16;
+
+pub const LIMIT: u32 = 10_000;
+
+/// The most of each.
+pub const MOST_HOPS: u32 = 256;
+
+pub const MOST_LIMIT: u32 = 100_000;
+
+/// What is written of pruned records.
+#[derive(Clone, Copy)]
+pub enum Pruned {
+    /// Each of them.
+    All,
+    /// Their number alone.
+    Count,
+}
+
+/// Whose addresses a table's file has: of switches or of routers.
+#[derive(Clone, Copy)]
+pub enum Table {
+    Mac,
+    Fib,
+}
+
+/// How the code of a table's node tests addresses.
+#[derive(Clone, Copy)]
+pub enum Style {
+    Chain,
+    Grouped,
+    Egress,
+}
+
+/// A command, with the names of the files that it reads, and what its options give.
+#[derive(Clone, Copy)]
+pub enum Command<'a> {
+    Explore {
+        job: &'a str,
+        hops: u32,
+        limit: u32,
+        pruned: Pruned,
+    },
+    Walk {
+        job: &'a str,
+        packet: &'a str,
+        hops: u32,
+        limit: u32,
+    },
+    Replay {
+        job: &'a str,
+        report: &'a str,
+    },
+    Model {
+        table: Table,
+        file: &'a str,
+        style: Style,
+    },
+}
+
+/// The name of a command.
+#[derive(Clone, Copy)]
+enum Verb {
+    Explore,
+    Walk,
+    Replay,
+    Model(Table),
+}
+
+impl Verb {
+    /// What the words behind the name may be.
+    fn form(self) -> Form
+        ensures { form_of result ≡ form_of_verb self }
+    {
+        match self {
+            Verb::Explore => Form {
+                positionals: &["JOB"],
+                options: &["hops", "limit", "pruned"],
+            },
+            Verb::Walk => Form {
+                positionals: &["JOB", "PACKET"],
+                options: &["hops", "limit"],
+            },
+            Verb::Replay => Form {
+                positionals: &["JOB", "REPORT"],
+                options: &[],
+            },
+            Verb::Model(_) => Form {
+                positionals: &["FILE"],
+                options: &["style"],
+            },
+        }
+    }
+}
+
+/// The command of a name.
+fn verb_of(word: &str) -> Option<Verb>
+    ensures { result ≡ verb_of word.now }
+{
+    match word {
+        "explore" => Some(Verb::Explore),
+        "walk" => Some(Verb::Walk),
+        "replay" => Some(Verb::Replay),
+        _ => None,
+    }
+}
+
+/// The command of the name behind `model`.
+fn model_of(word: &str) -> Option<Verb>
+    ensures { result ≡ model_of word.now }
+{
+    match word {
+        "mac" => Some(Verb::Model(Table::Mac)),
+        "fib" => Some(Verb::Model(Table::Fib)),
+        _ => None,
+    }
+}
+
+/// The command that the first words name, and the words behind its name.
+fn named(words: &[String]) -> Option<(Verb, &[String])>
+    ensures { named_of result ≡ named (map (λ w. string_bytes w) words.now) }
+{
+    match words {
+        [word, kind, rest @ ..] if word.as_str() == "model" => Some((model_of(kind)?, rest)),
+        [word, rest @ ..] => Some((verb_of(word)?, rest)),
+        [] => None,
+    }
+}
+
+/// The hops that are given, or the default.
+fn hops_in(values: &ArgMatches<'_>) -> Option<u32>
+    ensures value { result ≡ hops_in (first_value (found_of values.now)) }
+    ensures range { IfSome result (λ n. (1 ≤ n) × (n ≤ MOST_HOPS)) }
+{
+    match values.get_str("hops") {
+        Some(word) => number_in(1, MOST_HOPS, word),
+        None => Some(HOPS),
+    }
+}
+
+/// The limit that is given, or the default.
+fn limit_in(values: &ArgMatches<'_>) -> Option<u32>
+    ensures value { result ≡ limit_in (first_value (found_of values.now)) }
+    ensures range { IfSome result (λ n. (1 ≤ n) × (n ≤ MOST_LIMIT)) }
+{
+    match values.get_str("limit") {
+        Some(word) => number_in(1, MOST_LIMIT, word),
+        None => Some(LIMIT),
+    }
+}
+
+fn pruned_of(word: &str) -> Option<Pruned>
+    ensures { result ≡ pruned_of word.now }
+{
+    match word {
+        "all" => Some(Pruned::All),
+        "count" => Some(Pruned::Count),
+        _ => None,
+    }
+}
+
+/// What is to be written of pruned records, or the default.
+fn pruned_in(values: &ArgMatches<'_>) -> Option<Pruned>
+    ensures { result ≡ pruned_in (first_value (found_of values.now)) }
+{
+    match values.get_str("pruned") {
+        Some(word) => pruned_of(word),
+        None => Some(Pruned::All),
+    }
+}
+
+fn style_of(word: &str) -> Option<Style>
+    ensures { result ≡ style_of word.now }
+{
+    match word {
+        "chain" => Some(Style::Chain),
+        "grouped" => Some(Style::Grouped),
+        "egress" => Some(Style::Egress),
+        _ => None,
+    }
+}
+
+/// The style that is given, or the default.
+fn style_in(values: &ArgMatches<'_>) -> Option<Style>
+    ensures { result ≡ style_in (first_value (found_of values.now)) }
+{
+    match values.get_str("style") {
+        Some(word) => style_of(word),
+        None => Some(Style::Grouped),
+    }
+}
+
+/// The command with these values.
+fn command_from<'a>(verb: Verb, values: &ArgMatches<'a>) -> Option<Command<'a>>
+    ensures command { option_map command_of result ≡ command_from verb (first_value (found_of values.now)) }
+    ensures ranges { IfSome result (λ c. HasRanges (command_of c)) }
+{
+    match verb {
+        Verb::Explore => {
+            let job = values.get_str("JOB")?;
+            let hops = hops_in(values)?;
+            let limit = limit_in(values)?;
+            let pruned = pruned_in(values)?;
+            Some(Command::Explore {
+                job,
+                hops,
+                limit,
+                pruned,
+            })
+        }
+        Verb::Walk => {
+            let job = values.get_str("JOB")?;
+            let packet = values.get_str("PACKET")?;
+            let hops = hops_in(values)?;
+            let limit = limit_in(values)?;
+            Some(Command::Walk {
+                job,
+                packet,
+                hops,
+                limit,
+            })
+        }
+        Verb::Replay => {
+            let job = values.get_str("JOB")?;
+            let report = values.get_str("REPORT")?;
+            Some(Command::Replay { job, report })
+        }
+        Verb::Model(table) => {
+            let file = values.get_str("FILE")?;
+            let style = style_in(values)?;
+            Some(Command::Model { table, file, style })
+        }
+    }
+}
+
+/// The command that the words give; None where they have no reading.
+pub fn reading(alloc: Global, words: &[String]) -> Result<Option<Command<'_>>, AllocError>
+    ensures command { IfOk result (λ r. option_map command_of r ≡ reading words.entry.now) }
+    ensures ranges { IfOk result (λ r. IfSome r (λ c. HasRanges (command_of c))) }
+{
+    let Some((verb, rest)) = named(words) else {
+        return Ok(None);
+    };
+    match read(alloc, &verb.form(), rest)? {
+        Some(values) => Ok(command_from(verb, &values)),
+        None => Ok(None),
+    }
+}

@@ -1,0 +1,10 @@
+//! The words of a command line: which command they give, read by `clap`.
+#![tactic(auto)]
+
+mod command;
+mod dash;
+mod form;
+mod number;
+mod values;
+
+pub use command::{Command, HOPS, LIMIT, MOST_HOPS, MOST_LIMIT, Pruned, Style, Table, reading};

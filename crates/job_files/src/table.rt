@@ -1,0 +1,100 @@
+//! The tables that a job names.
+
+ghost use Rattle.std.specs.Prelude.{◌≡◌, ◌<◌, ◌≤◌, true, false, IfOk, IfErr, OnOk, IfSome, IfNone};
+ghost use Rattle.sefl_syntax.specs.Filled.{is_code};
+ghost use Rattle.sefl_syntax.specs.Trees.{table};
+ghost use Rattle.sefl_syntax.specs.Views.{body_tree, job_tree, node_tree};
+ghost use Rattle.run_answers.specs.Refusals.{fault_of_table};
+ghost use Rattle.run_answers.specs.Runs.{InputShows};
+ghost use Rattle.run_answers.specs.Tables.{CodeFails, FirstUnfilled, IsCodeOf, IsFilled};
+
+use crate::file::load_file;
+use run_answers::{FILE_LIMIT, InputFault};
+use sefl_syntax::{Body, Job, RawNode, Style, TableKind, Text, fill};
+use sn_edge::Folder;
+use std::alloc::Global;
+use table_files::{FileFault, file_node};
+
+/// The refusal that tells why the file of this name gives no node.
+fn fault_of_table(name: Text, fault: FileFault) -> InputFault
+    ensures { result ≡ fault_of_table name fault }
+{
+    match fault {
+        FileFault::Bad { line, kind } => InputFault::BadTable { name, line, kind },
+        FileFault::NoMemory => InputFault::NoMemory,
+    }
+}
+
+/// The node of the table in the file of this name.
+fn load_node<F: Folder>(
+    alloc: Global,
+    kind: TableKind,
+    name: &str,
+    style: Style,
+    folder: &mut F,
+) -> Result<RawNode, InputFault>
+    ensures faults_stay { F.faults folder.old ≤ F.faults folder.new }
+    ensures misses_stay { F.misses folder.old ≤ F.misses folder.new }
+    ensures excesses_stay { F.excesses folder.old ≤ F.excesses folder.new }
+    ensures files_kept { F.files folder.new ≡ F.files folder.old }
+    ensures node { IfOk result (λ node. IsCodeOf (F.files folder.old) (table kind name.now style) (node_tree node)) }
+    ensures fails { IfErr result (CodeFails (F.files folder.old) (table kind name.now style)) }
+    ensures shows { IfErr result (InputShows (F.faults folder.old < F.faults folder.new) (F.misses folder.old < F.misses folder.new)
+        (F.excesses folder.old < F.excesses folder.new) ⊥) }
+{
+    let bytes = load_file(alloc, name, FILE_LIMIT, folder)?;
+    let own = Text::of(alloc, name)?;
+    match file_node(alloc, kind, &bytes, style) {
+        Ok(node) => Ok(node),
+        Err(fault) => Err(fault_of_table(own, fault)),
+    }
+}
+
+/// The node of a table; None where a node has code of its own.
+fn table_node<F: Folder>(
+    alloc: Global,
+    body: &Body,
+    folder: &mut F,
+) -> Result<Option<RawNode>, InputFault>
+    ensures faults_stay { F.faults folder.old ≤ F.faults folder.new }
+    ensures misses_stay { F.misses folder.old ≤ F.misses folder.new }
+    ensures excesses_stay { F.excesses folder.old ≤ F.excesses folder.new }
+    ensures files_kept { F.files folder.new ≡ F.files folder.old }
+    ensures own { IfOk result (λ found. IfNone found (is_code (body_tree body.now) ≡ true)) }
+    ensures table { IfOk result (λ found. IfSome found (λ _. is_code (body_tree body.now) ≡ false)) }
+    ensures node { IfOk result (λ found. IfSome found (λ node. IsCodeOf (F.files folder.old) (body_tree body.now) (node_tree node))) }
+    ensures fails { IfErr result (CodeFails (F.files folder.old) (body_tree body.now)) }
+    ensures shows { IfErr result (InputShows (F.faults folder.old < F.faults folder.new) (F.misses folder.old < F.misses folder.new)
+        (F.excesses folder.old < F.excesses folder.new) ⊥) }
+{
+    match body {
+        Body::Code(_) => Ok(None),
+        Body::Table { kind, file, style } => {
+            let node = load_node(alloc, *kind, file.text(), *style, folder)?;
+            Ok(Some(node))
+        }
+    }
+}
+
+/// Gives each node of the job code: loads the tables in order, up to the first that is refused.
+pub fn fill_tables<F: Folder>(
+    alloc: Global,
+    job: &mut Job,
+    folder: &mut F,
+) -> Result<(), InputFault>
+    ensures faults_stay { F.faults folder.old ≤ F.faults folder.new }
+    ensures misses_stay { F.misses folder.old ≤ F.misses folder.new }
+    ensures excesses_stay { F.excesses folder.old ≤ F.excesses folder.new }
+    ensures files_kept { F.files folder.new ≡ F.files folder.old }
+    ensures filled { OnOk result (IsFilled (F.files folder.old) (job_tree job.old) (job_tree job.new)) }
+    ensures fails { IfErr result (FirstUnfilled (F.files folder.old) (job_tree job.old).net.nodes) }
+    ensures shows { IfErr result (InputShows (F.faults folder.old < F.faults folder.new) (F.misses folder.old < F.misses folder.new)
+        (F.excesses folder.old < F.excesses folder.new) ⊥) }
+{
+    for index in 0..job.net.nodes.len() {
+        if let Some(node) = table_node(alloc, &job.net.nodes[index].body, folder)? {
+            fill(job, index, node);
+        }
+    }
+    Ok(())
+}

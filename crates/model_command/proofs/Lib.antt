@@ -1,0 +1,2 @@
+pub mod ComesLemmas
+pub mod OnceLemmas

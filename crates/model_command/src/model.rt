@@ -1,0 +1,86 @@
+//! The command `model` of a table's file.
+
+ghost use Rattle.std.specs.Prelude.{◌≡◌, true, IfOk, IfErr, string_bytes};
+ghost use Rattle.sefl_syntax.specs.Name.{is_name};
+ghost use Rattle.sefl_syntax.specs.NetText.{node_text};
+ghost use Rattle.sefl_syntax.specs.NetWords.{kind_text};
+ghost use Rattle.sefl_syntax.specs.Trees.{NodeTree};
+ghost use Rattle.table_files.specs.FileNodes.{IsNodeOf};
+ghost use Rattle.model_command.specs.Models.{IsModelRefusal, ModelComes};
+
+use command_runs::OnePiece;
+use job_files::ByteFile;
+use run_answers::{Ending, OwnFault};
+use sefl_syntax::{Name, Style, TableKind, Text, print_node};
+use sn_width::NoMemory;
+use std::alloc::Global;
+use table_files::{FileFault, file_node};
+
+/// The node, in a style, of the table of this kind whose file the source is.
+#[derive(Clone, Copy)]
+pub struct TableModel<'a> {
+    pub source: ByteFile<'a>,
+    pub kind: TableKind,
+    pub style: Style,
+}
+
+/// The name that the text is.
+fn name_of(alloc: Global, text: &str) -> Result<Name, NoMemory>
+    requires { is_name text.now ≡ true }
+    ensures { IfOk result (λ name. name ≡ text.now) }
+{
+    let Some(name) = Name::of(alloc, text)? else {
+        unreachable!();
+    };
+    Ok(name)
+}
+
+/// The name of the node that is printed.
+fn node_name(alloc: Global, kind: TableKind) -> Result<Name, NoMemory>
+    ensures { IfOk result (λ name. name ≡ kind_text kind) }
+{
+    match kind {
+        TableKind::Mac => name_of(alloc, "mac"),
+        TableKind::Fib => name_of(alloc, "fib"),
+    }
+}
+
+/// The text of the node of a table's bytes.
+fn text_of_node(
+    alloc: Global,
+    kind: TableKind,
+    style: Style,
+    name: &str,
+    bytes: &[u8],
+) -> Result<String, OwnFault>
+    ensures text { IfOk result (λ text. (node : NodeTree) × IsNodeOf kind bytes.now style node × (string_bytes text ≡ node_text (kind_text kind) node)) }
+    ensures refused { IfErr result (IsModelRefusal kind style name.now bytes.now) }
+{
+    let own = Text::of(alloc, name)?;
+    match file_node(alloc, kind, bytes, style) {
+        Ok(node) => Ok(print_node(alloc, &node_name(alloc, kind)?, &node)?),
+        Err(FileFault::Bad { line, kind }) => Err(OwnFault::BadTable {
+            name: own,
+            line,
+            kind,
+        }),
+        Err(FileFault::NoMemory) => Err(OwnFault::NoMemory),
+    }
+}
+
+impl<'a> OnePiece for TableModel<'a> {
+    type From = ByteFile<'a>;
+
+    ghost source = { λ m. m.source };
+
+    ghost comes = { λ m. ModelComes m.kind m.style m.source.name.now };
+
+    fn source(&self) -> &ByteFile<'a> {
+        &self.source
+    }
+
+    fn text(&self, alloc: Global, given: Vec<u8>) -> Result<(Ending, String), OwnFault> {
+        let text = text_of_node(alloc, self.kind, self.style, self.source.name, &given)?;
+        Ok((Ending::Done, text))
+    }
+}

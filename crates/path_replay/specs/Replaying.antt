@@ -1,0 +1,22 @@
+-- What is answered of the records of a net and an injection.
+use Rattle.std.specs.Prelude.{ℕ, List, Result, Ok, Err}
+use Rattle.sefl_meaning.specs.Network.{Network, Entry}
+use Rattle.exact_records.specs.Packets.{IsExplored}
+use Rattle.exact_records.specs.Records.{RecordTree, SymStart}
+use Rattle.record_checks.specs.Confirming.{Confirms, IsConfirmedBack}
+use Rattle.record_checks.specs.declared.counts.Confirmed.{Confirmed}
+use Rattle.record_checks.specs.declared.fault.ReplayFault.{ReplayFault}
+use Rattle.record_checks.specs.declared.fault.ReplayFault.TheVariants.{NotConfirmed, NoMemory}
+use Rattle.symbolic_engine.specs.Exploring.{FollowsTo}
+
+module _ (net : Network) (i : Entry) (hops : ℕ) where
+  -- of what is explored there, each record has its own meaning, and these are the counts; or this is the first that has not,
+  -- by its first broken part
+  abbrev pub ConfirmsFor : List RecordTree → Result Confirmed ReplayFault → Type 0
+  ConfirmsFor xs (Ok counts) = FollowsTo net i hops (λ start. Confirms start xs (Ok counts))
+  ConfirmsFor xs (Err (NotConfirmed number part)) = FollowsTo net i hops (λ start. Confirms start xs (Err (NotConfirmed number part)))
+  ConfirmsFor xs (Err NoMemory) = Unit {0}
+
+  -- and the other way
+  abbrev pub IsConfirmedBackFor : List RecordTree → Result Confirmed ReplayFault → Type 0
+  IsConfirmedBackFor xs result = (start : SymStart) → IsExplored net i hops start → IsConfirmedBack start xs result

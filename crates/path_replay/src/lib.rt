@@ -1,0 +1,10 @@
+//! Replay: each record of a report is confirmed by itself, by another way than it was found.
+#![tactic(auto)]
+
+pub mod laws;
+mod replaying;
+mod runs;
+mod stop;
+
+pub use record_checks::{Confirmed, Part, ReplayFault};
+pub use replaying::confirm;

@@ -1,0 +1,81 @@
+//! Records that are confirmed by themselves.
+
+ghost use Rattle.std.specs.Prelude.{◌≡◌};
+ghost use Rattle.net_check.specs.Network.{entry, network};
+ghost use Rattle.net_check.specs.Sound.{AreOfOneJob};
+ghost use Rattle.exact_records.specs.Packets.{IsExplored};
+ghost use Rattle.exact_records.specs.View.{record_trees};
+ghost use Rattle.symbolic_engine.specs.Origins.{IsFirstState};
+ghost use Rattle.path_replay.specs.Replaying.{ConfirmsFor, IsConfirmedBackFor};
+
+use crate::laws::one_answer_for_a_net;
+use crate::runs::Runs;
+use net_check::{Injection, Net};
+use path_records::Record;
+use record_checks::{Confirmed, Job, ReplayFault, confirm_along};
+use std::alloc::Global;
+use std::marker::Brand;
+use sym_state::SymState;
+use symbolic_engine::{Explorer, Origin};
+
+/// Confirms that each record has its own meaning, of a net and an injection with so many hops: the counts of the records,
+/// or the first that has not its meaning, by its first broken part. It speaks of each record by itself: not of whether all
+/// packets are shown, and not of whether values are the least.
+///
+/// One run is guided along the decisions of all records, so that records that ascend by their decisions cost what exploring
+/// them cost. The values of a path are walked as a packet. Refutations and causes are checked, and nothing is solved.
+pub fn confirm(
+    alloc: Global,
+    net: &Net,
+    injection: &Injection,
+    hops: u32,
+    records: &[Record],
+) -> Result<Confirmed, ReplayFault>
+    requires { AreOfOneJob (network net.now) (entry injection.now) }
+    ensures confirms { ConfirmsFor (network net.now) (entry injection.now) hops (record_trees records.now) result }
+    ensures back { IsConfirmedBackFor (network net.now) (entry injection.now) hops (record_trees records.now) result }
+{
+    one_answer_for_a_net();
+    confirm_job(alloc, net, injection, hops, records)
+}
+
+/// The same, one way.
+fn confirm_job(
+    alloc: Global,
+    net: &Net,
+    injection: &Injection,
+    hops: u32,
+    records: &[Record],
+) -> Result<Confirmed, ReplayFault>
+    requires { AreOfOneJob (network net.now) (entry injection.now) }
+    ensures { ConfirmsFor (network net.now) (entry injection.now) hops (record_trees records.now) result }
+{
+    let first = SymState::from_injection(alloc, net, injection)?;
+    confirm_from::<Brand>(alloc, net, injection, hops, first, records)
+}
+
+/// The same from the state that the injection begins with.
+fn confirm_from<B: Origin>(
+    alloc: Global,
+    net: &Net,
+    injection: &Injection,
+    hops: u32,
+    first: SymState,
+    records: &[Record],
+) -> Result<Confirmed, ReplayFault>
+    requires job { AreOfOneJob (network net.now) (entry injection.now) }
+    requires net { network net.now ≡ B.net }
+    requires explored { IsExplored (network net.now) (entry injection.now) hops B.start }
+    requires first { IsFirstState B.start (network net.now) hops injection.now.node injection.now.raw.port first }
+    ensures { ConfirmsFor (network net.now) (entry injection.now) hops (record_trees records.now) result }
+{
+    let condition = first.condition().fork()?;
+    let engine = Explorer::<B>::new(alloc, net, injection.place(), hops, first);
+    let runs = Runs::<B> { engine, condition };
+    let job = Job {
+        net,
+        injection,
+        hops,
+    };
+    confirm_along(alloc, &runs, &job, records)
+}

@@ -1,0 +1,78 @@
+//! The command `replay`.
+
+ghost use Rattle.std.specs.Prelude.{◌≡◌, Ok, IfOk, IfErr, string_bytes};
+ghost use Rattle.net_check.specs.Network.{entry, network};
+ghost use Rattle.net_check.specs.Sound.{AreOfOneJob};
+ghost use Rattle.exact_records.specs.View.{record_trees};
+ghost use Rattle.path_report.specs.Reading.{ReadsReport};
+ghost use Rattle.replay_command.specs.Replays.{IsCountsText, IsNoReport, IsReplayRefusal, ReplayComes};
+
+use crate::counts::confirmed_text;
+use crate::fault::{fault_of_replay, fault_of_report};
+use command_runs::OnePiece;
+use job_files::{Both, ByteFile, JobFile, Two};
+use net_check::{Accepted, Net};
+use path_records::Record;
+use path_replay::confirm;
+use path_report::{Report, read_report};
+use run_answers::{Ending, OwnFault};
+use std::alloc::Global;
+
+/// The most bytes that the file of a report may have.
+pub const REPORT_LIMIT: u64 = 268_435_456;
+
+/// The counts of the records of the report of one file, each of which is confirmed by the job of the other.
+#[derive(Clone, Copy)]
+pub struct Replay<'a> {
+    pub source: Both<JobFile<'a>, ByteFile<'a>>,
+}
+
+/// The report that the bytes show.
+fn report_of(alloc: Global, net: &Net, bytes: &[u8]) -> Result<Report, OwnFault>
+    ensures report { IfOk result (λ report. ReadsReport (network net.now) bytes.now (Ok report)) }
+    ensures refused { IfErr result (IsNoReport (network net.now) bytes.now) }
+{
+    match read_report(alloc, net, bytes) {
+        Ok(report) => Ok(report),
+        Err(fault) => Err(fault_of_report(alloc, fault)),
+    }
+}
+
+/// The text of the counts of these records, whose walks have so many hops.
+fn text_of_counts(
+    alloc: Global,
+    job: &Accepted,
+    hops: u32,
+    records: &[Record],
+) -> Result<String, OwnFault>
+    requires { AreOfOneJob (network job.now.net) (entry job.now.injection) }
+    ensures text { IfOk result (λ text. IsCountsText (network job.now.net) (entry job.now.injection) hops (record_trees records.now) (string_bytes text)) }
+    ensures refused { IfErr result (IsReplayRefusal (network job.now.net) (entry job.now.injection) hops (record_trees records.now)) }
+{
+    match confirm(alloc, &job.net, &job.injection, hops, records) {
+        Ok(counts) => Ok(confirmed_text(alloc, &counts)?),
+        Err(fault) => Err(fault_of_replay(fault)),
+    }
+}
+
+impl<'a> OnePiece for Replay<'a> {
+    type From = Both<JobFile<'a>, ByteFile<'a>>;
+
+    ghost source = { λ r. r.source };
+
+    ghost comes = { λ r. ReplayComes };
+
+    fn source(&self) -> &Both<JobFile<'a>, ByteFile<'a>> {
+        &self.source
+    }
+
+    fn text(
+        &self,
+        alloc: Global,
+        given: Two<Accepted, Vec<u8>>,
+    ) -> Result<(Ending, String), OwnFault> {
+        let report = report_of(alloc, &given.first.net, &given.second)?;
+        let text = text_of_counts(alloc, &given.first, report.hops, &report.records)?;
+        Ok((Ending::Done, text))
+    }
+}
