@@ -10,11 +10,7 @@ mod grammar;
 #[cfg(test)]
 mod jobs;
 #[cfg(test)]
-mod lexing;
-#[cfg(test)]
 mod names;
-#[cfg(test)]
-mod packets;
 #[cfg(test)]
 mod patterns;
 #[cfg(test)]

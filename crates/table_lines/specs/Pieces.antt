@@ -1,13 +1,14 @@
 -- What stands between separators.
 use Rattle.std.specs.Prelude.{ℕ, Bool, not, ◌==◌, ◌||◌, if◌then◌else◌, List, [], ◌∷◌}
 use Rattle.table_lines.specs.declared.pieces.Separator.{Separator}
-use Rattle.table_lines.specs.declared.pieces.Separator.TheVariants.{LineFeed, Blank, NumberSign, Colon, Dot, Slash}
+use Rattle.table_lines.specs.declared.pieces.Separator.TheVariants.{LineFeed, Blank, NumberSign, Colon, Comma, Dot, Slash}
 
 abbrev pub separates : Separator → ℕ → Bool
 separates LineFeed c = c == 10
 separates Blank c = c == 32 || c == 9
 separates NumberSign c = c == 35
 separates Colon c = c == 58
+separates Comma c = c == 44
 separates Dot c = c == 46
 separates Slash c = c == 47
 

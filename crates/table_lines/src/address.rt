@@ -71,8 +71,8 @@ fn part_of(kind: TableKind, piece: &[u8]) -> Option<u32>
     at_most(255, number(base_of(kind), digits_of(kind), piece))
 }
 
-/// The address that the word is.
-fn address_of(kind: TableKind, word: &[u8]) -> Option<u64>
+/// The address that the word is: six hexadecimal bytes joined by `:`, or four decimal ones joined by `.`.
+pub fn address_of(kind: TableKind, word: &[u8]) -> Option<u64>
     ensures { result ≡ address_of kind word.now }
 {
     let mut left = Some(word);
@@ -130,8 +130,9 @@ fn prefix_of(word: &[u8]) -> Option<(u64, u32)>
     }
 }
 
-/// What a row is about: an address and how many of its bits count.
-pub(crate) fn key_of(kind: TableKind, word: &[u8]) -> Option<(u64, u32)>
+/// What a row is about: an address and how many of its bits count. Of a prefix the bits past the length
+/// are 0.
+pub fn key_of(kind: TableKind, word: &[u8]) -> Option<(u64, u32)>
     ensures { result ≡ key_of kind word.now }
 {
     match kind {

@@ -12,8 +12,10 @@ mod rows;
 mod table;
 mod words;
 
+pub use address::{address_of, key_of};
 pub use fault::TableFault;
 pub use lines::{LineReader, read_lines};
 pub use number::plain_number;
+pub use pieces::{Separator, next_piece};
 pub use table::{Row, Table, read_table};
 pub use words::next_word;

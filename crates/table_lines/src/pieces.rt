@@ -13,6 +13,7 @@ pub enum Separator {
     /// `#`, which begins a comment.
     NumberSign,
     Colon,
+    Comma,
     Dot,
     Slash,
 }
@@ -26,6 +27,7 @@ impl Separator {
             Separator::Blank => byte == b' ' || byte == b'\t',
             Separator::NumberSign => byte == b'#',
             Separator::Colon => byte == b':',
+            Separator::Comma => byte == b',',
             Separator::Dot => byte == b'.',
             Separator::Slash => byte == b'/',
         }

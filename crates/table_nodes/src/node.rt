@@ -12,7 +12,7 @@ use sn_width::{NoMemory, Num};
 use std::alloc::Global;
 
 /// A node whose input port has this code, and whose output ports have none.
-fn one_input(alloc: Global, ports: u32, code: Vec<Instr>) -> Result<RawNode, NoMemory>
+pub fn one_input(alloc: Global, ports: u32, code: Vec<Instr>) -> Result<RawNode, NoMemory>
     ensures { IfOk result (λ node. node_tree node ≡ node_with ports (in_code (code_tree code.items) ∷ [])) }
 {
     let mut codes = Vec::new(alloc);

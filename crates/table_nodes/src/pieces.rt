@@ -13,7 +13,7 @@ use sn_width::{NoMemory, Num, Rel};
 use std::alloc::Global;
 
 /// An If that forwards what passes the test.
-fn guard(alloc: Global, test: Cond, port: u32) -> Result<Instr, NoMemory>
+pub fn guard(alloc: Global, test: Cond, port: u32) -> Result<Instr, NoMemory>
     ensures { IfOk result (λ i. instr_tree i ≡ guard_instr (cond_tree test, port)) }
 {
     let mut first = Vec::new(alloc);
@@ -119,7 +119,7 @@ fn all_ports(alloc: Global, ports: u32) -> Result<Vec<u32>, NoMemory>
 }
 
 /// A copy for each port.
-pub(crate) fn to_all(alloc: Global, ports: u32) -> Result<Instr, NoMemory>
+pub fn to_all(alloc: Global, ports: u32) -> Result<Instr, NoMemory>
     ensures { IfOk result (λ i. alone (instr_tree i) ≡ to_all ports) }
 {
     Ok(Instr::Fork(all_ports(alloc, ports)?))

@@ -17,5 +17,3 @@ mod stacks;
 mod steps;
 #[cfg(test)]
 mod texts;
-#[cfg(test)]
-mod trees;
