@@ -1,0 +1,182 @@
+//! Runs that decisions guide.
+
+ghost use Rattle.std.specs.Prelude.{◌≡◌, ◌<◌};
+ghost use Rattle.net_check.specs.Network.{entry, network};
+ghost use Rattle.net_check.specs.Sound.{AreOfOneJob};
+
+use crate::jobs::{accepted, let_go};
+use crate::tables::{FORK, RING, TTL};
+use net_check::Accepted;
+use path_exec::FollowFault;
+use path_exec::engine::Offer;
+use sefl_meaning::{Decision, End, Place};
+use sefl_syntax::Side;
+use sn_width::{NodeId, Steps};
+use std::alloc::Global;
+use std::marker::Brand;
+use std::process::Abort;
+use std::sync::ledger::{Blank, Ledger};
+use sym_state::SymState;
+use symbolic_engine::{Led, Waits, arrivals, follow};
+
+/// Where decisions lead, with a new counter.
+fn followed<L: Ledger>(
+    alloc: Global,
+    job: &Accepted,
+    hops: u32,
+    decisions: &[Decision],
+    blank: Blank,
+) -> Result<Led, FollowFault>
+    requires job { AreOfOneJob (network job.now.net) (entry job.now.injection) }
+    requires name { blank.name ≡ L.name }
+    requires parts { blank.parts ≡ L.parts }
+    requires some { 0 < blank.parts }
+{
+    let mut steps = Steps::<L>::new(blank);
+    follow(alloc, &job.net, &job.injection, hops, decisions, &mut steps)
+}
+
+/// Where these decisions, which are offered, lead.
+pub fn led(rt: &impl Abort, alloc: Global, job: &Accepted, hops: u32, decisions: &[Decision]) -> Led
+    requires { AreOfOneJob (network job.now.net) (entry job.now.injection) }
+{
+    match followed::<Brand>(alloc, job, hops, decisions, Blank::new(1)) {
+        Ok(led) => led,
+        Err(_) => panic!(rt; "not offered"),
+    }
+}
+
+/// What comes next, and its number: the site of a failure, how many copies there are, or the first decision that is not offered.
+type Coming = (&'static str, u64);
+
+/// A job, run with so many hops, and where decisions lead: so many formulas are met, and this comes next.
+type Row = (&'static str, u32, &'static [Decision], u64, Coming);
+
+const ROWS: &[Row] = &[
+    (TTL, 16, &[], 0, ("if", 0)),
+    (TTL, 16, &[Decision::Then], 1, ("failed", 3)),
+    (TTL, 16, &[Decision::Else], 1, ("delivered", 0)),
+    (TTL, 16, &[Decision::Pass], 0, ("not offered", 0)),
+    (
+        TTL,
+        16,
+        &[Decision::Else, Decision::Then],
+        0,
+        ("not offered", 1),
+    ),
+    (FORK, 16, &[], 0, ("fork", 3)),
+    (FORK, 16, &[Decision::Copy(2)], 0, ("stopped", 0)),
+    (FORK, 16, &[Decision::Copy(3)], 0, ("not offered", 0)),
+    (RING, 3, &[], 0, ("cut", 0)),
+];
+
+fn what_comes(found: &Result<Led, FollowFault>) -> Coming {
+    match found {
+        Err(FollowFault::Impossible { at }) => ("not offered", *at as u64),
+        Err(FollowFault::NoMemory) => ("no memory", 0),
+        Ok(led) => match &led.waits {
+            Waits::Nothing { how } => what_ended(how),
+            Waits::Decides { offer } => what_is_offered(*offer),
+        },
+    }
+}
+
+fn what_ended(how: &End) -> Coming {
+    match how {
+        End::Stopped => ("stopped", 0),
+        End::Delivered => ("delivered", 0),
+        End::Cut => ("cut", 0),
+        End::Failed { failure: _, site } => ("failed", u64::from(site.0)),
+    }
+}
+
+fn what_is_offered(offer: Offer) -> Coming {
+    match offer {
+        Offer::If => ("if", 0),
+        Offer::Constrain => ("constrain", 0),
+        Offer::Fork { copies } => ("fork", u64::from(copies)),
+    }
+}
+
+/// How many formulas are met there; 0 where the decisions are not offered.
+fn met(found: &Result<Led, FollowFault>) -> u64 {
+    match found {
+        Ok(led) => led.state.condition().len(),
+        Err(_) => 0,
+    }
+}
+
+fn assert_led(rt: &impl Abort, alloc: Global, row: &Row) {
+    let (text, hops, decisions, count, wanted) = row;
+    let job = accepted(rt, alloc, text);
+    let found = followed::<Brand>(alloc, &job, *hops, decisions, Blank::new(1));
+    let (what, number) = what_comes(&found);
+    assert_eq!(rt; what, wanted.0);
+    assert_eq!(rt; number, wanted.1);
+    assert_eq!(rt; met(&found), *count);
+    let_go(job);
+}
+
+#[test]
+fn decisions_lead_to_ends_and_to_questions(rt: HostRuntime) {
+    for row in ROWS {
+        assert_led(&rt, rt.alloc(), row);
+    }
+}
+
+/// The states at a port, with a new counter.
+fn arrived<L: Ledger>(
+    alloc: Global,
+    job: &Accepted,
+    decisions: &[Decision],
+    port: Place,
+    blank: Blank,
+) -> Result<Vec<SymState>, FollowFault>
+    requires job { AreOfOneJob (network job.now.net) (entry job.now.injection) }
+    requires name { blank.name ≡ L.name }
+    requires parts { blank.parts ≡ L.parts }
+    requires some { 0 < blank.parts }
+{
+    let mut steps = Steps::<L>::new(blank);
+    arrivals(
+        alloc,
+        &job.net,
+        &job.injection,
+        3,
+        decisions,
+        port,
+        &mut steps,
+    )
+}
+
+/// A job, decisions, a port with number 0, and how often the run arrives there; None where the decisions are not offered.
+type Visit = (&'static str, &'static [Decision], u32, Side, Option<usize>);
+
+const VISITS: &[Visit] = &[
+    (TTL, &[Decision::Then], 0, Side::Inward, Some(1)),
+    (TTL, &[Decision::Then], 0, Side::Outward, Some(0)),
+    (TTL, &[Decision::Else], 0, Side::Outward, Some(1)),
+    (TTL, &[Decision::Pass], 0, Side::Inward, None),
+    (RING, &[], 0, Side::Inward, Some(2)),
+    (RING, &[], 1, Side::Inward, Some(2)),
+];
+
+fn assert_arrivals(rt: &impl Abort, alloc: Global, row: &Visit) {
+    let (text, decisions, node, side, wanted) = row;
+    let job = accepted(rt, alloc, text);
+    let port = Place {
+        node: NodeId(*node),
+        side: *side,
+        port: 0,
+    };
+    let states = arrived::<Brand>(alloc, &job, decisions, port, Blank::new(1)).ok();
+    let_go(job);
+    assert_eq!(rt; states.map(|states| states.len()), *wanted);
+}
+
+#[test]
+fn runs_arrive_at_ports(rt: HostRuntime) {
+    for row in VISITS {
+        assert_arrivals(&rt, rt.alloc(), row);
+    }
+}

@@ -1,0 +1,200 @@
+//! Receivers that stop, and an exploration of many paths.
+
+ghost use Rattle.std.specs.Prelude.{◌≡◌, ◌<◌, []};
+ghost use Rattle.net_check.specs.Network.{entry, network};
+ghost use Rattle.net_check.specs.Sound.{AreOfOneJob};
+
+use crate::jobs::{accepted, let_go, put, records_of};
+use crate::tables::{FORK, TTL};
+use net_check::{Accepted, Net};
+use path_exec::{Ended, Receiver, Took};
+use path_records::Record;
+use record_text::record_text;
+use sefl_meaning::Decision;
+use sn_width::Steps;
+use std::alloc::Global;
+use std::marker::Brand;
+use std::process::Abort;
+use std::sync::ledger::{Blank, Ledger};
+use symbolic_engine::explore_into;
+
+/// Keeps records, and stops with the one of a number.
+#[derive(Drop)]
+struct Stopping {
+    items: Vec<Record>,
+    /// The number of the record that it stops with, from 0.
+    last: usize,
+    stops: u32,
+}
+
+impl Receiver for Stopping {
+    type Item = Record;
+
+    ghost use Rattle.std.specs.Prelude.{◌≡◌};
+
+    ghost seen = { λ out. record {
+      StandsFor = λ items. out.items.items ≡ items;
+      StoppedIn = λ items. out.items.items ≡ items;
+      stops = out.stops;
+      target = 0;
+      Takes = λ item. Unit {0};
+    } };
+
+    fn take(&mut self, item: Record) -> Took {
+        let Some(stops) = self.stops.checked_add(1) else {
+            return Took::NoMemory;
+        };
+        match self.items.push(item) {
+            Err(_) => Took::NoMemory,
+            Ok(()) => {
+                if self.items.len() <= self.last {
+                    return Took::More;
+                }
+                self.stops = stops;
+                Took::Stop
+            }
+        }
+    }
+}
+
+/// How an exploration ends that the receiver stops.
+fn explored<L: Ledger>(
+    rt: &impl Abort,
+    alloc: Global,
+    job: &Accepted,
+    limit: u32,
+    out: &mut Stopping,
+    blank: Blank,
+) -> Ended
+    requires job { AreOfOneJob (network job.now.net) (entry job.now.injection) }
+    requires within { 0 < limit }
+    requires empty { out.old.items.items ≡ [] }
+    requires name { blank.name ≡ L.name }
+    requires parts { blank.parts ≡ L.parts }
+    requires some { 0 < blank.parts }
+{
+    let mut steps = Steps::<L>::new(blank);
+    explore_into(alloc, &job.net, &job.injection, 16, limit, out, &mut steps).expect(rt, "memory")
+}
+
+/// The second list is the front of the first, by the records' texts.
+fn assert_front(rt: &impl Abort, alloc: Global, net: &Net, all: &[Record], front: &[Record]) {
+    for (wanted, record) in all.iter().zip(front) {
+        let wanted = record_text(alloc, net, wanted).expect(rt, "memory");
+        let found = record_text(alloc, net, record).expect(rt, "memory");
+        assert!(rt; found == wanted);
+    }
+}
+
+/// The number of an end: 0 whole, 1 partial, 2 stopped.
+fn number_of(ended: Ended) -> u8 {
+    match ended {
+        Ended::Whole => 0,
+        Ended::Partial => 1,
+        Ended::Stopped => 2,
+    }
+}
+
+/// Stops with the record of the number, where there is one; else the exploration ends so.
+fn assert_stop(
+    rt: &impl Abort,
+    alloc: Global,
+    job: &Accepted,
+    limit: u32,
+    all: &[Record],
+    last: usize,
+    end: u8,
+)
+    requires { AreOfOneJob (network job.now.net) (entry job.now.injection) }
+{
+    assert!(rt; limit > 0);
+    let mut out = Stopping {
+        items: Vec::new(alloc),
+        last,
+        stops: 0,
+    };
+    let ended = explored::<Brand>(rt, alloc, job, limit, &mut out, Blank::new(1));
+    let (count, wanted) = if last < all.len() {
+        (last + 1, 2)
+    } else {
+        (all.len(), end)
+    };
+    assert_eq!(rt; number_of(ended), wanted);
+    assert_eq!(rt; out.items.len(), count);
+    assert_front(rt, alloc, &job.net, all, &out.items);
+}
+
+fn assert_stops(rt: &impl Abort, alloc: Global, text: &str, limit: u32, end: u8) {
+    let job = accepted(rt, alloc, text);
+    let all = records_of(rt, alloc, &job, 16, limit);
+    for last in 0..=all.len() {
+        assert_stop(rt, alloc, &job, limit, &all, last, end);
+    }
+    let_go(job);
+}
+
+/// A refuted side, an undecided path and a Fork.
+const MIXED: &str =
+    "symnet 1; node a 1 -> 2 { in 0 { constrain global x:8 < 5; if global x:8 + global y:8 == 9 { fork 0, 1; } else { constrain global x:8 > 7; } } } inject a.0 { field global x:8; field global y:8; }";
+
+#[test]
+fn a_receiver_stops_an_exploration(rt: HostRuntime) {
+    for (text, limit, end) in [
+        (TTL, 9, 0),
+        (FORK, 3, 0),
+        (FORK, 1, 1),
+        (MIXED, 9, 0),
+        (MIXED, 2, 1),
+    ] {
+        assert_stops(&rt, rt.alloc(), text, limit, end);
+    }
+}
+
+/// A job with so many instructions that do nothing, and then as many copies as the product of both numbers.
+fn wide_job(rt: &impl Abort, alloc: Global, count: u32, first: u32, second: u32) -> String {
+    let mut text = String::new(alloc);
+    put(rt, &mut text, "symnet 2; node a 1 -> 1 { in 0 { ", 1);
+    put(rt, &mut text, "noop; ", count);
+    put(rt, &mut text, "fork 0", 1);
+    put(rt, &mut text, ", 0", first.saturating_sub(1));
+    put(rt, &mut text, "; } } node b 1 -> 1 { in 0 { fork 0", 1);
+    put(rt, &mut text, ", 0", second.saturating_sub(1));
+    put(rt, &mut text, "; } } link a.0 -> b.0; inject a.0 { }", 1);
+    text
+}
+
+/// The record is the path of these copies.
+fn assert_copies(rt: &impl Abort, record: &Record, first: u32, second: u32) {
+    let Record::Path { decisions, .. } = record else {
+        panic!(rt; "no path");
+    };
+    let wanted = [Decision::Copy(first), Decision::Copy(second)];
+    assert!(rt; decisions.as_slice() == wanted.as_slice());
+}
+
+/// The records are the paths of 1,024 copies of 64 copies, in order. Up to the first Fork 500,001 instructions begin, and one
+/// for each of its copies: so much is the work of the records, which bounds the counter of the exploration.
+fn assert_wide(rt: &impl Abort, records: &[Record]) {
+    let mut number: u32 = 0;
+    let mut work: u32 = 500_001;
+    for record in records {
+        assert_copies(rt, record, number / 64, number % 64);
+        if number % 64 == 0 {
+            work = work.saturating_add(1);
+        }
+        number = number.saturating_add(1);
+    }
+    assert_eq!(rt; number, 65_536);
+    assert_eq!(rt; work, 501_025);
+}
+
+/// Running what the paths share once for each of them would take more than 32,000,000,000 steps.
+#[test]
+fn many_paths_share_what_comes_before_them(rt: HostRuntime) {
+    let alloc = rt.alloc();
+    let text = wide_job(&rt, alloc, 500_000, 1_024, 64);
+    let job = accepted(&rt, alloc, text.as_str());
+    let records = records_of(&rt, alloc, &job, 16, 100_000);
+    assert_wide(&rt, &records);
+    let_go(job);
+}
