@@ -14,7 +14,7 @@ use Rattle.command_words.specs.declared.command.Style.TheVariants.{Chain, Groupe
 use Rattle.command_words.specs.declared.command.Table.{Table}
 use Rattle.command_words.specs.declared.command.Table.TheVariants.{Mac, Fib}
 use Rattle.command_words.specs.declared.command.Verb.{Verb}
-use Rattle.command_words.specs.declared.command.Verb.TheVariants.{Explore, Walk, Replay, Model}
+use Rattle.command_words.specs.declared.command.Verb.TheVariants.{Explore, Walk, Replay, Ask, Model}
 
 -- a command, with the names of the files that it reads, and what its options give
 pub data Command : Type 0 where
@@ -24,6 +24,8 @@ pub data Command : Type 0 where
   walk : Text → Text → ℕ → ℕ → Command
   -- the job and the report
   replay : Text → Text → Command
+  -- the job; hops
+  ask : Text → ℕ → Command
   -- a table's file; and the style of its node
   model : Table → Text → Style → Command
 
@@ -31,6 +33,7 @@ abbrev pub command_of : CommandOf → Command
 command_of (given.Explore job hops limit pruned) = explore job.now hops limit pruned
 command_of (given.Walk job packet hops limit) = walk job.now packet.now hops limit
 command_of (given.Replay job report) = replay job.now report.now
+command_of (given.Ask job hops) = ask job.now hops
 command_of (given.Model table file style) = model table file.now style
 
 -- numbers of options are in their ranges
@@ -41,6 +44,7 @@ abbrev pub HasRanges : Command → Type 0
 HasRanges (explore job hops limit pruned) = AreInRange hops limit
 HasRanges (walk job packet hops limit) = AreInRange hops limit
 HasRanges (replay job report) = Unit {0}
+HasRanges (ask job hops) = (1 ≤ hops) × (hops ≤ MOST_HOPS)
 HasRanges (model table file style) = Unit {0}
 
 -- what the words behind a command's name may be
@@ -48,6 +52,7 @@ abbrev pub form_of_verb : Verb → Form
 form_of_verb Explore = record { positionals = codes "JOB" ∷ []; options = codes "hops" ∷ codes "limit" ∷ codes "pruned" ∷ [] }
 form_of_verb Walk = record { positionals = codes "JOB" ∷ codes "PACKET" ∷ []; options = codes "hops" ∷ codes "limit" ∷ [] }
 form_of_verb Replay = record { positionals = codes "JOB" ∷ codes "REPORT" ∷ []; options = [] }
+form_of_verb Ask = record { positionals = codes "JOB" ∷ []; options = codes "hops" ∷ [] }
 form_of_verb (Model table) = record { positionals = codes "FILE" ∷ []; options = codes "style" ∷ [] }
 
 -- the command of a name
@@ -56,6 +61,7 @@ verb_of word =
     if bytes_eq word (codes "explore") then Some Explore
     else if bytes_eq word (codes "walk") then Some Walk
     else if bytes_eq word (codes "replay") then Some Replay
+    else if bytes_eq word (codes "ask") then Some Ask
     else None
 
 -- the command of the name behind `model`
@@ -120,6 +126,9 @@ module _ (value : Text → Option Text) where
   abbrev pub replay_from : Option Command
   replay_from = option_and_then (λ job. option_map (replay job) (value (codes "REPORT"))) (value (codes "JOB"))
 
+  abbrev pub ask_from : Option Command
+  ask_from = option_and_then (λ job. option_map (ask job) hops_in) (value (codes "JOB"))
+
   abbrev pub model_from : Table → Option Command
   model_from table = option_and_then (λ file. option_map (model table file) style_in) (value (codes "FILE"))
 
@@ -128,6 +137,7 @@ abbrev pub command_from : Verb → (Text → Option Text) → Option Command
 command_from Explore = explore_from
 command_from Walk = walk_from
 command_from Replay = replay_from
+command_from Ask = ask_from
 command_from (Model table) = λ value. model_from value table
 
 -- the reading of the words: the first name the command, and those behind have a reading in its form, with numbers in their ranges

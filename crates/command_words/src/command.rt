@@ -64,6 +64,10 @@ pub enum Command<'a> {
         job: &'a str,
         report: &'a str,
     },
+    Ask {
+        job: &'a str,
+        hops: u32,
+    },
     Model {
         table: Table,
         file: &'a str,
@@ -77,6 +81,7 @@ enum Verb {
     Explore,
     Walk,
     Replay,
+    Ask,
     Model(Table),
 }
 
@@ -98,6 +103,10 @@ impl Verb {
                 positionals: &["JOB", "REPORT"],
                 options: &[],
             },
+            Verb::Ask => Form {
+                positionals: &["JOB"],
+                options: &["hops"],
+            },
             Verb::Model(_) => Form {
                 positionals: &["FILE"],
                 options: &["style"],
@@ -114,6 +123,7 @@ fn verb_of(word: &str) -> Option<Verb>
         "explore" => Some(Verb::Explore),
         "walk" => Some(Verb::Walk),
         "replay" => Some(Verb::Replay),
+        "ask" => Some(Verb::Ask),
         _ => None,
     }
 }
@@ -237,6 +247,11 @@ fn command_from<'a>(verb: Verb, values: &ArgMatches<'a>) -> Option<Command<'a>>
             let job = values.get_str("JOB")?;
             let report = values.get_str("REPORT")?;
             Some(Command::Replay { job, report })
+        }
+        Verb::Ask => {
+            let job = values.get_str("JOB")?;
+            let hops = hops_in(values)?;
+            Some(Command::Ask { job, hops })
         }
         Verb::Model(table) => {
             let file = values.get_str("FILE")?;
