@@ -1,4 +1,4 @@
-pub mod Marking
+pub mod Listing
 pub mod Picked
 pub mod Counting
 pub mod Narrowing

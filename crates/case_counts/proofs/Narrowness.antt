@@ -16,7 +16,7 @@ use Rattle.path_formula.specs.declared.kinds.Kind.TheVariants.{Inside}
 use Rattle.path_cond.specs.Conditions.{Condition, Entry, AllTyped}
 use Rattle.path_cases.specs.Splits.{AtomCanSplit, CanSplit, EachCanSplit}
 use Rattle.case_counts.specs.Coupled.{stands_in, occurs_in, occurs_among, is_inside, couples, is_coupled, symbol_at, symbols_from, coupled_symbols, IsNarrow}
-use Rattle.case_counts.proofs.Marking.{inside_kind}
+use Rattle.case_counts.proofs.Listing.{inside_kind}
 
 and_left : (a b : Bool) → (a && b) ≡ true → a ≡ true
 and_left true b h = refl

@@ -3,4 +3,3 @@ pub mod Seen
 pub mod Coupled
 pub mod Picks
 pub mod Counts
-pub mod Marks

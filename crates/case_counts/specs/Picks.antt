@@ -5,7 +5,6 @@ use Rattle.sn_width.specs.declared.ids.SymId.{SymId}
 use Rattle.path_formula.specs.View.{view}
 use Rattle.path_cond.specs.Conditions.{Condition}
 use Rattle.path_cond.specs.Summaries.{is_inside}
-use Rattle.case_counts.specs.Coupled.{couples}
 use Rattle.case_counts.specs.Seen as any
 pub use Rattle.case_counts.specs.Seen.{passes}
 
@@ -32,10 +31,6 @@ is_inside_pick cond pick = passes is_inside (slice_get cond.entries pick)
 -- each of the picks is of an inside formula
 abbrev pub are_inside_picks : Condition → List ℕ → Bool
 are_inside_picks cond picks = list_all (is_inside_pick cond) picks
-
--- the condition has a formula of the pick, and it couples the symbol
-abbrev pub couples_at : Condition → SymId → ℕ → Bool
-couples_at cond s pick = passes (couples s) (slice_get cond.entries pick)
 
 -- the first of the picks that passes the test
 abbrev pub first_where : (ℕ → Bool) → List ℕ → Option ℕ

@@ -1,6 +1,6 @@
 -- What couples symbols and how many choices there are, in conditions over any formulas that are seen as trees.
-use Rattle.std.specs.Prelude.{ℕ, ◌*◌, Bool, false, ◌&&◌, List, Option, Some, None, map, length, slice_get, slice_index}
-use Rattle.std.specs.List.{list_all, list_any}
+use Rattle.std.specs.Prelude.{ℕ, ◌*◌, Bool, false, List, Option, Some, None, map, length, slice_get, slice_index}
+use Rattle.std.specs.List.{list_all}
 use Rattle.sn_width.specs.declared.ids.SymId.{SymId}
 use Rattle.sn_ranges.specs.Ranges.{Range}
 use Rattle.path_formula.specs.Formulas.{FormulaTree}
@@ -10,8 +10,7 @@ use Rattle.path_cases.specs.Bounds.{Case}
 use Rattle.path_cases.specs.Cases.{single_cases}
 use Rattle.path_cases.specs.Counts.{capped}
 use Rattle.sn_ranges.specs.Sets.{ranges_where}
-use Rattle.case_counts.specs.Occurring.{occurs_in, symbols_from}
-pub use Rattle.path_cond.specs.Kept.{product, is_inside, entry_case_count, formula_choices, has_no_cases, first_without_cases}
+pub use Rattle.path_cond.specs.Kept.{product, is_inside, entry_case_count, formula_choices, has_no_cases, first_without_cases, couples, is_coupled, coupled_symbols, coupled_count}
 
 -- there is a formula, and it passes the test
 abbrev pub passes : {E : Type 0} → (E → Bool) → Option E → Bool
@@ -19,22 +18,6 @@ passes test None = false
 passes test (Some entry) = test entry
 
 module _ {X : Type 0} (tree : X → FormulaTree) where
-  -- the formula is inside, and the symbol occurs in it
-  abbrev pub couples : SymId → X × Bool → Bool
-  couples s entry = is_inside tree entry && occurs_in s (tree entry.0)
-
-  -- the symbol occurs in an inside formula of the condition
-  abbrev pub is_coupled : ConditionOf X → SymId → Bool
-  is_coupled cond s = list_any (couples s) cond.entries
-
-  -- the symbols of the condition that occur in its inside formulas, ascending
-  abbrev pub coupled_symbols : ConditionOf X → List SymId
-  coupled_symbols cond = symbols_from (is_coupled cond) 0 (length cond.widths)
-
-  -- their number
-  abbrev pub coupled_count : ConditionOf X → ℕ
-  coupled_count cond = length (coupled_symbols cond)
-
   -- the ranges of the values of the symbol's width that meet each formula that is simple on the symbol
   abbrev pub domain_ranges : ConditionOf X → SymId → List Range
   domain_ranges cond s = ranges_where (slice_index cond.widths s.0) (in_domain tree s cond)
@@ -49,7 +32,7 @@ module _ {X : Type 0} (tree : X → FormulaTree) where
 
   -- the number of choices of a range of the domain of each coupled symbol
   abbrev pub range_choices : ConditionOf X → ℕ
-  range_choices cond = product (map (range_count cond) (coupled_symbols cond))
+  range_choices cond = product (map (range_count cond) (coupled_symbols tree cond))
 
   -- the number of choices of a case of each inside formula and of a range of the domain of each coupled symbol, and
   -- 2^64 - 1 where there are more

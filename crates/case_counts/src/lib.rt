@@ -4,7 +4,6 @@
 mod count;
 mod coupled;
 pub mod laws;
-mod marks;
 mod picks;
 
 pub use count::{case_count, case_count_with};

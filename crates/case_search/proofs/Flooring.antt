@@ -1,5 +1,5 @@
 -- Bounds from below that the cases of a choice imply.
-use Rattle.std.proofs.Common.{◌≡◌, ℕ, zero, suc, ◌+◌, ◌<◌, ◌≤◌, ℤ, pos, Bool, true, false, cond, eqb, eq-eqb, eqb-true, List, [], ◌∷◌, ◌++◌, Option, Some, None, inl, inr, length, get_or, drop, map, arith, refl, ap, sym, subst, ◌∙◌}
+use Rattle.std.proofs.Common.{◌≡◌, ℕ, zero, suc, ◌+◌, ◌<◌, ◌≤◌, ℤ, pos, Bool, true, false, cond, eqb, eq-eqb, eqb-true, List, [], ◌∷◌, ◌++◌, Option, Some, None, inl, inr, length, get_or, drop, arith, refl, ap, sym, subst, ◌∙◌}
 use Rattle.std.specs.Prelude.{All, ◌≤ℤ◌, ◌+ℤ◌, neg_ℤ, ◌^◌}
 use Rattle.std.specs.Int.{int_max}
 use Rattle.std.specs.Option.{option_and_then}

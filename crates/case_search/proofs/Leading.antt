@@ -1,5 +1,5 @@
 -- How a walk goes from bounds to bounds.
-use Rattle.std.proofs.Common.{◌≡◌, ℕ, ◌+◌, ◌<◌, ◌≤◌, ℤ, Bool, true, false, List, [], ◌∷◌, ◌++◌, Option, Some, None, is_some, inl, inr, length, length-append, get_or, take, drop, append-nil, append_assoc, reverse, arith, refl, ap, sym, subst, ◌∙◌}
+use Rattle.std.proofs.Common.{◌≡◌, ℕ, ◌+◌, ◌<◌, ◌≤◌, ℤ, true, false, List, [], ◌∷◌, ◌++◌, Option, Some, None, is_some, inl, inr, length, length-append, take, drop, append-nil, append_assoc, reverse, arith, refl, ap, sym, subst, ◌∙◌}
 use Rattle.std.specs.Prelude.{All, IfNone}
 use Rattle.std.specs.Global.{Vec}
 use Rattle.std.proofs.lemmas.List.{take_at, length-take-le, drop_more, drop_all, reverse-append}
@@ -7,8 +7,8 @@ use Rattle.std.proofs.lemmas.List.Elements.{All-nil, All-append, All-take}
 use Rattle.difference_solver.specs.Bound.{Meets, IsInRange}
 use Rattle.difference_solver.specs.Cycle.{IsNegativeCycle}
 use Rattle.case_search.specs.Branches.{case_of, pending, IsBranch, AreBranches, RefutesBut, AreRefuted}
-use Rattle.case_search.specs.Choices.{Case, MeetsOne, MeetsEach, with_each, cases_at, AreInRange, IsMet}
-use Rattle.case_search.specs.Progress.{AreFirst, IsSoFar, IsOnWay, IsAt, IsPast, IsLeft, IsFound}
+use Rattle.case_search.specs.Choices.{Case, MeetsOne, MeetsEach, with_each, cases_at, AreInRange}
+use Rattle.case_search.specs.Progress.{AreFirst, IsSoFar, IsAt, IsPast, IsLeft, IsFound}
 use Rattle.case_search.specs.Steps.{Refutes}
 use Rattle.case_search.specs.Words.{is_behind}
 use Rattle.case_search.specs.declared.choice.Step.{Step}

@@ -1,13 +1,13 @@
-pub mod Closing
 pub mod Flooring
 pub mod Leading
 pub mod Lowering
-pub mod MadeZero
 pub mod Meeting
+pub mod Naming
 pub mod Parting
 pub mod Passing
 pub mod Placing
 pub mod Reading
+pub mod Renamed
 pub mod Solving
 pub mod Steps
 pub mod WordLemmas

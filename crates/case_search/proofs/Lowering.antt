@@ -11,7 +11,7 @@ use Rattle.difference_solver.specs.declared.bound.Bound.{Bound}
 use Rattle.case_search.specs.Branches.{case_of, IsBranch}
 use Rattle.case_search.specs.Choices.{Case, cases_at, with_each}
 use Rattle.case_search.specs.Floors.{all_before}
-use Rattle.case_search.specs.Lifting.{is_apart, all_apart, avoids, all_avoid, lowered, IsLowered}
+use Rattle.case_search.specs.Lifting.{is_apart, all_apart, all_avoid, lowered, IsLowered}
 use Rattle.case_search.specs.Steps.{Refutes}
 use Rattle.case_search.specs.declared.choice.Step.{Step}
 use Rattle.case_search.specs.declared.choice.Step.TheVariants.{Split, Cycle}

@@ -7,7 +7,7 @@ use Rattle.difference_solver.specs.Bound.{Meets, number, IsInRange}
 use Rattle.case_search.specs.Choices.{Case, MeetsOne, MeetsEach, AreInRange, EachHasBelow, OneHasBelow}
 use Rattle.case_search.specs.Parts.{has_label, case_passes, choice_passes, part_of, EachHasLabel}
 
-three : (a b c : Bool) → cond a (cond b c false) false ≡ true → (a ≡ true) × (b ≡ true) × (c ≡ true)
+pub three : (a b c : Bool) → cond a (cond b c false) false ≡ true → (a ≡ true) × (b ≡ true) × (c ≡ true)
 three true true true h = (refl, refl, refl)
 three true true false h = absurd (cc)
 three true false c h = absurd (cc)

@@ -1,13 +1,13 @@
 -- How what is found goes on with each step of a search.
-use Rattle.std.proofs.Common.{◌≡◌, ℕ, ◌+◌, ◌<◌, ℤ, Bool, true, false, not, List, [], ◌∷◌, ◌++◌, Option, Some, None, inl, inr, length, arith, sym, ◌∙◌}
+use Rattle.std.proofs.Common.{◌≡◌, ℕ, ◌<◌, ℤ, true, false, List, ◌∷◌, ◌++◌, Option, Some, None, inl, inr, length, arith, sym, ◌∙◌}
 use Rattle.std.specs.Prelude.{All}
 use Rattle.std.specs.Global.{Vec}
 use Rattle.std.proofs.lemmas.Bool.{not-true, not-false}
 use Rattle.std.proofs.lemmas.List.Elements.{All-append, All-map, All-weaker}
 use Rattle.difference_solver.specs.Bound.{Meets, IsInRange, IsSolution, HasLowerBounds}
 use Rattle.difference_solver.specs.Bound as Bounds
-use Rattle.case_search.specs.Choices.{Case, MeetsOne, MeetsEach, with_each, cases_at, AreBelow, IsMet, IsUpTo}
-use Rattle.case_search.specs.Progress.{AreFirst, IsSoFar, IsLeastAllBut}
+use Rattle.case_search.specs.Choices.{Case, MeetsOne, MeetsEach, with_each, cases_at, IsUpTo}
+use Rattle.case_search.specs.Progress.{AreFirst, IsSoFar}
 use Rattle.case_search.specs.Floors.{bound_of, bounds_of, IsFloor, AreFloors}
 use Rattle.case_search.specs.declared.floors.Floor.{Floor}
 use Rattle.case_search.specs.Words.{comes_before, is_behind}

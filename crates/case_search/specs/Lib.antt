@@ -5,5 +5,6 @@ pub mod Lifting
 pub mod Outcomes
 pub mod Parts
 pub mod Progress
+pub mod Renaming
 pub mod Steps
 pub mod Words

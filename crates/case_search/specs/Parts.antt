@@ -1,7 +1,7 @@
 -- Parts of choices: those whose unknowns have the same label.
-use Rattle.std.specs.Prelude.{◌≡◌, ◌==◌, ℕ, suc, ℤ, pos, ◌+◌, ◌<◌, ◌≤◌, ◌≤ℤ◌, Bool, true, false, List, [], ◌∷◌, ◌++◌, All, length, slice_index, if◌then◌else◌}
-use Rattle.difference_solver.specs.Bound.{Meets, number, IsInRange}
-use Rattle.case_search.specs.Choices.{Case, MeetsEach, IsMet, HasBelow}
+use Rattle.std.specs.Prelude.{◌≡◌, ◌==◌, ℕ, suc, ℤ, pos, ◌+◌, ◌<◌, ◌≤◌, ◌≤ℤ◌, Bool, true, false, List, [], ◌∷◌, All, length, slice_index, if◌then◌else◌}
+use Rattle.difference_solver.specs.Bound.{number}
+use Rattle.case_search.specs.Choices.{Case, MeetsEach, IsMet}
 use Rattle.case_search.specs.declared.choice.Step.{Step}
 use Rattle.case_search.specs.declared.choice.Step.TheVariants.{Split, Cycle}
 
@@ -45,19 +45,6 @@ EachHasLabel last labels (cases ∷ choices) =
 pub record AreApart (last : ℕ) (labels : List ℕ) (choices : List (List Case)) : Type 0 where
   pub up_to : All (λ label. label ≤ last) labels
   pub each : EachHasLabel last labels choices
-
--- the bounds say of the unknowns up to n that each that does not pass the test is zero
-pub record AreZero (count n : ℕ) (test : ℕ → Bool) (case : Case) : Type 0 where
-  pub in_range : All (IsInRange count) case
-  pub below : (u : ℕ) → 0 < u → u ≤ n → test u ≡ false → HasBelow u case
-  pub zero : (v : List ℤ) → number v 0 ≡ pos 0 → All (Meets v) case → (u : ℕ) → 0 < u → u ≤ n → test u ≡ false → number v u ≡ pos 0
-  pub met : (v : List ℤ) → number v 0 ≡ pos 0 → ((u : ℕ) → 0 < u → test u ≡ false → number v u ≡ pos 0) → All (Meets v) case
-
--- the choices that pass, and one more, whose one case makes the other unknowns zero
-pub record IsClosed (count : ℕ) (test : ℕ → Bool) (choices closed : List (List Case)) : Type 0 where
-  pub zeros : Case
-  pub with_zeros : closed ≡ part_of test choices ++ (zeros ∷ []) ∷ []
-  pub outside : AreZero count count test zeros
 
 -- the integers meet one case of each choice of a part, and where all integers of the part before an unknown are those of
 -- others that meet one case of each of all choices, that of the unknown is not greater

@@ -1,16 +1,17 @@
 //! The least integers of choices, found part by part.
 
-ghost use Rattle.std.specs.Prelude.{ℕ, ◌^◌, ◌<◌, ◌≤◌, ◌↔◌, [], ◌∷◌, length, IfOk};
-ghost use Rattle.case_search.specs.Choices.{lists_of, AreBelow, AreInRange, IsMet, IsLeast, IsUnmet};
+ghost use Rattle.std.specs.Prelude.{ℕ, ◌^◌, ◌≡◌, ◌<◌, ◌≤◌, ◌↔◌, [], ◌∷◌, length, IfOk};
+ghost use Rattle.case_search.specs.Choices.{lists_of, AreBelow, AreInRange, IsLeast, IsUnmet};
 ghost use Rattle.case_search.specs.Outcomes.{IfLeast, IfRefuted, IsRefuted};
-ghost use Rattle.case_search.specs.Parts.{has_label, part_of, AreApart, IsPartLeast};
+ghost use Rattle.case_search.specs.Parts.{has_label, AreApart, IsPartLeast};
+ghost use Rattle.case_search.specs.Renaming.{names_of as names_with};
 ghost use Rattle.case_search.specs.Steps.{Refutes};
 
 use crate::choice::{Choice, Outcome};
 use crate::labels::{labels_of, renumber};
-use crate::parts::{Part, all_placed, are_apart};
+use crate::parts::{Part, all_placed, are_apart, put_part};
+use crate::renaming::{last_of, names_of, spread};
 use crate::search::search;
-use crate::zeros::{closed_part, put_part};
 use difference_solver::NoMemory;
 use std::alloc::Global;
 
@@ -71,7 +72,8 @@ fn search_parts(
     Ok(Outcome::Least { values })
 }
 
-/// The least integers for the choices whose unknowns have the label, or a refutation of all choices.
+/// The least integers for the choices whose unknowns have the label, or a refutation of all choices. The unknowns of the
+/// part have numbers of their own, so that the solver's work is that of the part.
 fn search_part(
     alloc: Global,
     choices: &[Choice],
@@ -90,56 +92,41 @@ fn search_part(
     ensures refuted { IfOk result (λ outcome. IfRefuted outcome (Refutes (lists_of choices.now) ([] ∷ []))) }
     ensures unmet { IfOk result (λ outcome. IsRefuted outcome → IsUnmet count (lists_of choices.now)) }
 {
-    let found = solve_part(alloc, choices, count, labels, label)?;
-    match found {
-        Outcome::Least { values } => Ok(Outcome::Least { values }),
-        Outcome::Refuted { .. } => refute_part(alloc, choices, count, labels, label),
-    }
+    let names = names_of(alloc, labels, label, count)?;
+    search_named(alloc, choices, count, labels, label, names.as_slice())
 }
 
-/// What is found for the choices whose unknowns have the label: the least integers, or that there are none.
-fn solve_part(
+/// The same, where these are the unknowns with the label.
+fn search_named(
     alloc: Global,
     choices: &[Choice],
     count: u32,
     labels: &[u32],
     label: u32,
+    names: &[u32],
 ) -> Result<Outcome, NoMemory>
     requires unknowns { count ≤ 64 }
-    requires few { length choices.now < 2 ^ 32 }
+    requires choices { length choices.now < 2 ^ 32 }
     requires in_range { AreInRange count (lists_of choices.now) }
     requires below { AreBelow count (lists_of choices.now) }
     requires apart { (last : ℕ) × AreApart last labels.now (lists_of choices.now) }
+    requires names { names.now ≡ names_with (has_label labels.now label) count }
+    requires some { 0 < length names.now }
+    requires few { length names.now ≤ 65 }
 
     ensures least { IfOk result (λ outcome. IfLeast outcome
         (IsPartLeast count (has_label labels.now label) (lists_of choices.now))) }
-    ensures unmet { IfOk result (λ outcome. IsRefuted outcome
-        → IsUnmet count (part_of (has_label labels.now label) (lists_of choices.now))) }
-{
-    let part = closed_part(alloc, choices, labels, label, count)?;
-    search(alloc, part.as_slice(), count)
-}
-
-/// What is found for the choices whose unknowns have the label: integers, or a refutation of all choices.
-fn refute_part(
-    alloc: Global,
-    choices: &[Choice],
-    count: u32,
-    labels: &[u32],
-    label: u32,
-) -> Result<Outcome, NoMemory>
-    requires unknowns { count ≤ 64 }
-    requires few { length choices.now < 2 ^ 32 }
-    requires in_range { AreInRange count (lists_of choices.now) }
-
-    ensures met { IfOk result (λ outcome. IfLeast outcome
-        (IsMet count (part_of (has_label labels.now label) (lists_of choices.now)))) }
     ensures refuted { IfOk result (λ outcome. IfRefuted outcome (Refutes (lists_of choices.now) ([] ∷ []))) }
+    ensures unmet { IfOk result (λ outcome. IsRefuted outcome → IsUnmet count (lists_of choices.now)) }
 {
-    let part = Part::of(alloc, choices, labels, label)?;
-    let found = search(alloc, part.choices.as_slice(), count)?;
+    let part = Part::of(alloc, choices, labels, label, names)?;
+    let last = last_of(names);
+    let found = search(alloc, part.choices.as_slice(), last)?;
     match found {
-        Outcome::Least { values } => Ok(Outcome::Least { values }),
+        Outcome::Least { values } => {
+            let integers = spread(alloc, labels, label, names, values.as_slice(), count)?;
+            Ok(Outcome::Least { values: integers })
+        }
         Outcome::Refuted { steps } => {
             let steps = all_placed(alloc, part.places.as_slice(), steps)?;
             Ok(Outcome::Refuted { steps })

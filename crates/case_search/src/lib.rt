@@ -10,9 +10,9 @@ mod lift;
 mod met;
 mod order;
 mod parts;
+mod renaming;
 mod search;
 mod walk;
-mod zeros;
 
 pub use choice::{Choice, Outcome, Step};
 pub use least::find_least;

@@ -8,7 +8,7 @@ use crate::choice::Choice;
 use difference_solver::Bound;
 
 /// The integer of an unknown.
-fn number(values: &[i128], unknown: u32) -> i128
+pub(crate) fn number(values: &[i128], unknown: u32) -> i128
     ensures { result ≡ number values.now unknown }
 {
     values.get(unknown as usize).copied().unwrap_or(0)

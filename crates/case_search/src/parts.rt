@@ -1,11 +1,14 @@
 //! Parts of choices that share no unknowns.
 
-ghost use Rattle.std.specs.Prelude.{◌≡◌, ◌^◌, ◌<◌, ◌≤◌, All, IsTrue, map, length, IfOk};
-ghost use Rattle.case_search.specs.Choices.{lists_of, cases_of, items_of};
+ghost use Rattle.std.specs.Prelude.{◌≡◌, ℕ, ◌^◌, ◌<◌, ◌≤◌, All, IsTrue, map, length, IfOk, if◌then◌else◌};
+ghost use Rattle.difference_solver.specs.Bound.{number};
+ghost use Rattle.case_search.specs.Choices.{lists_of, items_of};
 ghost use Rattle.case_search.specs.Parts.{has_label, case_passes, choice_passes, part_of, places_of, placed, EachHasLabel, AreApart};
+ghost use Rattle.case_search.specs.Renaming.{renamed_choices};
 
 use crate::choice::{Choice, Step};
 use crate::labels::{first_label, label_of};
+use crate::renaming::renamed_choice;
 use difference_solver::Bound;
 use std::alloc::{AllocError, Global};
 
@@ -79,19 +82,7 @@ pub(crate) fn are_apart(labels: &[u32], choices: &[Choice], last: u32) -> bool
     each_has_label(labels, choices, last)
 }
 
-fn copy_of(alloc: Global, cases: &[Vec<Bound>]) -> Result<Choice, AllocError>
-    ensures { IfOk result (λ copy. cases_of copy ≡ map items_of cases.now) }
-{
-    let mut copies = Vec::new(alloc);
-    for case in cases {
-        let mut copy = Vec::new(alloc);
-        copy.extend_from_slice(case.as_slice())?;
-        copies.push(copy)?;
-    }
-    Ok(Choice { cases: copies })
-}
-
-/// Choices whose unknowns have the same label, and their indices among all choices.
+/// Choices whose unknowns have the same label, with new numbers for these, and their indices among all choices.
 #[derive(Drop)]
 pub struct Part {
     pub places: Vec<u32>,
@@ -99,16 +90,19 @@ pub struct Part {
 }
 
 impl Part {
-    /// The choices all of whose unknowns have the label.
+    /// The choices all of whose unknowns have the label, by new numbers: the places of the unknowns among the names.
     pub(crate) fn of(
         alloc: Global,
         choices: &[Choice],
         labels: &[u32],
         label: u32,
+        names: &[u32],
     ) -> Result<Part, AllocError>
         requires few { length choices.now < 2 ^ 32 }
+        requires names { length names.now ≤ 65 }
         ensures places { IfOk result (λ part. part.places.items ≡ places_of (has_label labels.now label) 0 (lists_of choices.now)) }
-        ensures choices { IfOk result (λ part. lists_of part.choices.items ≡ part_of (has_label labels.now label) (lists_of choices.now)) }
+        ensures choices { IfOk result (λ part. lists_of part.choices.items
+            ≡ renamed_choices names.now (part_of (has_label labels.now label) (lists_of choices.now))) }
     {
         let mut part = Part {
             places: Vec::new(alloc),
@@ -118,7 +112,7 @@ impl Part {
             let cases = choice.cases.as_slice();
             if choice_has_label(labels, label, cases) {
                 part.places.push(index as u32)?;
-                part.choices.push(copy_of(alloc, cases)?)?;
+                part.choices.push(renamed_choice(alloc, names, cases)?)?;
             }
         }
         Ok(part)
@@ -150,4 +144,18 @@ pub(crate) fn all_placed(
     }
     found.reverse();
     Ok(found)
+}
+
+/// Puts the integers of the unknowns with the label in place of those before.
+pub(crate) fn put_part(values: &mut Vec<i128>, labels: &[u32], label: u32, part: &[i128])
+    requires { length values.old.items ≡ length part.now }
+    ensures count { length values.new.items ≡ length values.old.items }
+    ensures put { (u : ℕ) → number values.new.items u
+        ≡ (if has_label labels.now label u then number part.now u else number values.old.items u) }
+{
+    for unknown in 0..values.len() {
+        if has_label(labels, label, unknown) {
+            values[unknown] = part[unknown];
+        }
+    }
 }

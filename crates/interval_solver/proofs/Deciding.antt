@@ -15,7 +15,7 @@ use Rattle.path_formula.specs.Solutions.{agrees, alone}
 use Rattle.path_formula.specs.View.{view}
 use Rattle.path_formula.specs.declared.kinds.Kind.{Kind}
 use Rattle.path_formula.specs.declared.kinds.Kind.TheVariants.{Constant, Simple, Inside, Outside}
-use Rattle.path_cond.specs.Conditions.{Condition, Entry, meets, entry_holds, is_entry_on, is_simple_on, is_broken, is_broken_kind, first_broken, holds_at, in_domain}
+use Rattle.path_cond.specs.Conditions.{Condition, Entry, meets, entry_holds, is_entry_on, is_simple_on, is_broken, is_broken_kind, first_broken, holds_at, in_domain, is_possible}
 use Rattle.interval_solver.specs.Domains.{IsDomainOf, AreDomainsOf, first_empty}
 use Rattle.path_formula.specs.Typed.{AreValues}
 use Rattle.interval_solver.specs.Verdicts.{IsPossible, IsLeastPossible, AreLeastOfFirst, AreLeastValues, IsFirstWithoutValue, IsWithoutValue, IsVerdictOn, is_refuting, is_false, is_empty_verdict, is_settled, holds_if_settled}
@@ -77,6 +77,14 @@ not_past xs i e lt = let h = (held xs i lt).1 in cc
 module _ (path : Condition) (sets : List RangeSet) (d : AreDomainsOf path sets) where
   pub has_member : (s : SymId) (set : RangeSet) → first_empty sets ≡ None → slice_get sets s.0 ≡ Some set → (x : ℕ) × (is_member set.pairs x ≡ true)
   has_member s set none at = filled_member set.width set.pairs (d.domains s set at).canonical (filled sets s.0 set none at)
+
+  -- where no domain is empty, each symbol has a possible value
+  pub has_value : first_empty sets ≡ None → (s : SymId) → s.0 < length path.widths → (value : ℕ) × (is_possible path s value ≡ true)
+  has_value none s known =
+      let count = d.count in
+      let here = held sets s.0 (omega arith) in
+      let one = has_member s here.0 none here.1 in
+      (one.0, sym ((d.domains s here.0 here.1).members one.0) ∙ one.1)
 
   pub first_without : (s : SymId) → IsFirstAt sets s.0 → IsFirstWithoutValue path s
   first_without s h =

@@ -1,12 +1,12 @@
 //! What holds of all conditions and their domains. Each is the contract of a function that has
 //! nothing to do.
 
-ghost use Rattle.std.specs.Prelude.{◌≡◌, ◌↔◌, ℕ, true, false, [], ◌∷◌, ◌++◌, List, Some, None};
+ghost use Rattle.std.specs.Prelude.{◌≡◌, ◌↔◌, ℕ, true, false, [], ◌∷◌, ◌++◌, ◌<◌, List, Some, None, length};
 ghost use Rattle.std.specs.List.{list_all};
 ghost use Rattle.sn_ranges.specs.Ranges.{RangeSet};
 ghost use Rattle.sn_width.specs.declared.ids.SymId.{SymId as Symbol};
-ghost use Rattle.path_cond.specs.Conditions.{Condition, Entry, first_broken, holds_at};
-ghost use Rattle.interval_solver.specs.Domains.{AreDomainsOf, AreDomainsBeforeLast};
+ghost use Rattle.path_cond.specs.Conditions.{Condition, Entry, first_broken, holds_at, is_possible};
+ghost use Rattle.interval_solver.specs.Domains.{AreDomainsOf, AreDomainsBeforeLast, first_empty};
 ghost use Rattle.path_formula.specs.Typed.{AreValues};
 ghost use Rattle.interval_solver.specs.Verdicts.{AreLeastValues, IsVerdictOn, IsWithoutValue, is_refuting, is_false, is_empty_verdict, holds_if_settled};
 ghost use Rattle.interval_solver.specs.declared.decide.SimpleVerdict.{SimpleVerdict as Answer};
@@ -49,6 +49,12 @@ pub fn least_values_settle_simple_formulas()
     path_formula::laws::a_constant_formula_has_one_truth();
     path_formula::laws::a_simple_formula_may_stand_alone();
 }
+
+/// Where no domain is empty, each symbol has a possible value.
+pub fn each_symbol_of_filled_domains_has_a_value()
+    ensures { (cond : Condition) (sets : List RangeSet) → AreDomainsOf cond sets → first_empty sets ≡ None
+        → (s : Symbol) → s.0 < length cond.widths → (value : ℕ) × (is_possible cond s value ≡ true) }
+{}
 
 /// The domains of a condition may be met with a condition that has one formula more.
 pub fn one_formula_more_may_be_met()

@@ -3,3 +3,5 @@ pub mod Places
 pub mod Sums
 pub mod Known
 pub mod Summaries
+pub mod Marking
+pub mod Coupling

@@ -12,13 +12,13 @@ use Rattle.sn_width.specs.declared.ids.SymId.{SymId}
 use Rattle.path_cond.specs.Conditions.{picks_at}
 use Rattle.path_cond.specs.Numbered.{CountsFrom, IsNumbered, values_of}
 
-nat_cmp-lt : (x y : ℕ) → x < y → nat_cmp x y ≡ Less
+pub nat_cmp-lt : (x y : ℕ) → x < y → nat_cmp x y ≡ Less
 nat_cmp-lt x y h = rw (lt-ltb x y h)
 
-nat_cmp-eq : (x y : ℕ) → x ≡ y → nat_cmp x y ≡ Equal
+pub nat_cmp-eq : (x y : ℕ) → x ≡ y → nat_cmp x y ≡ Equal
 nat_cmp-eq x y h = rw (le-ltb x y (omega arith), eq-eqb x y h)
 
-nat_cmp-gt : (x y : ℕ) → y < x → nat_cmp x y ≡ Greater
+pub nat_cmp-gt : (x y : ℕ) → y < x → nat_cmp x y ≡ Greater
 nat_cmp-gt x y h = rw (le-ltb x y (omega arith), ne_eqb x y (λ e. omega arith))
 
 module _ {V : Type 0} where

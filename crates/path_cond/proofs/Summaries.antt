@@ -1,8 +1,9 @@
 -- What is kept of the formulas, after one more.
-use Rattle.std.proofs.Common.{◌≡◌, ℕ, zero, suc, ◌+◌, ◌-◌, ◌*◌, ◌^◌, ◌<◌, ◌≤◌, ◌==◌, min, Bool, true, false, cond, List, [], ◌∷◌, ◌++◌, map, length, Option, Some, None, refl, sym, ap, ap₂, ◌∙◌, mul_assoc, arith, ◌⊎◌, inl, inr}
+use Rattle.std.proofs.Common.{◌≡◌, ℕ, zero, suc, ◌+◌, ◌-◌, ◌*◌, ◌^◌, ◌<◌, ◌≤◌, ◌==◌, min, Bool, true, false, cond, ◌&&◌, ◌||◌, List, [], ◌∷◌, ◌++◌, map, length, Option, Some, None, refl, sym, ap, ap₂, ◌∙◌, mul_assoc, arith, ◌⊎◌, inl, inr}
 use Rattle.std.specs.Prelude.{reverse}
-use Rattle.std.specs.List.{position_from}
+use Rattle.std.specs.List.{list_any, position_from}
 use Rattle.std.proofs.lemmas.List.{reverse-append, append-nil}
+use Rattle.std.proofs.lemmas.List.Folds.{list_any-append}
 use Rattle.std.proofs.lemmas.Bool.Decides.{nat_tests}
 use Rattle.std.proofs.Math.Nat.{mul_comm, mul-suc}
 use Rattle.path_formula.specs.Kinds.{kind_of}
@@ -10,8 +11,11 @@ use Rattle.path_formula.specs.View.{view}
 use Rattle.path_formula.specs.declared.kinds.Kind.{Kind}
 use Rattle.path_cases.specs.Counts.{capped}
 use Rattle.path_cond.specs.Conditions.{Entry, broken_after}
-use Rattle.path_cond.specs.Summaries.{IsKnown, picks_where, product, entry_case_count, has_no_cases, is_inside, is_outside, is_inside_kind, is_outside_kind}
+use Rattle.path_cond.specs.Marks.{Adds}
+use Rattle.path_cond.specs.Occurring.{occurs_in}
+use Rattle.path_cond.specs.Summaries.{IsKnown, picks_where, product, entry_case_count, has_no_cases, couples, is_inside, is_outside, is_inside_kind, is_outside_kind}
 use Rattle.path_cond.specs.declared.summary.Summary.{Summary}
+use Rattle.path_cond.proofs.Marking.{or_none}
 
 first_one : (b : Bool) (n k : ℕ) → n ≡ k → cond b (Some n) None ≡ broken_after None b k
 first_one true n k e = ap Some e
@@ -85,8 +89,9 @@ pub known_more : (entries : List Entry) (e : Entry) (kind : Kind) (pick cases : 
     → new.outside ≡ cond (is_outside_kind kind) (pick ∷ old.outside) old.outside
     → new.choices ≡ capped (old.choices * cases)
     → new.caseless ≡ broken_after old.caseless (cases == 0) pick
+    → Adds old.marks new.marks (λ s. is_inside_kind kind && occurs_in s (view e.0))
     → IsKnown entries old → IsKnown (entries ++ e ∷ []) new
-known_more entries e kind pick cases old new is k n inside outside choices caseless h =
+known_more entries e kind pick cases old new is k n inside outside choices caseless adds h =
     let here : pick ≡ 0 + length entries = omega arith in
     record {
       inside_are = picks_on is_inside entries e pick (is_inside_kind kind) old.inside new.inside is (ap is_inside_kind k) h.inside_are inside;
@@ -94,4 +99,8 @@ known_more entries e kind pick cases old new is k n inside outside choices casel
       choices_are = choices ∙ ap₂ (λ a b. capped (a * b)) h.choices_are n ∙ capped_both (product (map entry_case_count entries)) (entry_case_count e)
           ∙ ap capped (sym (product_more (map entry_case_count entries) (entry_case_count e)) ∙ ap product (sym (counts_more entries e)));
       caseless_is = caseless ∙ (λ i. broken_after (h.caseless_is i) ((ap (λ m. m == 0) n ∙ zero_capped (entry_case_count e)) i) (here i)) ∙ sym (position_more has_no_cases 0 entries e);
+      marks_are = λ s.
+          adds.marks s
+          ∙ (λ i. h.marks_are s i || (is_inside_kind (k i) && occurs_in s (view e.0)))
+          ∙ sym (list_any-append (couples s) entries (e ∷ []) ∙ ap (λ b. list_any (couples s) entries || b) (or_none (couples s e)));
     }

@@ -1,11 +1,13 @@
 -- What is kept of the formulas of a condition, over any formulas that are seen as trees.
-use Rattle.std.specs.Prelude.{ℕ, ◌*◌, ◌==◌, Bool, true, false, List, [], ◌∷◌, Option, map, suc, length, if◌then◌else◌}
-use Rattle.std.specs.List.{position_from}
+use Rattle.std.specs.Prelude.{ℕ, ◌*◌, ◌==◌, Bool, true, false, ◌&&◌, List, [], ◌∷◌, Option, map, suc, length, if◌then◌else◌}
+use Rattle.std.specs.List.{list_any, position_from}
+use Rattle.sn_width.specs.declared.ids.SymId.{SymId}
 use Rattle.path_formula.specs.Formulas.{FormulaTree}
 use Rattle.path_formula.specs.Kinds.{kind_of}
 use Rattle.path_formula.specs.declared.kinds.Kind.{Kind}
 use Rattle.path_formula.specs.declared.kinds.Kind.TheVariants.{Constant, Simple, Inside, Outside}
 use Rattle.path_cases.specs.Cases.{cases_of}
+use Rattle.path_cond.specs.Occurring.{occurs_in, symbols_from}
 use Rattle.path_cond.specs.Seen.{ConditionOf}
 
 abbrev pub is_inside_kind : Kind → Bool
@@ -62,3 +64,19 @@ module _ {X : Type 0} (tree : X → FormulaTree) where
   -- the least pick of a formula without cases
   abbrev pub first_without_cases : ConditionOf X → Option ℕ
   first_without_cases cond = position_from has_no_cases 0 cond.entries
+
+  -- the formula is inside, and the symbol occurs in it
+  abbrev pub couples : SymId → X × Bool → Bool
+  couples s entry = is_inside entry && occurs_in s (tree entry.0)
+
+  -- the symbol occurs in an inside formula of the condition
+  abbrev pub is_coupled : ConditionOf X → SymId → Bool
+  is_coupled cond s = list_any (couples s) cond.entries
+
+  -- the symbols of the condition that occur in its inside formulas, ascending
+  abbrev pub coupled_symbols : ConditionOf X → List SymId
+  coupled_symbols cond = symbols_from (is_coupled cond) 0 (length cond.widths)
+
+  -- their number
+  abbrev pub coupled_count : ConditionOf X → ℕ
+  coupled_count cond = length (coupled_symbols cond)

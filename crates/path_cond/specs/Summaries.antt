@@ -1,10 +1,12 @@
 -- What is kept of the formulas of a condition beside their picks by symbol.
 use Rattle.std.specs.Prelude.{◌≡◌, ℕ, Bool, List, Option, map, reverse}
-use Rattle.std.specs.List.{position_from}
+use Rattle.std.specs.List.{list_any, position_from}
+use Rattle.sn_width.specs.declared.ids.SymId.{SymId}
 use Rattle.path_formula.specs.View.{view}
 use Rattle.path_cases.specs.Counts.{capped}
 use Rattle.path_cond.specs.Conditions.{Condition, Entry}
 use Rattle.path_cond.specs.Kept as any
+use Rattle.path_cond.specs.Marks.{has_mark}
 use Rattle.path_cond.specs.declared.summary.Summary.{Summary}
 pub use Rattle.path_cond.specs.Kept.{is_inside_kind, is_outside_kind, product, picks_where}
 
@@ -40,9 +42,26 @@ has_no_cases = any.has_no_cases view
 abbrev pub first_without_cases : Condition → Option ℕ
 first_without_cases = any.first_without_cases view
 
+-- the formula is inside, and the symbol occurs in it
+abbrev pub couples : SymId → Entry → Bool
+couples = any.couples view
+
+-- the symbol occurs in an inside formula of the condition
+abbrev pub is_coupled : Condition → SymId → Bool
+is_coupled = any.is_coupled view
+
+-- the symbols of the condition that occur in its inside formulas, ascending
+abbrev pub coupled_symbols : Condition → List SymId
+coupled_symbols = any.coupled_symbols view
+
+-- their number
+abbrev pub coupled_count : Condition → ℕ
+coupled_count = any.coupled_count view
+
 -- what is kept is that of the formulas
 pub record IsKnown (entries : List Entry) (k : Summary) : Type 0 where
   pub inside_are : k.inside ≡ reverse (picks_where is_inside 0 entries)
   pub outside_are : k.outside ≡ reverse (picks_where is_outside 0 entries)
   pub choices_are : k.choices ≡ capped (product (map entry_case_count entries))
   pub caseless_is : k.caseless ≡ position_from has_no_cases 0 entries
+  pub marks_are : (s : SymId) → has_mark k.marks s ≡ list_any (couples s) entries

@@ -8,6 +8,7 @@ ghost use Rattle.path_formula.specs.View.{view};
 
 use crate::domain::{all_hold, solutions_in};
 use crate::kept::{broken_with, simple_with};
+use crate::marks::Marks;
 use crate::sequence::Sequence;
 use crate::summary::Summary;
 use path_cases::laws::an_inside_formula_has_cases;
@@ -51,7 +52,9 @@ impl Model for PathCond {
 
 impl PathCond {
     ghost use Rattle.path_cond.specs.Conditions.{AllTyped, Condition, first_broken, holds_at, in_domain, simple_picks};
-    ghost use Rattle.path_cond.specs.Summaries.{formula_choices, first_without_cases, inside_picks, outside_picks};
+    ghost use Rattle.path_cond.specs.Marks.{has_mark};
+    ghost use Rattle.path_cond.specs.Summaries.{coupled_count, coupled_symbols, formula_choices, first_without_cases, inside_picks, is_coupled, outside_picks};
+    ghost use Rattle.sn_width.specs.declared.ids.SymId.{SymId as Symbol};
     ghost use Rattle.path_cases.specs.Counts.{capped};
 
     /// The condition without formulas over symbols of these widths.
@@ -233,5 +236,29 @@ impl PathCond {
         ensures { result ≡ first_without_cases self.now }
     {
         self.summary.caseless
+    }
+
+    /// The marks of the symbols that occur in inside formulas.
+    fn marks(&self) -> &Marks
+        ensures { (s : Symbol) → has_mark result.now s ≡ is_coupled self.now s }
+    {
+        &self.summary.marks
+    }
+
+    /// The symbols that occur in inside formulas, in comparisons and memberships that are not constant; ascending. Takes
+    /// the time of their number.
+    pub fn coupled_symbols(&self, alloc: Global) -> Result<Vec<SymId>, NoMemory>
+        ensures { IfOk result (λ symbols. symbols.items ≡ coupled_symbols self.now) }
+    {
+        self.formulas_are_typed();
+        self.marks().symbols(alloc)
+    }
+
+    /// The number of these symbols.
+    pub fn coupled_count(&self) -> u64
+        ensures { result ≡ coupled_count self.now }
+    {
+        self.formulas_are_typed();
+        self.marks().len()
     }
 }

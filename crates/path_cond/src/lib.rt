@@ -5,6 +5,7 @@ mod condition;
 mod domain;
 mod kept;
 pub mod laws;
+mod marks;
 mod sequence;
 mod summary;
 

@@ -8,6 +8,7 @@ ghost use Rattle.path_cases.specs.Splits.{CanSplit};
 ghost use Rattle.path_cond.specs.Conditions.{Entry, broken_after};
 ghost use Rattle.path_cond.specs.Summaries.{IsKnown, entry_case_count, is_inside_kind, is_outside_kind};
 
+use crate::marks::{Marks, marked};
 use path_cases::case_count_of;
 use path_formula::{Formula, Kind};
 use sn_tree::Shared;
@@ -25,6 +26,8 @@ pub(crate) struct Summary {
     pub(crate) choices: u64,
     /// The least pick of an inside formula without cases.
     pub(crate) caseless: Option<u32>,
+    /// A mark for each symbol that occurs in an inside formula.
+    pub(crate) marks: Marks,
 }
 
 fn is_inside(kind: Kind) -> bool
@@ -110,6 +113,7 @@ impl Summary {
             outside: Shared::empty(),
             choices: 1,
             caseless: None,
+            marks: Marks::none(),
         }
     }
 
@@ -118,11 +122,13 @@ impl Summary {
     {
         let inside = same(&self.inside)?;
         let outside = same(&self.outside)?;
+        let marks = self.marks.fork()?;
         Ok(Summary {
             inside,
             outside,
             choices: self.choices,
             caseless: self.caseless,
+            marks,
         })
     }
 
@@ -141,13 +147,16 @@ impl Summary {
             → IsKnown (entries ++ (formula.now, holds) ∷ []) k) }
     {
         let cases = count_of(alloc, formula, holds, kind)?;
-        let inside = push_where(alloc, &self.inside, is_inside(kind), pick)?;
+        let splits = is_inside(kind);
+        let inside = push_where(alloc, &self.inside, splits, pick)?;
+        let marks = marked(alloc, &self.marks, formula, splits)?;
         let outside = push_where(alloc, &self.outside, is_outside(kind), pick)?;
         Ok(Summary {
             inside,
             outside,
             choices: self.choices.saturating_mul(cases),
             caseless: first_with(self.caseless, cases == 0, pick),
+            marks,
         })
     }
 }

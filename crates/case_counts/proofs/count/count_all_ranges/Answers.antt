@@ -1,7 +1,7 @@
 use Rattle.std.proofs.Common.{◌<◌, length, sym, subst, ◌∙◌}
 use Rattle.std.specs.List.{All}
 use Rattle.sn_width.specs.declared.ids.SymId.{SymId}
-use Rattle.case_counts.proofs.Marking.{coupled_known}
+use Rattle.case_counts.proofs.Listing.{coupled_known}
 use Rattle.case_counts.proofs.count.count_all_ranges.Goals as goal
 
 pub count_ranges-requires : goal.count_ranges-requires

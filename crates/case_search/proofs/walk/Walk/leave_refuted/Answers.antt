@@ -1,7 +1,6 @@
-use Rattle.std.proofs.Common.{◌≡◌, ◌∷◌, List, true, length, reverse, ap, refl, sym, subst, arith, ◌∙◌}
+use Rattle.std.proofs.Common.{◌≡◌, ◌∷◌, List, true, length, reverse, ap, refl, sym, arith, ◌∙◌}
 use Rattle.case_search.specs.Choices.{Case, lists_of}
 use Rattle.case_search.specs.Lifting.{all_avoid}
-use Rattle.case_search.specs.Progress.{IsPast}
 use Rattle.case_search.specs.declared.choice.Step.{Step}
 use Rattle.case_search.specs.declared.walk.Branch.{Branch}
 use Rattle.case_search.proofs.Leading.{left_refuted, past_split, same_past, steps_refute}

@@ -1,4 +1,4 @@
-use Rattle.std.proofs.Common.{◌≡◌, ◌<◌, [], length, reverse, arith}
+use Rattle.std.proofs.Common.{◌<◌, length, reverse, arith}
 use Rattle.std.proofs.lemmas.List.{length-map, nil_from_length}
 use Rattle.case_search.specs.Choices.{lists_of, cases_of, cases_at}
 use Rattle.case_search.proofs.Leading.{past_empty}
