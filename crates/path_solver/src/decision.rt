@@ -4,7 +4,7 @@ ghost use Rattle.std.specs.Prelude.{◌≡◌, ◌↔◌, ◌∷◌, [], ℕ, fa
 ghost use Rattle.path_cond.specs.Conditions.{first_broken, holds_at};
 ghost use Rattle.interval_solver.specs.Domains.{AreDomainsOf};
 ghost use Rattle.interval_solver.specs.Verdicts.{AreLeastValues};
-ghost use Rattle.refutation_check.specs.Decisions.{IsMetBy, IsRefuted, IsSimplyOpen, IsUndecidedBy, IsWithinLimits};
+ghost use Rattle.refutation_check.specs.Decisions.{AreManyCoupled, IsMetBy, IsRefuted, IsSimplyOpen, IsUndecidedBy, IsWithinLimits};
 ghost use Rattle.refutation_check.specs.Least.{AreLeast};
 ghost use Rattle.refutation_check.specs.declared.outcome.Cause.{Cause as CauseOf};
 ghost use Rattle.case_counts.specs.Coupled.{coupled_symbols};
@@ -21,6 +21,7 @@ use crate::laws::{
 use crate::outside::first_broken_outside;
 use crate::solve::{Solved, solve_cases};
 use case_counts::coupled_symbols;
+use interval_solver::laws::each_symbol_of_filled_domains_has_a_value;
 use interval_solver::{Domains, SimpleVerdict, decide_simple};
 use path_cond::PathCond;
 use path_cond::laws::each_formula_is_typed;
@@ -90,6 +91,26 @@ pub fn decide(alloc: Global, cond: &PathCond, domains: &Domains) -> Result<Decid
     decide_after(alloc, cond, domains, None)
 }
 
+/// The number of coupled symbols of a condition that has these domains, where it is too many and constants and domains do
+/// not refute the condition. Nothing but what the condition and the domains keep is looked at.
+fn crowd_of(cond: &PathCond, domains: &Domains) -> Option<u64>
+    requires { AreDomainsOf cond.now domains.now }
+    ensures { IfSome result (AreManyCoupled cond.now) }
+{
+    each_symbol_of_filled_domains_has_a_value();
+    let count = cond.coupled_count();
+    if count <= MOST_COUPLED {
+        return None;
+    }
+    if cond.first_broken().is_some() {
+        return None;
+    }
+    if domains.first_empty().is_some() {
+        return None;
+    }
+    Some(count)
+}
+
 /// The decision of a condition that has these domains, from the base or with none.
 fn decide_from(
     alloc: Global,
@@ -101,6 +122,10 @@ fn decide_from(
     requires base { IfSome base (λ b. IsBaseOf cond.now b.now) }
     ensures { IfOk result (IsDecisionOn cond.now) }
 {
+    if let Some(count) = crowd_of(cond, domains) {
+        let cause = Cause::Coupled { count };
+        return Ok(Decided::Undecided { cause });
+    }
     match base {
         None => decide_in_order(alloc, cond, domains),
         Some(base) => decide_on(alloc, cond, domains, base),
