@@ -14,7 +14,7 @@ use Rattle.command_words.specs.declared.command.Style.TheVariants.{Chain, Groupe
 use Rattle.command_words.specs.declared.command.Table.{Table}
 use Rattle.command_words.specs.declared.command.Table.TheVariants.{Mac, Fib}
 use Rattle.command_words.specs.declared.command.Verb.{Verb}
-use Rattle.command_words.specs.declared.command.Verb.TheVariants.{Explore, Walk, Replay, Ask, Model}
+use Rattle.command_words.specs.declared.command.Verb.TheVariants.{Explore, Walk, Replay, Ask, Model, Click}
 
 -- a command, with the names of the files that it reads, and what its options give
 pub data Command : Type 0 where
@@ -28,6 +28,8 @@ pub data Command : Type 0 where
   ask : Text → ℕ → Command
   -- a table's file; and the style of its node
   model : Table → Text → Style → Command
+  -- the file of a Click configuration
+  click : Text → Command
 
 abbrev pub command_of : CommandOf → Command
 command_of (given.Explore job hops limit pruned) = explore job.now hops limit pruned
@@ -35,6 +37,7 @@ command_of (given.Walk job packet hops limit) = walk job.now packet.now hops lim
 command_of (given.Replay job report) = replay job.now report.now
 command_of (given.Ask job hops) = ask job.now hops
 command_of (given.Model table file style) = model table file.now style
+command_of (given.Click file) = click file.now
 
 -- numbers of options are in their ranges
 abbrev pub AreInRange : ℕ → ℕ → Type 0
@@ -46,6 +49,7 @@ HasRanges (walk job packet hops limit) = AreInRange hops limit
 HasRanges (replay job report) = Unit {0}
 HasRanges (ask job hops) = (1 ≤ hops) × (hops ≤ MOST_HOPS)
 HasRanges (model table file style) = Unit {0}
+HasRanges (click file) = Unit {0}
 
 -- what the words behind a command's name may be
 abbrev pub form_of_verb : Verb → Form
@@ -54,6 +58,7 @@ form_of_verb Walk = record { positionals = codes "JOB" ∷ codes "PACKET" ∷ []
 form_of_verb Replay = record { positionals = codes "JOB" ∷ codes "REPORT" ∷ []; options = [] }
 form_of_verb Ask = record { positionals = codes "JOB" ∷ []; options = codes "hops" ∷ [] }
 form_of_verb (Model table) = record { positionals = codes "FILE" ∷ []; options = codes "style" ∷ [] }
+form_of_verb Click = record { positionals = codes "FILE" ∷ []; options = [] }
 
 -- the command of a name
 abbrev pub verb_of : Text → Option Verb
@@ -69,6 +74,7 @@ abbrev pub model_of : Text → Option Verb
 model_of word =
     if bytes_eq word (codes "mac") then Some (Model Mac)
     else if bytes_eq word (codes "fib") then Some (Model Fib)
+    else if bytes_eq word (codes "click") then Some Click
     else None
 
 -- the command that the first words name, and the words behind its name
@@ -132,6 +138,9 @@ module _ (value : Text → Option Text) where
   abbrev pub model_from : Table → Option Command
   model_from table = option_and_then (λ file. option_map (model table file) style_in) (value (codes "FILE"))
 
+  abbrev pub click_from : Option Command
+  click_from = option_map click (value (codes "FILE"))
+
 -- the command with these values
 abbrev pub command_from : Verb → (Text → Option Text) → Option Command
 command_from Explore = explore_from
@@ -139,6 +148,7 @@ command_from Walk = walk_from
 command_from Replay = replay_from
 command_from Ask = ask_from
 command_from (Model table) = λ value. model_from value table
+command_from Click = click_from
 
 -- the reading of the words: the first name the command, and those behind have a reading in its form, with numbers in their ranges
 abbrev pub read_command : List Text → Option Command

@@ -73,6 +73,9 @@ pub enum Command<'a> {
         file: &'a str,
         style: Style,
     },
+    Click {
+        file: &'a str,
+    },
 }
 
 /// The name of a command.
@@ -83,6 +86,7 @@ enum Verb {
     Replay,
     Ask,
     Model(Table),
+    Click,
 }
 
 impl Verb {
@@ -111,6 +115,10 @@ impl Verb {
                 positionals: &["FILE"],
                 options: &["style"],
             },
+            Verb::Click => Form {
+                positionals: &["FILE"],
+                options: &[],
+            },
         }
     }
 }
@@ -135,6 +143,7 @@ fn model_of(word: &str) -> Option<Verb>
     match word {
         "mac" => Some(Verb::Model(Table::Mac)),
         "fib" => Some(Verb::Model(Table::Fib)),
+        "click" => Some(Verb::Click),
         _ => None,
     }
 }
@@ -257,6 +266,10 @@ fn command_from<'a>(verb: Verb, values: &ArgMatches<'a>) -> Option<Command<'a>>
             let file = values.get_str("FILE")?;
             let style = style_in(values)?;
             Some(Command::Model { table, file, style })
+        }
+        Verb::Click => {
+            let file = values.get_str("FILE")?;
+            Some(Command::Click { file })
         }
     }
 }
