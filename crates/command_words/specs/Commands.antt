@@ -3,8 +3,8 @@ use Rattle.std.specs.Prelude.{ℕ, ◌≤◌, List, [], ◌∷◌, map, String, 
 use Rattle.std.specs.Str.{bytes_eq}
 use Rattle.std.specs.declared.alloc.Global.{Global}
 use Rattle.command_words.specs.Forms.{Form, Text, read_form, value_of}
-use Rattle.command_words.specs.Numbers.{number_or}
-use Rattle.command_words.specs.declared.command.TheConstants.{HOPS, LIMIT, MOST_HOPS, MOST_LIMIT}
+use Rattle.command_words.specs.Numbers.{number_in, number_or, seed_of}
+use Rattle.command_words.specs.declared.command.TheConstants.{HOPS, LIMIT, MOST_BOXES, MOST_HOPS, MOST_LIMIT}
 use Rattle.command_words.specs.declared.command.Command.{Command as CommandOf}
 use Rattle.command_words.specs.declared.command.Command.TheVariants as given
 use Rattle.command_words.specs.declared.command.Pruned.{Pruned}
@@ -14,7 +14,7 @@ use Rattle.command_words.specs.declared.command.Style.TheVariants.{Chain, Groupe
 use Rattle.command_words.specs.declared.command.Table.{Table}
 use Rattle.command_words.specs.declared.command.Table.TheVariants.{Mac, Fib}
 use Rattle.command_words.specs.declared.command.Verb.{Verb}
-use Rattle.command_words.specs.declared.command.Verb.TheVariants.{Explore, Walk, Replay, Ask, Model, Click}
+use Rattle.command_words.specs.declared.command.Verb.TheVariants.{Explore, Walk, Replay, Ask, Model, Click, Grow}
 
 -- a command, with the names of the files that it reads, and what its options give
 pub data Command : Type 0 where
@@ -30,6 +30,8 @@ pub data Command : Type 0 where
   model : Table → Text → Style → Command
   -- the file of a Click configuration
   click : Text → Command
+  -- the seed of a job, and the number of its boxes
+  grow : ℕ → ℕ → Command
 
 abbrev pub command_of : CommandOf → Command
 command_of (given.Explore job hops limit pruned) = explore job.now hops limit pruned
@@ -38,6 +40,7 @@ command_of (given.Replay job report) = replay job.now report.now
 command_of (given.Ask job hops) = ask job.now hops
 command_of (given.Model table file style) = model table file.now style
 command_of (given.Click file) = click file.now
+command_of (given.Grow seed boxes) = grow seed boxes
 
 -- numbers of options are in their ranges
 abbrev pub AreInRange : ℕ → ℕ → Type 0
@@ -50,6 +53,7 @@ HasRanges (replay job report) = Unit {0}
 HasRanges (ask job hops) = (1 ≤ hops) × (hops ≤ MOST_HOPS)
 HasRanges (model table file style) = Unit {0}
 HasRanges (click file) = Unit {0}
+HasRanges (grow seed boxes) = (1 ≤ boxes) × (boxes ≤ MOST_BOXES)
 
 -- what the words behind a command's name may be
 abbrev pub form_of_verb : Verb → Form
@@ -59,6 +63,7 @@ form_of_verb Replay = record { positionals = codes "JOB" ∷ codes "REPORT" ∷ 
 form_of_verb Ask = record { positionals = codes "JOB" ∷ []; options = codes "hops" ∷ [] }
 form_of_verb (Model table) = record { positionals = codes "FILE" ∷ []; options = codes "style" ∷ [] }
 form_of_verb Click = record { positionals = codes "FILE" ∷ []; options = [] }
+form_of_verb Grow = record { positionals = codes "SEED" ∷ codes "NODES" ∷ []; options = [] }
 
 -- the command of a name
 abbrev pub verb_of : Text → Option Verb
@@ -67,6 +72,7 @@ verb_of word =
     else if bytes_eq word (codes "walk") then Some Walk
     else if bytes_eq word (codes "replay") then Some Replay
     else if bytes_eq word (codes "ask") then Some Ask
+    else if bytes_eq word (codes "grow") then Some Grow
     else None
 
 -- the command of the name behind `model`
@@ -141,6 +147,12 @@ module _ (value : Text → Option Text) where
   abbrev pub click_from : Option Command
   click_from = option_map click (value (codes "FILE"))
 
+  abbrev pub boxes_in : Option ℕ
+  boxes_in = option_and_then (number_in 1 MOST_BOXES) (value (codes "NODES"))
+
+  abbrev pub grow_from : Option Command
+  grow_from = option_and_then (λ word. option_and_then (λ seed. option_map (grow seed) boxes_in) (seed_of word)) (value (codes "SEED"))
+
 -- the command with these values
 abbrev pub command_from : Verb → (Text → Option Text) → Option Command
 command_from Explore = explore_from
@@ -149,6 +161,7 @@ command_from Replay = replay_from
 command_from Ask = ask_from
 command_from (Model table) = λ value. model_from value table
 command_from Click = click_from
+command_from Grow = grow_from
 
 -- the reading of the words: the first name the command, and those behind have a reading in its form, with numbers in their ranges
 abbrev pub read_command : List Text → Option Command

@@ -19,6 +19,10 @@ within least most n = if nat_le least n && nat_le n most then Some n else None
 abbrev pub number_in : ℕ → ℕ → Text → Option ℕ
 number_in least most word = option_and_then (within least most) (number_of word)
 
+-- the number, if it is a seed, which has 64 bits
+abbrev pub seed_of : Text → Option ℕ
+seed_of word = number_in 0 18446744073709551615 word
+
 -- the number that is given, or the default
 abbrev pub number_or : ℕ → ℕ → ℕ → Option Text → Option ℕ
 number_or least most default None = Some default

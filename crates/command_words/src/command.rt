@@ -6,7 +6,7 @@ ghost use Rattle.command_words.specs.Commands.{Command as CommandOf, HasRanges, 
 ghost use Rattle.command_words.specs.Shapes.{form_of, named_of};
 
 use crate::form::Form;
-use crate::number::number_in;
+use crate::number::{number_in, seed_of};
 use crate::values::read;
 use clap::ArgMatches;
 use std::alloc::{AllocError, Global};
@@ -20,6 +20,9 @@ pub const LIMIT: u32 = 10_000;
 pub const MOST_HOPS: u32 = 256;
 
 pub const MOST_LIMIT: u32 = 100_000;
+
+/// The most boxes of a job that grows from a seed.
+pub const MOST_BOXES: u32 = 10_000;
 
 /// What is written of pruned records.
 #[derive(Clone, Copy)]
@@ -76,6 +79,10 @@ pub enum Command<'a> {
     Click {
         file: &'a str,
     },
+    Grow {
+        seed: u64,
+        boxes: u32,
+    },
 }
 
 /// The name of a command.
@@ -87,6 +94,7 @@ enum Verb {
     Ask,
     Model(Table),
     Click,
+    Grow,
 }
 
 impl Verb {
@@ -119,6 +127,10 @@ impl Verb {
                 positionals: &["FILE"],
                 options: &[],
             },
+            Verb::Grow => Form {
+                positionals: &["SEED", "NODES"],
+                options: &[],
+            },
         }
     }
 }
@@ -132,6 +144,7 @@ fn verb_of(word: &str) -> Option<Verb>
         "walk" => Some(Verb::Walk),
         "replay" => Some(Verb::Replay),
         "ask" => Some(Verb::Ask),
+        "grow" => Some(Verb::Grow),
         _ => None,
     }
 }
@@ -270,6 +283,11 @@ fn command_from<'a>(verb: Verb, values: &ArgMatches<'a>) -> Option<Command<'a>>
         Verb::Click => {
             let file = values.get_str("FILE")?;
             Some(Command::Click { file })
+        }
+        Verb::Grow => {
+            let seed = seed_of(values.get_str("SEED")?)?;
+            let boxes = number_in(1, MOST_BOXES, values.get_str("NODES")?)?;
+            Some(Command::Grow { seed, boxes })
         }
     }
 }

@@ -7,4 +7,6 @@ mod form;
 mod number;
 mod values;
 
-pub use command::{Command, HOPS, LIMIT, MOST_HOPS, MOST_LIMIT, Pruned, Style, Table, reading};
+pub use command::{
+    Command, HOPS, LIMIT, MOST_BOXES, MOST_HOPS, MOST_LIMIT, Pruned, Style, Table, reading,
+};

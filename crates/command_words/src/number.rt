@@ -1,7 +1,7 @@
 //! Numbers of words.
 
 ghost use Rattle.std.specs.Prelude.{◌≡◌, ◌≤◌, IfSome};
-ghost use Rattle.command_words.specs.Numbers.{number_in, number_of};
+ghost use Rattle.command_words.specs.Numbers.{number_in, number_of, seed_of};
 
 /// The most digits of a number.
 const MOST_DIGITS: usize = 20;
@@ -32,6 +32,18 @@ pub fn number_in(least: u32, most: u32, word: &str) -> Option<u32>
     let number = number_of(word)?;
     if u128::from(least) <= number && number <= u128::from(most) {
         Some(number as u32)
+    } else {
+        None
+    }
+}
+
+/// The seed that a word spells.
+pub fn seed_of(word: &str) -> Option<u64>
+    ensures { result ≡ seed_of word.now }
+{
+    let number = number_of(word)?;
+    if number <= u128::from(u64::MAX) {
+        Some(number as u64)
     } else {
         None
     }
