@@ -12,7 +12,7 @@ use crate::laws::one_answer_for_a_net;
 use crate::runs::Runs;
 use net_check::{Injection, Net};
 use path_records::Record;
-use record_checks::{Confirmed, Job, ReplayFault, confirm_along};
+use record_checks::{Confirmed, ReplayFault, confirm_along};
 use std::alloc::Global;
 use std::marker::Brand;
 use sym_state::SymState;
@@ -23,7 +23,8 @@ use symbolic_engine::{Explorer, Origin};
 /// packets are shown, and not of whether values are the least.
 ///
 /// One run is guided along the decisions of all records, so that records that ascend by their decisions cost what exploring
-/// them cost. The values of a path are walked as a packet. Refutations and causes are checked, and nothing is solved.
+/// them cost. The values of a path are tried in the condition to which its decisions lead. Refutations and causes are checked,
+/// and nothing is solved.
 pub fn confirm(
     alloc: Global,
     net: &Net,
@@ -63,7 +64,6 @@ fn confirm_from<B: Origin>(
     first: SymState,
     records: &[Record],
 ) -> Result<Confirmed, ReplayFault>
-    requires job { AreOfOneJob (network net.now) (entry injection.now) }
     requires net { network net.now ≡ B.net }
     requires explored { IsExplored (network net.now) (entry injection.now) hops B.start }
     requires first { IsFirstState B.start (network net.now) hops injection.now.node injection.now.raw.port first }
@@ -72,10 +72,5 @@ fn confirm_from<B: Origin>(
     let condition = first.condition().fork()?;
     let engine = Explorer::<B>::new(alloc, net, injection.place(), hops, first);
     let runs = Runs::<B> { engine, condition };
-    let job = Job {
-        net,
-        injection,
-        hops,
-    };
-    confirm_along(alloc, &runs, &job, records)
+    confirm_along(alloc, &runs, records)
 }

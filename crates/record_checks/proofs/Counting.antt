@@ -1,5 +1,5 @@
 -- Counts of records, one after another.
-use Rattle.std.proofs.Common.{◌≡◌, ℕ, zero, suc, ◌+◌, ◌≤◌, Bool, true, false, List, [], ◌∷◌, refl, sym, ap, ◌∙◌, arith}
+use Rattle.std.proofs.Common.{◌≡◌, ℕ, suc, ◌+◌, ◌≤◌, Bool, true, false, List, [], ◌∷◌, refl, ◌∙◌, arith}
 use Rattle.exact_records.specs.Records.{RecordTree}
 use Rattle.record_checks.specs.Counts.{AreAtMost, AreCountedSo, count_where, counts_of, is_pruned, is_sat, is_undecided, is_unexplored, one_more, with_record}
 use Rattle.record_checks.specs.declared.counts.Confirmed.{Confirmed}

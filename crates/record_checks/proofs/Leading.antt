@@ -1,10 +1,9 @@
 -- Trails that are led along decisions.
-use Rattle.std.proofs.Common.{◌≡◌, ◌≢◌, Bool, true, false, ℕ, zero, suc, ◌+◌, ◌-◌, ◌<◌, ◌≤◌, List, [], ◌∷◌, ◌++◌, length, map, take, get_or, Option, Some, None, refl, sym, ap, subst, ◌∙◌, append_assoc, arith}
+use Rattle.std.proofs.Common.{◌≡◌, ◌≢◌, Bool, true, false, ℕ, zero, suc, ◌+◌, ◌-◌, ◌<◌, ◌≤◌, List, [], ◌∷◌, ◌++◌, length, take, get_or, refl, sym, ap, subst, ◌∙◌, append_assoc, arith}
 use Rattle.std.proofs.lemmas.List.{append-nil, get_or_at, get_or_default, length-append, length-map, length-take-le, map-append, take_more}
 use Rattle.sefl_meaning.specs.declared.walk.Decision.{Decision}
 use Rattle.sefl_meaning.specs.declared.walk.Decision.TheVariants.{Then}
 use Rattle.sefl_meaning.specs.Order.{BeginsWith}
-use Rattle.sefl_meaning.specs.Routes.{IsOpen}
 use Rattle.exact_records.specs.Records.{SymStart, unexplored}
 use Rattle.record_checks.specs.Checks.{broken_unless}
 use Rattle.record_checks.specs.Parts.{IsJudged}

@@ -1,7 +1,8 @@
 pub mod Parts
 pub mod Sides
 pub mod Leading
-pub mod Walking
 pub mod Same
+pub mod Fitting
+pub mod Taking
 pub mod Counting
 pub mod OneAnswer

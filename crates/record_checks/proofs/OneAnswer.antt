@@ -1,12 +1,12 @@
 -- Records that are confirmed one after another, and that the answer is the only one.
-use Rattle.std.proofs.Common.{◌≡◌, ℕ, ◌+◌, ◌<◌, inl, inr, List, [], ◌∷◌, ◌++◌, drop, get_or, length, map, take, Result, Ok, Err, refl, sym, ap, subst, ◌∙◌, append_assoc, arith}
+use Rattle.std.proofs.Common.{◌≡◌, ℕ, ◌+◌, ◌<◌, inl, inr, List, [], ◌∷◌, ◌++◌, drop, get_or, length, take, Result, Ok, Err, refl, sym, ap, subst, ◌∙◌, arith}
 use Rattle.std.specs.List.{AllByRecursion}
 use Rattle.std.proofs.lemmas.List.{drop_more, length-map, length-take-le, map-append, take-append-drop, take_more}
 use Rattle.path_records.specs.declared.records.Record.{Record}
 use Rattle.exact_records.specs.Records.{HasMeaning, RecordTree, SymStart}
 use Rattle.exact_records.specs.View.{record_tree, record_trees}
-use Rattle.record_checks.specs.Confirming.{Confirms, ConfirmsNext, IsConfirmedBack, IsFirstBroken, OrNoMemory}
-use Rattle.record_checks.specs.Counts.{AreCountedSo, counts_of, with_record}
+use Rattle.record_checks.specs.Confirming.{Confirms, ConfirmsNext, IsConfirmedBack, IsFirstBroken}
+use Rattle.record_checks.specs.Counts.{AreCountedSo, with_record}
 use Rattle.record_checks.specs.Parts.{IsBroken, PartsMakeTheMeaning}
 use Rattle.record_checks.specs.declared.counts.Confirmed.{Confirmed}
 use Rattle.record_checks.specs.declared.fault.ReplayFault.{ReplayFault}

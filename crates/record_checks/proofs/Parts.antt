@@ -1,5 +1,5 @@
 -- The parts of a record make its meaning.
-use Rattle.std.proofs.Common.{◌≡◌, ◌↔◌, List, Option, Some, None, refl, sym, ap, subst, ◌∙◌}
+use Rattle.std.proofs.Common.{◌≡◌, List, Some, refl, sym, subst, ◌∙◌}
 use Rattle.lin_term.specs.Terms.{LinearTerm}
 use Rattle.path_cond.specs.Seen.{itself}
 use Rattle.refutation_check.specs.Seen.{IsLicensed}
@@ -10,11 +10,11 @@ use Rattle.sefl_meaning.specs.declared.walk.End.{End}
 use Rattle.sefl_meaning.specs.declared.walk.Place.{Place}
 use Rattle.sefl_meaning.specs.Fields.{Fields}
 use Rattle.exact_records.specs.Records.{HasMeaning, IsPath, Leads, MayBe, RecordTree, SymRoute, SymStart, condition_on, path, pruned, unexplored}
-use Rattle.record_checks.specs.Parts.{ArePossible, AreTakenBy, EndSo, HasCause, HasEnd, IsBroken, IsRefutedSide, IsTaken, MayBeLeftBy, PartsMakeTheMeaning}
+use Rattle.record_checks.specs.Parts.{AreTakenBy, EndSo, HasCause, HasEnd, IsBroken, IsRefutedSide, IsTaken, MayBeLeftBy, PartsMakeTheMeaning}
 use Rattle.record_checks.specs.declared.part.Part.{Part}
 use Rattle.record_checks.specs.declared.part.Part.TheVariants.{NotTaken, NotRefuted, OtherEnd, NotUndecided}
 
-some_same : {A : Type 0} {a b : A} → Some a ≡ Some b → a ≡ b
+pub some_same : {A : Type 0} {a b : A} → Some a ≡ Some b → a ≡ b
 some_same e = cc
 
 module _ (s : SymStart) where

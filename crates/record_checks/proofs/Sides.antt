@@ -1,5 +1,5 @@
 -- A refuted side at the stop before its last decision.
-use Rattle.std.proofs.Common.{◌≡◌, ◌↔◌, Bool, IsTrue, List, [], ◌∷◌, ◌++◌, Option, Some, None, refl, sym, ap, subst, ◌∙◌}
+use Rattle.std.proofs.Common.{◌≡◌, ◌↔◌, Bool, IsTrue, List, [], ◌∷◌, ◌++◌, Some, sym, ap, subst, ◌∙◌}
 use Rattle.std.proofs.lemmas.List.{same_from_push}
 use Rattle.path_formula.specs.Formulas.{FormulaTree}
 use Rattle.path_cond.specs.Conditions.{Condition}
@@ -8,7 +8,7 @@ use Rattle.refutation_check.specs.declared.steps.Refute.{Refute}
 use Rattle.sefl_meaning.specs.declared.walk.Decision.{Decision}
 use Rattle.sefl_meaning.specs.Courses.{Asking}
 use Rattle.sefl_meaning.specs.Routes.{IsOpen, truth_of}
-use Rattle.sefl_meaning.specs.Trees.{Tree, over, arrives, tests, splits}
+use Rattle.sefl_meaning.specs.Trees.{over, arrives, tests, splits}
 use Rattle.exact_records.specs.Records.{EndsAtTest, IsPrunedSide, IsRefutedBy, Leads, MayPrecede, SymCondition, SymRoute, SymStart, SymTree, condition_on, with_test}
 use Rattle.record_checks.specs.Stops.{IsSide, LeadsTo, Stop, trees_of}
 use Rattle.record_checks.proofs.Parts.{one_way}

@@ -11,12 +11,17 @@ use Rattle.sefl_meaning.specs.declared.walk.Place.{Place}
 use Rattle.sefl_meaning.specs.Fields.{Fields, fields_of}
 use Rattle.sym_state.specs.Symbolic.{Symbolic}
 use Rattle.exact_records.specs.Records.{RecordTree, SymCondition, path}
+use Rattle.record_checks.specs.Stops.{Stop}
 use Rattle.record_checks.specs.declared.part.Part.{Part}
 use Rattle.record_checks.specs.declared.checks.PathParts.{PathParts}
 
 -- a path by its parts
 abbrev pub path_of : PathParts → RecordTree
 path_of p = path p.decisions.now p.places.now p.how.now (fields_seen p.fields.now) p.verdict.now
+
+-- the run is over there
+abbrev pub IsOver : Stop → Type 0
+IsOver stop = (end' : End) × (stop.how ≡ Some end')
 
 -- a run that is over so, in this state, has these places, this end and these fields
 pub record IsShownBy (state : Symbolic) (how : End) (places : List Place) (end' : End) (fields : Fields LinearTerm) : Type 0 where

@@ -1,5 +1,5 @@
 -- What is answered of a list of records.
-use Rattle.std.specs.Prelude.{ℕ, ◌≡◌, ◌⊎◌, List, [], ◌∷◌, ◌++◌, length, Result, Ok, Err}
+use Rattle.std.specs.Prelude.{ℕ, ◌≡◌, ◌⊎◌, List, ◌∷◌, ◌++◌, length, Result, Ok, Err}
 use Rattle.std.specs.List.{AllByRecursion}
 use Rattle.exact_records.specs.Records.{HasMeaning, RecordTree, SymStart}
 use Rattle.record_checks.specs.Counts.{counts_of, with_record}

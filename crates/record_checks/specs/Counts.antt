@@ -1,5 +1,5 @@
 -- How many records of each kind there are.
-use Rattle.std.specs.Prelude.{ℕ, zero, suc, ◌≡◌, ◌+◌, ◌≤◌, Bool, true, false, List, [], ◌∷◌, if◌then◌else◌}
+use Rattle.std.specs.Prelude.{ℕ, suc, ◌≡◌, ◌+◌, ◌≤◌, Bool, true, false, List, [], ◌∷◌}
 use Rattle.refutation_check.specs.declared.outcome.Verdict.{Verdict}
 use Rattle.refutation_check.specs.declared.outcome.Verdict.TheVariants.{Sat, Undecided}
 use Rattle.exact_records.specs.Records.{RecordTree, path, pruned, unexplored}

@@ -1,4 +1,3 @@
-pub mod Jobs
 pub mod Parts
 pub mod Stops
 pub mod Trails

@@ -1,5 +1,5 @@
 -- Where a guided run waits for a decision, or is over.
-use Rattle.std.specs.Prelude.{◌≡◌, List, ◌∷◌, [], ◌++◌, reverse, Option, Some, None}
+use Rattle.std.specs.Prelude.{◌≡◌, List, reverse, Option, Some, None}
 use Rattle.lin_term.specs.Terms.{LinearTerm}
 use Rattle.path_formula.specs.View.{view}
 use Rattle.path_cond.specs.Conditions.{Condition}

@@ -5,20 +5,17 @@ ghost use Rattle.sefl_meaning.specs.declared.walk.Decision.{Decision as Decision
 ghost use Rattle.path_records.specs.Shown.{fields_seen};
 ghost use Rattle.exact_records.specs.Records.{IsPruned, IsPrunedSide, IsRefutedBy, first_condition};
 ghost use Rattle.exact_records.specs.View.{record_tree};
-ghost use Rattle.record_checks.specs.Checks.{IsShownBy, MayStayOpen, broken_unless, path_of};
-ghost use Rattle.record_checks.specs.Jobs.{IsExplored, IsOneJob};
+ghost use Rattle.record_checks.specs.Checks.{IsOver, IsShownBy, MayStayOpen, broken_unless, path_of};
 ghost use Rattle.record_checks.specs.Parts.{AreTakenBy, IsJudged};
 ghost use Rattle.record_checks.specs.Stops.{LeadsTo, trees_of};
 ghost use Rattle.record_checks.specs.Trails.{IsTrail};
 
 use crate::fields::{are_same_fields, are_same_places, is_same_end};
 use crate::guide::Guide;
-use crate::job::Job;
-use crate::packets::has_walk;
 use crate::part::Part;
 use crate::trail::{Trail, lead, top};
-use crate::verdicts::{is_licensed, is_refuted, may_precede};
-use exact_records::laws::packets_take_routes;
+use crate::values::fit_symbols;
+use crate::verdicts::{is_licensed, is_refuted, make_true, may_precede};
 use path_cond::PathCond;
 use path_records::{Fields, Record};
 use refutation_check::{Refutation, Verdict};
@@ -37,21 +34,19 @@ pub(crate) struct PathParts<'a> {
     pub verdict: &'a Verdict,
 }
 
-/// Whether the values of the verdict, where it has some, are those of a packet that takes the decisions.
-fn are_taken_by<G: Guide>(
-    alloc: Global,
-    job: &Job<'_>,
-    decisions: &[Decision],
-    verdict: &Verdict,
-) -> Result<bool, NoMemory>
-    requires job { IsOneJob job.now }
-    requires explored { IsExplored job.now G.start }
-    ensures { IfOk result (λ yes. IsTrue yes ↔ AreTakenBy G.start decisions.now verdict.now) }
+/// Whether the values of the path's verdict, where it has some, are those of a packet that takes its decisions, which lead to
+/// this stop: each fits its unknown field, and they make true the condition there.
+fn are_taken_by<G: Guide>(guide: &G, stop: &G::Stop, path: &PathParts<'_>) -> bool
+    requires leads { LeadsTo G.start path.now.decisions.now (G.seen stop.now) }
+    requires over { IsOver (G.seen stop.now) }
+    ensures { IsTrue result ↔ AreTakenBy G.start path.now.decisions.now path.now.verdict.now }
 {
-    packets_take_routes();
-    match verdict {
-        Verdict::Sat { values } => has_walk(alloc, job, values.as_slice(), decisions),
-        Verdict::Undecided { .. } => Ok(true),
+    match path.verdict {
+        Verdict::Sat { values } => {
+            fit_symbols(guide.injected(), values.as_slice())
+                && make_true(values.as_slice(), guide.state(stop).condition())
+        }
+        Verdict::Undecided { .. } => true,
     }
 }
 
@@ -89,19 +84,16 @@ fn may_stay_open(alloc: Global, verdict: &Verdict, cond: &PathCond) -> Result<bo
 fn broken_at<G: Guide>(
     alloc: Global,
     guide: &G,
-    job: &Job<'_>,
     stop: &G::Stop,
     path: &PathParts<'_>,
 ) -> Result<Option<Part>, NoMemory>
-    requires job { IsOneJob job.now }
-    requires explored { IsExplored job.now G.start }
     requires leads { LeadsTo G.start path.now.decisions.now (G.seen stop.now) }
     ensures { IfOk result (IsJudged G.start (path_of path.now)) }
 {
     let Some(how) = guide.end(stop) else {
         return Ok(Some(Part::NotTaken));
     };
-    if !are_taken_by::<G>(alloc, job, path.decisions, path.verdict)? {
+    if !are_taken_by(guide, stop, path) {
         return Ok(Some(Part::NotTaken));
     }
     let state = guide.state(stop);
@@ -118,12 +110,9 @@ fn broken_at<G: Guide>(
 fn broken_in_path<G: Guide>(
     alloc: Global,
     guide: &G,
-    job: &Job<'_>,
     trail: &mut Trail<G::Stop>,
     path: &PathParts<'_>,
 ) -> Result<Option<Part>, NoMemory>
-    requires job { IsOneJob job.now }
-    requires explored { IsExplored job.now G.start }
     requires trail { IsTrail G.start G.seen trail.old }
     ensures trail { IsTrail G.start G.seen trail.new }
     ensures judged { IfOk result (IsJudged G.start (path_of path.now)) }
@@ -131,7 +120,7 @@ fn broken_in_path<G: Guide>(
     if !lead(alloc, guide, trail, path.decisions)? {
         return Ok(Some(Part::NotTaken));
     }
-    broken_at(alloc, guide, job, top(trail), path)
+    broken_at(alloc, guide, top(trail), path)
 }
 
 /// Whether no decision was taken, and the refutation is accepted of the condition of the injection.
@@ -223,12 +212,9 @@ fn broken_unless(holds: bool, part: Part) -> Option<Part>
 pub(crate) fn broken_in<G: Guide>(
     alloc: Global,
     guide: &G,
-    job: &Job<'_>,
     trail: &mut Trail<G::Stop>,
     found: &Record,
 ) -> Result<Option<Part>, NoMemory>
-    requires job { IsOneJob job.now }
-    requires explored { IsExplored job.now G.start }
     requires trail { IsTrail G.start G.seen trail.old }
     ensures trail { IsTrail G.start G.seen trail.new }
     ensures judged { IfOk result (IsJudged G.start (record_tree found.now)) }
@@ -248,7 +234,7 @@ pub(crate) fn broken_in<G: Guide>(
                 fields,
                 verdict,
             };
-            broken_in_path(alloc, guide, job, trail, &path)
+            broken_in_path(alloc, guide, trail, &path)
         }
         Record::Pruned {
             decisions,

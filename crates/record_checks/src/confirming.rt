@@ -3,14 +3,12 @@
 ghost use Rattle.exact_records.specs.View.{record_tree, record_trees};
 ghost use Rattle.record_checks.specs.Confirming.{Confirms, ConfirmsNext, IsConfirmedBack};
 ghost use Rattle.record_checks.specs.Counts.{AreAtMost};
-ghost use Rattle.record_checks.specs.Jobs.{IsExplored, IsOneJob};
 ghost use Rattle.record_checks.specs.Trails.{IsTrail};
 
 use crate::checks::broken_in;
 use crate::counts::{Confirmed, with_record};
 use crate::fault::ReplayFault;
 use crate::guide::Guide;
-use crate::job::Job;
 use crate::trail::{Trail, begin};
 use path_records::Record;
 use std::alloc::Global;
@@ -20,26 +18,20 @@ use std::alloc::Global;
 pub fn confirm_along<G: Guide>(
     alloc: Global,
     guide: &G,
-    job: &Job<'_>,
     records: &[Record],
 ) -> Result<Confirmed, ReplayFault>
-    requires job { IsOneJob job.now }
-    requires explored { IsExplored job.now G.start }
     ensures confirms { Confirms G.start (record_trees records.now) result }
     ensures back { IsConfirmedBack G.start (record_trees records.now) result }
 {
-    confirm_each(alloc, guide, job, records)
+    confirm_each(alloc, guide, records)
 }
 
 /// The same, one way.
 fn confirm_each<G: Guide>(
     alloc: Global,
     guide: &G,
-    job: &Job<'_>,
     records: &[Record],
 ) -> Result<Confirmed, ReplayFault>
-    requires job { IsOneJob job.now }
-    requires explored { IsExplored job.now G.start }
     ensures { Confirms G.start (record_trees records.now) result }
 {
     let mut trail = begin(alloc, guide)?;
@@ -51,7 +43,7 @@ fn confirm_each<G: Guide>(
     };
     let mut number = 0;
     for found in records {
-        counts = confirm_next(alloc, guide, job, &mut trail, found, number, counts)?;
+        counts = confirm_next(alloc, guide, &mut trail, found, number, counts)?;
         number += 1;
     }
     Ok(counts)
@@ -61,20 +53,17 @@ fn confirm_each<G: Guide>(
 fn confirm_next<G: Guide>(
     alloc: Global,
     guide: &G,
-    job: &Job<'_>,
     trail: &mut Trail<G::Stop>,
     found: &Record,
     number: u64,
     counts: Confirmed,
 ) -> Result<Confirmed, ReplayFault>
-    requires job { IsOneJob job.now }
-    requires explored { IsExplored job.now G.start }
     requires trail { IsTrail G.start G.seen trail.old }
     requires room { AreAtMost 18446744073709551614 counts }
     ensures trail { IsTrail G.start G.seen trail.new }
     ensures confirms { ConfirmsNext G.start (record_tree found.now) number counts result }
 {
-    match broken_in(alloc, guide, job, trail, found)? {
+    match broken_in(alloc, guide, trail, found)? {
         Some(part) => Err(ReplayFault::NotConfirmed { number, part }),
         None => Ok(with_record(counts, found)),
     }

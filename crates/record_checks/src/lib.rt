@@ -7,15 +7,13 @@ mod counts;
 mod fault;
 mod fields;
 pub mod guide;
-mod job;
 pub mod laws;
-mod packets;
 mod part;
 mod trail;
+mod values;
 mod verdicts;
 
 pub use confirming::confirm_along;
 pub use counts::Confirmed;
 pub use fault::ReplayFault;
-pub use job::Job;
 pub use part::Part;

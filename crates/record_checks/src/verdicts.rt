@@ -3,13 +3,13 @@
 ghost use Rattle.std.specs.Prelude.{◌↔◌, IsTrue, IfOk};
 ghost use Rattle.path_cond.specs.Seen.{itself};
 ghost use Rattle.refutation_check.specs.Seen.{IsLicensed};
-ghost use Rattle.exact_records.specs.Records.{IsRefutedBy, MayPrecede};
+ghost use Rattle.exact_records.specs.Records.{IsRefutedBy, MayPrecede, Satisfy};
 ghost use Rattle.record_checks.specs.Stops.{trees_of};
 
 use path_cond::PathCond;
 use refutation_check::laws::a_condition_is_judged_by_its_trees;
 use refutation_check::{Cause, Refutation, Verdict, check, lawful};
-use sn_width::NoMemory;
+use sn_width::{NoMemory, Num};
 use std::alloc::Global;
 
 /// Whether the refutation is accepted of the condition.
@@ -33,6 +33,14 @@ pub(crate) fn is_licensed(alloc: Global, cause: &Cause, cond: &PathCond) -> Resu
     lawful(alloc, cause, cond)
 }
 
+/// Whether the values make the condition true.
+pub(crate) fn make_true(values: &[Num], cond: &PathCond) -> bool
+    ensures { IsTrue result ↔ Satisfy values.now (trees_of cond.now) }
+{
+    a_condition_is_judged_by_its_trees();
+    cond.holds(values)
+}
+
 /// Whether the verdict may be that of the condition before a refuted side: its values make the condition true, or its
 /// cause may be given.
 pub(crate) fn may_precede(
@@ -42,9 +50,8 @@ pub(crate) fn may_precede(
 ) -> Result<bool, NoMemory>
     ensures { IfOk result (λ yes. IsTrue yes ↔ MayPrecede (trees_of cond.now) before.now) }
 {
-    a_condition_is_judged_by_its_trees();
     match before {
-        Verdict::Sat { values } => Ok(cond.holds(values.as_slice())),
+        Verdict::Sat { values } => Ok(make_true(values.as_slice(), cond)),
         Verdict::Undecided { cause } => is_licensed(alloc, cause, cond),
     }
 }

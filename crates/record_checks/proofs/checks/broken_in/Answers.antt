@@ -1,5 +1,4 @@
-use Rattle.std.proofs.Common.{◌≡◌, ◌∙◌, List, rules, subst, sym, ap}
-use Rattle.sefl_meaning.specs.declared.walk.Decision.{Decision}
+use Rattle.std.proofs.Common.{◌≡◌, subst, sym, ap}
 use Rattle.exact_records.specs.Records.{RecordTree, unexplored}
 use Rattle.exact_records.specs.View.{record_tree}
 use Rattle.record_checks.specs.Parts.{IsJudged}

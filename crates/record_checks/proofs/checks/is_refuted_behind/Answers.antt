@@ -1,4 +1,4 @@
-use Rattle.std.proofs.Common.{◌≡◌, ◌↔◌, ◌∙◌, ◌++◌, ◌∷◌, [], false, true, IsTrue, List, ap, rules, subst, sym}
+use Rattle.std.proofs.Common.{◌≡◌, ◌↔◌, ◌∙◌, ◌++◌, ◌∷◌, [], false, IsTrue, List, ap, rules, subst, sym}
 use Rattle.std.proofs.lemmas.Result.{IfOk-weaker}
 use Rattle.sefl_meaning.specs.declared.walk.Decision.{Decision}
 use Rattle.sym_state.specs.Symbolic.{Symbolic}

@@ -1,6 +1,6 @@
 use Rattle.std.proofs.Common.{◌≡◌, ◌↔◌, IfOk, IsTrue, sym, subst, rules}
 use Rattle.refutation_check.specs.declared.outcome.Verdict.{Verdict}
-use Rattle.refutation_check.specs.declared.outcome.Verdict.TheVariants.{Sat, Undecided}
+use Rattle.refutation_check.specs.declared.outcome.Verdict.TheVariants.{Undecided}
 use Rattle.record_checks.specs.Checks.{MayStayOpen}
 use Rattle.record_checks.specs.Stops.{trees_of}
 use Rattle.record_checks.proofs.checks.may_stay_open.Goals as goal

@@ -1,4 +1,4 @@
-use Rattle.std.proofs.Common.{◌≡◌, ◌≤◌, ◌<◌, ◌+◌, Err, rules, length, take, drop, arith, ap, refl, subst, sym}
+use Rattle.std.proofs.Common.{◌≤◌, ◌+◌, Err, rules, length, drop, arith, ap, refl, subst, sym}
 use Rattle.std.proofs.lemmas.List.{drop_all, take_all}
 use Rattle.std.specs.List.{AllByRecursion}
 use Rattle.exact_records.specs.Records.{HasMeaning}

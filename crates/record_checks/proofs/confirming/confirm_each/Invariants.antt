@@ -1,7 +1,7 @@
-use Rattle.std.proofs.Common.{◌≡◌, drop, map, take}
+use Rattle.std.proofs.Common.{◌≡◌, drop, take}
 use Rattle.std.specs.List.{AllByRecursion}
 use Rattle.exact_records.specs.Records.{HasMeaning}
-use Rattle.exact_records.specs.View.{record_tree, record_trees}
+use Rattle.exact_records.specs.View.{record_trees}
 use Rattle.record_checks.specs.Counts.{AreAtMost, AreCountedSo}
 use Rattle.record_checks.specs.Trails.{IsTrail}
 use Rattle.record_checks.proofs.confirming.confirm_each.Given as goal

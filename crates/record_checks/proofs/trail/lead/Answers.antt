@@ -1,10 +1,10 @@
-use Rattle.std.proofs.Common.{◌≡◌, ◌≤◌, ◌+◌, ◌∙◌, ◌++◌, ◌∷◌, [], get_or, length, option_map, take, refl, sym, ap, subst}
+use Rattle.std.proofs.Common.{◌≤◌, ◌+◌, ◌∙◌, ◌++◌, ◌∷◌, [], get_or, length, option_map, take, refl, sym, ap, subst}
 use Rattle.std.proofs.lemmas.List.{length-take-le, length_push}
 use Rattle.sefl_meaning.specs.declared.walk.Decision.TheVariants.{Then}
 use Rattle.sefl_meaning.specs.Order.{BeginsWith}
 use Rattle.sefl_meaning.specs.Routes.{IsOpen}
 use Rattle.record_checks.specs.Stops.{LeadsOn, LeadsTo}
-use Rattle.record_checks.specs.Trails.{decisions_of, taken, top_of}
+use Rattle.record_checks.specs.Trails.{decisions_of, taken}
 use Rattle.record_checks.specs.declared.trail.Step.{Step}
 use Rattle.record_checks.specs.declared.trail.Trail.{Trail}
 use Rattle.record_checks.proofs.Leading.{next_along, steps_along, top_led, trail_cut, trail_more}

@@ -1,4 +1,4 @@
-use Rattle.std.proofs.Common.{◌≡◌, ◌<◌, ◌-◌, get_or, length, sym, subst, rules}
+use Rattle.std.proofs.Common.{◌≡◌, ◌<◌, ◌-◌, get_or, length, sym, rules}
 use Rattle.record_checks.proofs.Leading.{last_at}
 use Rattle.record_checks.proofs.trail.top.Goals as goal
 
