@@ -19,7 +19,7 @@ use Rattle.run_answers.specs.Refusals.{fault_by_number, fault_by_rule, rule_numb
 use Rattle.run_answers.specs.Tables.{AllFilled, CodeFails, FirstUnfilled, IsCodeOf, IsFilled, TableFails}
 use Rattle.run_answers.specs.Jobs.{AcceptFails, HasFilled, HasJob, IsOnlyFlaw, IsOnlyJob, IsRefusedAt, JobFails, ReadFails, first_bad}
 use Rattle.run_answers.specs.Outside.{World, world}
-use Rattle.run_answers.specs.Inputs.{Input, Given, a_job as of_job, a_file, a_net, some_bytes, AllOpen, FirstFails, Opens, Fails, IsSettled}
+use Rattle.run_answers.specs.Inputs.{Input, Given, a_job as of_job, a_made_job, a_file, a_net, some_bytes, AllOpen, FirstFails, Opens, Fails, IsSettled}
 use Rattle.run_answers.specs.declared.limits.TheConstants.{FILE_LIMIT}
 use Rattle.run_answers.specs.declared.fault.InputFault.{InputFault}
 use Rattle.run_answers.specs.declared.fault.InputFault.TheVariants.{NoFile, ReadFault, TooBig, Syntax, BadTable, BadPattern, Refused, NoMemory}
@@ -266,6 +266,9 @@ module _ (one_node : FilesHaveOneNode) (no_bad : NodesHaveNoBadLine) (w : World)
       let jobs = filled_once name j k has has' in
       let (nets, entries) = taken_once k net other i e finds told (subst (λ (x : JobTree). (world w).takes tt x net i tt) jobs taken) taken' in
       is ∙ (same_given j k net other i e jobs nets entries ∙ sym is')
+  opens_once (a_made_job j) a b finds told (net, i, taken, is) (other, e, taken', is') =
+      let (nets, entries) = taken_once j net other i e finds told taken taken' in
+      is ∙ (same_given j j net other i e refl nets entries ∙ sym is')
 
   opens_exclude : (i : Input) (a : Given) (f : InputFault) → IsSettled w f → Opens (world w) tt i a tt → Fails (world w) tt i f tt → ⊥
   opens_exclude (a_file limit name) a f s (x, file, is, u) k = loads limit name x f file s k.0
@@ -273,6 +276,7 @@ module _ (one_node : FilesHaveOneNode) (no_bad : NodesHaveNoBadLine) (w : World)
   opens_exclude (of_job name) a f s (j, has, net, i, (sound, of_net, of_entry, found, good), is) (inr (other, has', k)) =
       let same = filled_once name j other has has' in
       accept_excludes other f s (subst IsSound same sound) (subst (λ (x : JobTree). ForSome w.is_bad (λ b. first_bad b x ≡ None)) same good) k
+  opens_exclude (a_made_job j) a f s (net, i, (sound, of_net, of_entry, found, good), is) k = accept_excludes j f s sound good k
 
   fails_once : (i : Input) (f g : InputFault) → IsSettled w f → IsSettled w g → Fails (world w) tt i f tt → Fails (world w) tt i g tt → f ≡ g
   fails_once (a_file limit name) f g s t h k = load_once limit name f g s t h.0 k.0
@@ -281,6 +285,7 @@ module _ (one_node : FilesHaveOneNode) (no_bad : NodesHaveNoBadLine) (w : World)
   fails_once (of_job name) f g s t (inr (j, has, h)) (inl k) = absurd (filled_excludes name j g t has k.0)
   fails_once (of_job name) f g s t (inr (j, has, h)) (inr (other, has', k)) =
       accept_once other f g s t (subst (λ (x : JobTree). AcceptFails (world w).refuses tt x f tt) (filled_once name j other has has') h) k
+  fails_once (a_made_job j) f g s t h k = accept_once j f g s t h k
 
   -- all inputs are good in one way, and then none is refused
   pub all_once : (is : List Input) (a b : List Given) (finds : List ℕ → List ℕ → Bool) → w.finds ≡ Some finds → AllOpen (world w) tt is a tt → AllOpen (world w) tt is b tt → a ≡ b

@@ -10,9 +10,10 @@ use Rattle.run_answers.specs.Outside.{Outside, World}
 use Rattle.run_answers.specs.declared.fault.InputFault.{InputFault}
 use Rattle.run_answers.specs.declared.fault.InputFault.TheVariants.{ReadFault, BadPattern, NoMemory}
 
--- an input: the file of a job; or a file, with the most bytes that it may have
+-- an input: the file of a job; a job that the command makes itself; or a file, with the most bytes that it may have
 pub data Input : Type 0 where
   a_job : List ℕ → Input
+  a_made_job : JobTree → Input
   a_file : ℕ → List ℕ → Input
 
 -- what it gives: the net, the injection and the questions of an accepted job; or bytes
@@ -30,12 +31,14 @@ module _ {S : Type 0} (o : Outside S) where
   Opens u (a_file limit name) given v = (bytes : List ℕ) × HasFile o.files limit name bytes × (given ≡ some_bytes bytes) × (v ≡ u)
   Opens u (a_job name) given v =
       (j : JobTree) × HasFilled o.files name j × (net : Network) × (i : Entry) × o.takes u j net i v × (given ≡ a_net net i j.asks)
+  Opens u (a_made_job j) given v = (net : Network) × (i : Entry) × o.takes u j net i v × (given ≡ a_net net i j.asks)
 
   -- or it is refused: for its file, its text, its tables, or acceptance
   abbrev pub Fails : S → Input → InputFault → S → Type 0
   Fails u (a_file limit name) fault v = LoadFails o.files limit name fault × (v ≡ u)
   Fails u (a_job name) fault v =
       (JobFails o.files name fault × (v ≡ u)) ⊎ ((j : JobTree) × HasFilled o.files name j × AcceptFails o.refuses u j fault v)
+  Fails u (a_made_job j) fault v = AcceptFails o.refuses u j fault v
 
   -- all inputs are good, in order, and give these
   abbrev pub AllOpen : S → List Input → List Given → S → Type 0

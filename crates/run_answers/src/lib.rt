@@ -8,4 +8,4 @@ mod limits;
 
 pub use ending::{Ending, Stop};
 pub use fault::{InputFault, OwnFault};
-pub use limits::{FILE_LIMIT, HOPS, LIMIT};
+pub use limits::FILE_LIMIT;
