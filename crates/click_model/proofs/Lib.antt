@@ -1,1 +1,5 @@
-pub mod TokenLemmas
+pub mod Pieces
+pub mod NameLemmas
+pub mod LeadLemmas
+pub mod ConfigLemmas
+pub mod UseLemmas

@@ -1,33 +1,44 @@
--- The text of arguments without its comments.
-use Rattle.std.specs.Prelude.{ℕ, ◌-◌, ◌==◌, ◌||◌, if◌then◌else◌, List, [], ◌∷◌, ◌++◌, take, drop, length}
-use Rattle.click_model.specs.declared.comment.Mode.{Mode}
-use Rattle.click_model.specs.declared.comment.Mode.TheVariants.{Plain, Slash, Line, Block, Star}
-use Rattle.click_model.specs.Comments.{mode_behind}
+-- The arguments of an element, which commas separate, and their words.
+use Rattle.std.specs.Prelude.{ℕ, Bool, true, false, List, [], ◌∷◌, Option, None, Some}
+use Rattle.sefl_syntax.specs.declared.net.TableKind.TheVariants.{Mac, Fib}
+use Rattle.table_lines.specs.declared.pieces.Separator.TheVariants.{Comma}
+use Rattle.table_lines.specs.Pieces.{pieces}
+use Rattle.table_lines.specs.Words.{words}
+use Rattle.table_lines.specs.Numbers.{at_most}
+use Rattle.table_lines.specs.Addresses.{address_of}
+use Rattle.click_text.specs.Numbers.{number}
 
--- without the parentheses
-abbrev pub inside : List ℕ → List ℕ
-inside arguments = take (length arguments - 2) (drop 1 arguments)
+abbrev pub arguments : List ℕ → List (List ℕ)
+arguments text = pieces Comma text
 
--- what is known of the text with one byte more: a slash waits for the byte behind it, and a comment is one blank
-abbrev pub put_behind : Mode → ℕ → List ℕ
-put_behind Plain c = if c == 47 then [] else c ∷ []
-put_behind Slash c = if c == 47 || c == 42 then 32 ∷ [] else 47 ∷ c ∷ []
-put_behind Line c = []
-put_behind Block c = []
-put_behind Star c = []
+-- one word alone
+abbrev pub only : List (List ℕ) → Option (List ℕ)
+only [] = None
+only (word ∷ []) = Some word
+only (word ∷ next ∷ later) = None
 
--- and at its end
-abbrev pub put_last : Mode → List ℕ
-put_last Plain = []
-put_last Slash = 47 ∷ []
-put_last Line = []
-put_last Block = []
-put_last Star = []
+-- one argument alone, of one word
+abbrev pub one : List (List ℕ) → Option (List ℕ)
+one [] = None
+one (argument ∷ []) = only (words argument)
+one (argument ∷ next ∷ later) = None
 
--- behind what is known so far
-abbrev pub without_comments : Mode → List ℕ → List ℕ → List ℕ
-without_comments mode text [] = text ++ put_last mode
-without_comments mode text (c ∷ rest) = without_comments (mode_behind mode c) (text ++ put_behind mode c) rest
+abbrev pub has_none : List (List ℕ) → Bool
+has_none [] = true
+has_none (word ∷ later) = false
 
-abbrev pub arguments_text : List ℕ → List ℕ
-arguments_text arguments = without_comments Plain [] (inside arguments)
+-- nothing but blanks
+abbrev pub is_empty : List (List ℕ) → Bool
+is_empty [] = true
+is_empty (argument ∷ []) = has_none (words argument)
+is_empty (argument ∷ next ∷ later) = false
+
+-- a number that does not exceed the limit
+abbrev pub number_to : ℕ → Option (List ℕ) → Option ℕ
+number_to limit None = None
+number_to limit (Some word) = at_most limit (number word)
+
+-- the address of an Ethernet interface
+abbrev pub mac_of : Option (List ℕ) → Option ℕ
+mac_of None = None
+mac_of (Some word) = address_of Mac word

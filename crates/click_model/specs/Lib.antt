@@ -1,9 +1,8 @@
-pub mod Comments
-pub mod Fronts
-pub mod Tokens
-pub mod Numbers
-pub mod Stages
-pub mod Items
 pub mod Arguments
+pub mod Patterns
 pub mod Classes
-pub mod Codes
+pub mod Faults
+pub mod Declarations
+pub mod Connections
+pub mod Configs
+pub mod Nets

@@ -1,23 +1,19 @@
-//! Reads Click configurations: their tokens and statements.
+//! Click configurations: their elements and connections, and the nets that they stand for.
 #![tactic(auto)]
 
-mod arguments;
-mod bytes;
 mod class;
-mod code;
-mod comment;
+mod config;
+mod connect;
+mod declare;
+mod element;
+mod expect;
 mod fault;
-mod front;
-mod item;
-mod number;
-mod stage;
-mod statement;
-mod token;
+mod flaw;
+mod net;
+mod pattern;
+mod rule;
+mod words;
 
-pub use arguments::arguments_text;
-pub use class::{ClassName, class_named};
-pub use code::{dec_ip_ttl_code, discard_code, tee_code};
-pub use fault::Unread;
-pub use item::Item;
-pub use statement::read_items;
-pub use token::{Token, TokenKind, next_token};
+pub use config::{ClickConfig, read_click};
+pub use fault::ClickFault;
+pub use net::click_net;

@@ -1,7 +1,0 @@
-use Rattle.std.proofs.Common.{◌≡◌, [], drop}
-use Rattle.click_model.specs.declared.comment.Mode.TheVariants.{Plain}
-use Rattle.click_model.specs.Arguments.{without_comments}
-use Rattle.click_model.proofs.arguments.without_comments.Given as goal
-
-abbrev pub invariant-loop-byte : goal.invariant-loop-byte
-invariant-loop-byte l = without_comments l.mode l.text.items (drop l.byte-index l.bytes) ≡ without_comments Plain [] l.bytes
