@@ -3,9 +3,10 @@ use Rattle.std.proofs.Common.{◌≡◌, inl, inr, ◌∙◌, sym, subst, refl, 
 use Rattle.sn_edge.specs.declared.patterns.Found.{Found}
 use Rattle.std.specs.Option.{ForSome}
 use Rattle.sefl_syntax.specs.Trees.{JobTree}
+use Rattle.net_check.specs.Network.{Network, Entry}
 use Rattle.run_answers.specs.Jobs.{AcceptFails, ListsFound, first_bad}
 use Rattle.run_answers.specs.Outside.{Outside, World, outside, world}
-use Rattle.run_answers.specs.Inputs.{Input, Given, a_job, a_file, AllOpen, FirstFails, Opens, Fails}
+use Rattle.run_answers.specs.Inputs.{Input, Given, a_job, a_made_job, a_file, AllOpen, FirstFails, Opens, Fails}
 use Rattle.run_answers.specs.declared.fault.InputFault.{InputFault}
 use Rattle.run_answers.specs.declared.fault.InputFault.TheVariants.{BadPattern, Refused, NoMemory}
 
@@ -23,6 +24,15 @@ module _ {S : Type 0} (matches : S → Option (List ℕ → List ℕ → Bool)) 
   accept_told u v j NoMemory known h = tt
   accept_told u v j fault known h = absurd h
 
+  taken_told : (u v : S) (j : JobTree) (net : Network) (i : Entry) → Known u → call.takes u j net i v → (world w).takes tt j net i tt
+  taken_told u v j net i known taken = (
+    taken.sound,
+    taken.of_net,
+    taken.of_entry,
+    subst (λ m. ForSome m (ListsFound j net)) known.0 taken.found,
+    subst (λ b. ForSome b (λ f. first_bad f j ≡ None)) known.1 taken.good,
+  )
+
   opens_told : (u v : S) (i : Input) (given : Given) → Known u → Opens call u i given v → Opens (world w) tt i given tt × Known v
   opens_told u v (a_file limit name) given known (bytes, has, is, same) = ((bytes, has, is, refl), subst Known (sym same) known)
   opens_told u v (a_job name) given known (j, has, net, i, taken, is) = (
@@ -31,15 +41,13 @@ module _ {S : Type 0} (matches : S → Option (List ℕ → List ℕ → Bool)) 
       has,
       net,
       i,
-      (
-        taken.sound,
-        taken.of_net,
-        taken.of_entry,
-        subst (λ m. ForSome m (ListsFound j net)) known.0 taken.found,
-        subst (λ b. ForSome b (λ f. first_bad f j ≡ None)) known.1 taken.good,
-      ),
+      taken_told u v j net i known taken,
       is,
     ),
+    (taken.matches_kept ∙ known.0, taken.bad_kept ∙ known.1),
+  )
+  opens_told u v (a_made_job j) given known (net, i, taken, is) = (
+    (net, i, taken_told u v j net i known taken, is),
     (taken.matches_kept ∙ known.0, taken.bad_kept ∙ known.1),
   )
 
@@ -47,6 +55,7 @@ module _ {S : Type 0} (matches : S → Option (List ℕ → List ℕ → Bool)) 
   fails_told u v (a_file limit name) fault known h = (h.0, refl)
   fails_told u v (a_job name) fault known (inl h) = inl (h.0, refl)
   fails_told u v (a_job name) fault known (inr (j, has, h)) = inr (j, has, accept_told u v j fault known h)
+  fails_told u v (a_made_job j) fault known h = accept_told u v j fault known h
 
   pub first_told : (u v : S) (is : List Input) (fault : InputFault) → Known u → FirstFails call u is fault v → FirstFails (world w) tt is fault tt
   first_told u v [] fault known h = absurd h

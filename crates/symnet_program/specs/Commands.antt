@@ -1,12 +1,16 @@
 -- Each command: what it reads, in order, and its own work.
 use Rattle.std.specs.Prelude.{ℕ, ◌≡◌, List, [], ◌∷◌}
-use Rattle.run_answers.specs.Inputs.{Input, a_job, a_file}
+use Rattle.run_answers.specs.Inputs.{Input, a_job, a_made_job, a_file}
 use Rattle.run_answers.specs.Runs.{OwnWork, one_piece}
 use Rattle.run_answers.specs.declared.limits.TheConstants.{FILE_LIMIT}
 use Rattle.explore_command.specs.Explores.{explore_work}
+use Rattle.ask_command.specs.Asks.{AskComes}
+use Rattle.job_gen.specs.Grown.{grown}
+use Rattle.grow_command.specs.Grows.{GrowComes}
 use Rattle.replay_command.specs.Replays.{ReplayComes}
 use Rattle.replay_command.specs.declared.replay.TheConstants.{REPORT_LIMIT}
 use Rattle.model_command.specs.Models.{ModelComes}
+use Rattle.click_command.specs.Models.{ClickComes}
 use Rattle.sefl_syntax.specs.declared.net.Style.{Style as NodeStyle}
 use Rattle.sefl_syntax.specs.declared.net.Style.TheVariants.{Chain, Grouped, Egress}
 use Rattle.sefl_syntax.specs.declared.net.TableKind.{TableKind}
@@ -14,7 +18,8 @@ use Rattle.sefl_syntax.specs.declared.net.TableKind.TheVariants.{Mac, Fib}
 use Rattle.walk_command.specs.Walks.{WalkComes}
 use Rattle.record_lines.specs.declared.lines.RefutedSides.{RefutedSides}
 use Rattle.record_lines.specs.declared.lines.RefutedSides.TheVariants.{Written, Counted}
-use Rattle.command_words.specs.Commands.{Command, explore, walk, replay, model}
+use Rattle.command_words.specs.Commands.{Command, explore, walk, replay, ask, model, click, grow}
+use Rattle.command_words.specs.declared.command.TheConstants.{LIMIT}
 use Rattle.command_words.specs.declared.command.Pruned.{Pruned}
 use Rattle.command_words.specs.declared.command.Pruned.TheVariants.{All, Count}
 use Rattle.command_words.specs.declared.command.Style.{Style}
@@ -26,7 +31,10 @@ abbrev pub inputs : Command → List Input
 inputs (explore job hops limit pruned) = a_job job ∷ []
 inputs (walk job packet hops limit) = a_job job ∷ a_file FILE_LIMIT packet ∷ []
 inputs (replay job report) = a_job job ∷ a_file REPORT_LIMIT report ∷ []
+inputs (ask job hops) = a_job job ∷ []
 inputs (model table file style) = a_file FILE_LIMIT file ∷ []
+inputs (click file) = a_file FILE_LIMIT file ∷ []
+inputs (grow seed boxes) = a_made_job (grown seed boxes) ∷ []
 
 -- the first that it reads is the job under this name
 abbrev pub ReadsJob : Command → List ℕ → Type 0
@@ -51,4 +59,7 @@ abbrev pub work : Command → OwnWork
 work (explore job hops limit pruned) = explore_work hops limit (sides_of pruned)
 work (walk job packet hops limit) = one_piece (WalkComes hops limit)
 work (replay job report) = one_piece ReplayComes
+work (ask job hops) = one_piece (AskComes hops LIMIT)
 work (model table file style) = one_piece (ModelComes (kind_of table) (style_of style) file)
+work (click file) = one_piece (ClickComes file)
+work (grow seed boxes) = one_piece (GrowComes seed boxes)

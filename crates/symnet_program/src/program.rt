@@ -16,10 +16,13 @@ ghost use Rattle.symnet_program.specs.declared.status.Status.{Status as StatusOf
 ghost use Rattle.symnet_program.specs.declared.status.Status.TheVariants.{Done, Usage};
 
 use crate::status::{Status, status_of};
+use ask_command::Ask;
+use click_command::ClickModel;
 use command_runs::{Piece, run};
-use command_words::{Command, Pruned, Style, Table, reading};
+use command_words::{Command, LIMIT, Pruned, Style, Table, reading};
 use explore_command::laws::finished_reports_tell_all;
 use explore_command::{Explore, RecordLimit, RefutedSides};
+use grow_command::{Grow, GrownJob};
 use job_files::{Both, ByteFile, JobFile};
 use model_command::TableModel;
 use replay_command::{REPORT_LIMIT, Replay};
@@ -126,6 +129,14 @@ fn run_command<F: Folder, P: Patterns, K: Sink>(
             };
             run(alloc, &Piece(Replay { source }), folder, patterns, out)
         }
+        Command::Ask { job, hops } => {
+            let command = Piece(Ask {
+                source: JobFile { name: job },
+                hops,
+                limit: RecordLimit::new(LIMIT),
+            });
+            run(alloc, &command, folder, patterns, out)
+        }
         Command::Model { table, file, style } => {
             let command = Piece(TableModel {
                 source: ByteFile {
@@ -136,6 +147,17 @@ fn run_command<F: Folder, P: Patterns, K: Sink>(
                 style: style_of(style),
             });
             run(alloc, &command, folder, patterns, out)
+        }
+        Command::Click { file } => {
+            let source = ByteFile {
+                name: file,
+                limit: FILE_LIMIT,
+            };
+            run(alloc, &Piece(ClickModel { source }), folder, patterns, out)
+        }
+        Command::Grow { seed, boxes } => {
+            let source = GrownJob { seed, boxes };
+            run(alloc, &Piece(Grow { source }), folder, patterns, out)
         }
     }
 }

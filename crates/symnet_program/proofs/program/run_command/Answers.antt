@@ -29,6 +29,12 @@ returns-in-Walk-clause-ran g c = rw (c.in-Walk.is) c.run-in-Walk.ensures.ran
 pub returns-in-Replay-clause-ran : goal.returns-in-Replay-clause-ran
 returns-in-Replay-clause-ran g c = rw (c.in-Replay.is) c.run-in-Replay.ensures.ran
 
+pub returns-in-Grow-clause-ran : goal.returns-in-Grow-clause-ran
+returns-in-Grow-clause-ran g c = rw (c.in-Grow.is) c.run-in-Grow.ensures.ran
+
+pub returns-in-Ask-clause-ran : goal.returns-in-Ask-clause-ran
+returns-in-Ask-clause-ran g c = rw (c.in-Ask.is) c.run-in-Ask.ensures.ran
+
 pub returns-in-Model-clause-ran : goal.returns-in-Model-clause-ran
 returns-in-Model-clause-ran g c =
     rw (c.in-Model.is) (subst (λ (s : Style). Runs (g.K.Sink.taken c.args.out.now) (g.K.Sink.taken c.run-in-Model.new.out)
@@ -37,3 +43,6 @@ returns-in-Model-clause-ran g c =
     (subst (λ (k : TableKind). Runs (g.K.Sink.taken c.args.out.now) (g.K.Sink.taken c.run-in-Model.new.out)
     (outside (g.F.Folder.files c.args.folder.now) g.P.Patterns.matches g.P.Patterns.bad_patterns g.P.Patterns.refusals g.P.Patterns.find_gives)
     c.args.patterns.now c.run-in-Model.new.patterns (a_file FILE_LIMIT c.in-Model.file.now ∷ []) (one_piece (ModelComes k c.style_of.result c.in-Model.file.now)) c.run-in-Model.result) c.kind_of.ensures c.run-in-Model.ensures.ran))
+
+pub returns-in-Click-clause-ran : goal.returns-in-Click-clause-ran
+returns-in-Click-clause-ran g c = rw (c.in-Click.is) c.run-in-Click.ensures.ran

@@ -1,0 +1,29 @@
+-- What `grow` comes to, by how its exploration ended.
+use Rattle.std.proofs.Common.{◌≡◌, ◌<◌, ℕ, List, [], ◌∷◌, arith}
+use Rattle.sefl_syntax.specs.Trees.{AskTree}
+use Rattle.net_check.specs.Network.{Network, Entry}
+use Rattle.path_records.specs.declared.records.Record.{Record}
+use Rattle.exact_records.specs.View.{record_trees}
+use Rattle.path_exec.specs.Receiving.{Receiving}
+use Rattle.symbolic_engine.specs.Exploring.{EndsPartialFor, EndsWholeFor}
+use Rattle.run_answers.specs.Inputs.{a_net}
+use Rattle.run_answers.specs.Runs.{text}
+use Rattle.run_answers.specs.declared.ending.Ending.{Ending}
+use Rattle.run_answers.specs.declared.ending.Ending.TheVariants.{Done, Partial}
+use Rattle.grow_command.specs.Counted.{counts_of}
+use Rattle.grow_command.specs.Grows.{AreCounts, GrowComes}
+use Rattle.grow_command.specs.Summary.{summary_text}
+use Rattle.grow_command.specs.declared.counts.Counts.{Counts}
+use Rattle.grow_command.specs.declared.grow.TheConstants.{HOPS, LIMIT}
+
+module _ (net : Network) (i : Entry) (counts : Counts) (m : Receiving Record) (before after : ℕ)
+    (stands : (items : List Record) → m.StandsFor items → counts ≡ counts_of (record_trees items)) where
+  pub counted_whole : EndsWholeFor net i HOPS LIMIT m before after → AreCounts net i Done counts
+  counted_whole h = record { records = h.items; exact = h.exact; ends = h.tried; counted = stands h.items h.stands }
+
+  pub counted_partly : EndsPartialFor net i HOPS LIMIT m before after → AreCounts net i Partial counts
+  counted_partly h = record { records = h.items; exact = h.exact; ends = h.untried; counted = stands h.items h.stands }
+
+pub summary_comes : (seed boxes : ℕ) (net : Network) (i : Entry) (asks : List AskTree) (ending : Ending) (counts : Counts) (whole : List ℕ)
+    → AreCounts net i ending counts → whole ≡ summary_text seed boxes counts → GrowComes seed boxes (a_net net i asks ∷ []) (text ending whole)
+summary_comes seed boxes net i asks ending counts whole are is = (counts, are, is)

@@ -1,0 +1,89 @@
+//! The command `grow`.
+
+ghost use Rattle.std.specs.Prelude.{◌≡◌, ◌<◌, IfOk};
+ghost use Rattle.net_check.specs.Network.{entry, network};
+ghost use Rattle.net_check.specs.Sound.{AreOfOneJob};
+ghost use Rattle.grow_command.specs.Grows.{AreCounts, GrowComes};
+
+use crate::counts::{Counts, Tally};
+use crate::grown_job::GrownJob;
+use crate::summary::summary_text;
+use command_runs::OnePiece;
+use net_check::Accepted;
+use path_exec::Ended;
+use run_answers::{Ending, OwnFault};
+use sn_width::{NoMemory, Steps};
+use std::alloc::Global;
+use std::marker::Brand;
+use std::sync::ledger::{Blank, Ledger};
+use symbolic_engine::explore_into;
+
+/// A walk is cut at the input port after this many.
+pub const HOPS: u32 = 16;
+
+/// The most paths and refuted sides.
+pub const LIMIT: u32 = 100_000;
+
+/// What an exploration found.
+#[derive(Clone, Copy)]
+struct Found {
+    ending: Ending,
+    counts: Counts,
+}
+
+/// Explores a job, and counts the records as they are found.
+fn count_records<L: Ledger>(alloc: Global, job: &Accepted, blank: Blank) -> Result<Found, NoMemory>
+    requires job { AreOfOneJob (network job.now.net) (entry job.now.injection) }
+    requires name { blank.name ≡ L.name }
+    requires parts { blank.parts ≡ L.parts }
+    requires some { 0 < blank.parts }
+    ensures { IfOk result (λ found. AreCounts (network job.now.net) (entry job.now.injection) found.ending found.counts) }
+{
+    let mut steps = Steps::<L>::new(blank);
+    let mut tally = Tally {
+        counts: Counts::none(),
+    };
+    let ended = explore_into(
+        alloc,
+        &job.net,
+        &job.injection,
+        HOPS,
+        LIMIT,
+        &mut tally,
+        &mut steps,
+    )?;
+    let ending = match ended {
+        Ended::Whole => Ending::Done,
+        Ended::Partial => Ending::Partial,
+        Ended::Stopped => unreachable!(),
+    };
+    Ok(Found {
+        ending,
+        counts: tally.counts,
+    })
+}
+
+/// The summary of an exploration of the job that grows from a seed.
+#[derive(Clone, Copy)]
+pub struct Grow {
+    pub source: GrownJob,
+}
+
+impl OnePiece for Grow {
+    type From = GrownJob;
+
+    ghost source = { λ g. g.source };
+
+    ghost comes = { λ g. GrowComes g.source.seed g.source.boxes };
+
+    fn source(&self) -> &GrownJob {
+        &self.source
+    }
+
+    fn text(&self, alloc: Global, given: Accepted) -> Result<(Ending, String), OwnFault> {
+        let found = count_records::<Brand>(alloc, &given, Blank::new(1))?;
+        let GrownJob { seed, boxes } = self.source;
+        let text = summary_text(alloc, seed, boxes, &found.counts)?;
+        Ok((found.ending, text))
+    }
+}
