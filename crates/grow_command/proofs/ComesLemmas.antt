@@ -1,5 +1,5 @@
 -- What `grow` comes to, by how its exploration ended.
-use Rattle.std.proofs.Common.{◌≡◌, ◌<◌, ℕ, List, [], ◌∷◌, arith}
+use Rattle.std.proofs.Common.{◌≡◌, ℕ, List, [], ◌∷◌}
 use Rattle.sefl_syntax.specs.Trees.{AskTree}
 use Rattle.net_check.specs.Network.{Network, Entry}
 use Rattle.path_records.specs.declared.records.Record.{Record}

@@ -24,12 +24,7 @@ fn write_count(out: &mut JsonText, name: &str, number: u64) -> Result<(), NoMemo
 }
 
 #[tactic(auto, unfolding(crate::specs::Summary::summary_data))]
-fn write_summary(
-    out: &mut JsonText,
-    seed: u64,
-    boxes: u32,
-    counts: &Counts,
-) -> Result<(), NoMemory>
+fn write_summary(out: &mut JsonText, seed: u64, boxes: u32, counts: &Counts) -> Result<(), NoMemory>
     ensures { Gains (summary_data seed boxes counts.now) result out.old out.new }
 {
     objects_are_written();
