@@ -1,0 +1,15 @@
+mod AskLemmas
+mod DecisionLemmas
+mod Every
+mod FieldLemmas
+mod Going
+mod IdLemmas
+mod KeepLemmas
+mod KeptLemmas
+mod OneLemmas
+mod PlaceLemmas
+mod StateLemmas
+mod Stating
+mod TakenLemmas
+mod Telling
+mod Ways

@@ -1,0 +1,93 @@
+-- Where decisions lead, and what questions speak of there.
+use Rattle.std.proofs.Common.{◌≡◌, ℕ, List, [], reverse, refl, sym, ap, subst, ◌∙◌, Some, None}
+use Rattle.sefl_meaning.specs.declared.walk.Decision.{Decision}
+use Rattle.sefl_meaning.specs.declared.walk.End.{End}
+use Rattle.sefl_meaning.specs.declared.walk.Place.{Place}
+use Rattle.lin_term.specs.Terms.{LinearTerm}
+use Rattle.net_check.specs.Network.{Network, Entry}
+use Rattle.sefl_meaning.specs.Courses.{Progress}
+use Rattle.sefl_meaning.specs.Routes.{IsFirstClosed, route}
+use Rattle.sefl_meaning.specs.Trees.{over}
+use Rattle.exact_records.specs.Packets.{IsExplored}
+use Rattle.exact_records.specs.Records.{Leads, SymRoute, SymStart, SymTree}
+use Rattle.path_exec.specs.declared.engine.Offer.{Offer}
+use Rattle.path_exec.specs.declared.engine.Offer.TheVariants.{If, Constrain, Fork}
+use Rattle.path_exec.specs.Offers.{IsNode}
+use Rattle.symbolic_engine.specs.declared.guiding.Led.{Led}
+use Rattle.symbolic_engine.specs.declared.guiding.Waits.{Waits}
+use Rattle.symbolic_engine.specs.declared.guiding.Waits.TheVariants.{Nothing as Over, Decides}
+use Rattle.symbolic_engine.specs.Origins.{condition_seen, progress_in}
+use Rattle.symbolic_engine.specs.Exploring.{FollowsTo, LeadsThere, WaitsAs}
+use Rattle.sym_state.specs.Symbolic.{Symbolic}
+use Rattle.question_meaning.specs.Formulas.{asked_left, asked_on, explored, no_start, start_or}
+use Rattle.question_meaning.specs.Questions.{Question}
+use Rattle.queries.specs.declared.states.PathRun.{PathRun}
+use Rattle.queries.specs.Paths.{AsksNothing, IsPathRun, LeadsSo, end_of}
+
+pub some_same : {A : Type 0} {x y : A} → Some x ≡ Some y → x ≡ y
+some_same e = cc e
+
+pub none_some : {A : Type 0} {x : A} → None ≡ Some x → ⊥
+none_some e = cc e
+
+module _ (net : Network) (i : Entry) (hops : ℕ) where
+  pub start_is : (start : SymStart) → IsExplored net i hops start → start ≡ explored net i hops
+  start_is start is = sym (ap (start_or no_start) is)
+
+  pub is_explored : (start : SymStart) → IsExplored net i hops start → IsExplored net i hops (explored net i hops)
+  is_explored start is = subst (IsExplored net i hops) (start_is start is) is
+
+  pub same_way : (ds : List Decision) (a b : SymRoute) → Leads (explored net i hops) ds a → Leads (explored net i hops) ds b → a ≡ b
+  same_way ds a b h k = some_same (sym h ∙ k)
+
+  -- where a call follows decisions
+  pub leads_so : (ds : List Decision) (led : Led) → FollowsTo net i hops (λ start. LeadsThere start ds led) → LeadsSo net i hops ds led
+  leads_so ds led h = record {
+    is = is_explored h.start h.explored;
+    there = subst (λ s. LeadsThere s ds led) (start_is h.start h.explored) h.holds;
+  }
+
+  -- decisions that lead nowhere leave nothing to ask
+  pub nowhere : ((t : SymTree) (ds : List Decision) (index : ℕ) → IsFirstClosed t ds index → route t ds ≡ None)
+      → (ds : List Decision) (index : ℕ) → FollowsTo net i hops (λ start. IsFirstClosed start.tree ds index) → AsksNothing net i hops ds
+  nowhere closed ds index h q way leads =
+      let none : route (explored net i hops).tree ds ≡ None =
+      closed (explored net i hops).tree ds index (subst (λ (s : SymStart). IsFirstClosed s.tree ds index) (start_is h.start h.explored) h.holds) in
+      absurd (none_some (sym none ∙ leads))
+
+  -- nor do decisions that lead to a node
+  no_states : (q : Question) (arrivals : List (Place × Progress LinearTerm)) (offer : Offer) (t : SymTree) → IsNode offer t → asked_left q arrivals t ≡ []
+  no_states q arrivals If t h = ap (asked_left q arrivals) h.is
+  no_states q arrivals Constrain t h = ap (asked_left q arrivals) h.is
+  no_states q arrivals (Fork copies) t h = ap (asked_left q arrivals) h.is
+
+  waiting : (ds : List Decision) (w : Waits) (way : SymRoute) (x : Symbolic) → WaitsAs w way.left x → end_of w ≡ None → (q : Question) → asked_on q way ≡ []
+  waiting ds (Over how) way x h e q = absurd (none_some (sym e))
+  waiting ds (Decides offer) way x h e q = no_states q way.arrivals offer way.left h
+
+  pub asks_nothing : (ds : List Decision) (led : Led) → LeadsSo net i hops ds led → end_of led.waits ≡ None → AsksNothing net i hops ds
+  asks_nothing ds led so e q way leads =
+      ap (asked_on q) (sym (same_way ds so.there.way way so.there.leads leads))
+      ∙ waiting ds led.waits so.there.way led.state so.there.waits e q
+
+  over_as : (w : Waits) (how : End) (t : SymTree) (x : Symbolic) → end_of w ≡ Some how → WaitsAs w t x
+      → (p : Progress LinearTerm) × (t ≡ over p how) × (p.state ≡ x.carried)
+  over_as (Over own) how t x e h =
+      let same : own ≡ how = some_same e in
+      (progress_in x h.0, subst (λ (k : End). t ≡ over (progress_in x h.0) k) same h.1, refl)
+  over_as (Decides offer) how t x e h = absurd (none_some e)
+
+  pub is_path : (run : PathRun) (led : Led) → LeadsSo net i hops run.decisions.now led → run.state ≡ led.state → end_of led.waits ≡ Some run.how
+      → run.places.items ≡ reverse run.state.places → IsPathRun net i hops run
+  is_path run led so same ended places =
+      let o = over_as led.waits run.how so.there.way.left led.state ended so.there.waits in
+      record {
+        is = so.is;
+        way = so.there.way;
+        leads = so.there.leads;
+        progress = o.0;
+        ended = o.1;
+        carries = o.2 ∙ ap (λ (x : Symbolic). x.carried) (sym same);
+        places = places ∙ (ap (λ (x : Symbolic). reverse x.places) same ∙ so.there.places);
+        condition = ap condition_seen same ∙ so.there.condition;
+      }

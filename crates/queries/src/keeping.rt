@@ -1,0 +1,79 @@
+//! What is kept of questions while records come.
+
+ghost use Rattle.std.specs.Prelude.{◌≡◌, ◌++◌, ◌∷◌, [], IfOk, List, length};
+ghost use Rattle.net_check.specs.Sound.{AreOfOneJob};
+ghost use Rattle.exact_records.specs.Records.{RecordTree};
+ghost use Rattle.question_meaning.specs.Laws.{IsOfInjection};
+ghost use Rattle.queries.specs.Asked.{question_seen};
+ghost use Rattle.queries.specs.Deciding.{entry_of, net_of};
+ghost use Rattle.queries.specs.Judged.{IsSeenOf, IsWellSeen};
+ghost use Rattle.queries.specs.Holding.{AreKept, AreOwn, IsKeptOf};
+
+use crate::judging::Judged;
+use crate::kept::Kept;
+use crate::question::Question;
+use crate::saying::judge;
+use crate::seen::Seen;
+use crate::subject::Subject;
+use path_solver::laws::verdicts_on_trees_are_exact;
+use sn_width::NoMemory;
+use std::alloc::Global;
+
+/// Takes one record more into account.
+pub(crate) fn keep(
+    alloc: Global,
+    subject: &Subject<'_>,
+    question: &Question<'_>,
+    number: u64,
+    seen: &Seen<'_>,
+    kept: &mut Kept,
+) -> Result<(), NoMemory>
+    requires job { AreOfOneJob (net_of subject.now) (entry_of subject.now) }
+    requires own { IsOfInjection (net_of subject.now) (entry_of subject.now) (question_seen question.now) }
+    requires path { IsWellSeen (net_of subject.now) (entry_of subject.now) subject.now.hops seen.now }
+    ensures { IfOk result (λ done. (items : List RecordTree) (x : RecordTree) → number ≡ length items
+        → IsSeenOf (net_of subject.now) (entry_of subject.now) subject.now.hops x seen.now
+        → IsKeptOf (net_of subject.now) (entry_of subject.now) subject.now.hops items (question_seen question.now) kept.old
+        → IsKeptOf (net_of subject.now) (entry_of subject.now) subject.now.hops (items ++ x ∷ []) (question_seen question.now) kept.new) }
+{
+    verdicts_on_trees_are_exact();
+    match kept {
+        Kept::Found { .. } => Ok(()),
+        Kept::LeftOpen { numbers } => match judge(alloc, subject, question, seen)? {
+            Judged::Hit { values } => {
+                *kept = Kept::Found { number, values };
+                Ok(())
+            }
+            Judged::Open => {
+                numbers.push(number)?;
+                Ok(())
+            }
+            Judged::RuledOut => Ok(()),
+        },
+    }
+}
+
+/// Takes one record more into account for each question.
+pub(crate) fn keep_all(
+    alloc: Global,
+    subject: &Subject<'_>,
+    questions: &[Question<'_>],
+    number: u64,
+    seen: &Seen<'_>,
+    kept: &mut [Kept],
+) -> Result<(), NoMemory>
+    requires one_each { length questions.now ≡ length kept.old }
+    requires job { AreOfOneJob (net_of subject.now) (entry_of subject.now) }
+    requires own { AreOwn (net_of subject.now) (entry_of subject.now) questions.now }
+    requires path { IsWellSeen (net_of subject.now) (entry_of subject.now) subject.now.hops seen.now }
+    ensures one_each { length kept.new ≡ length kept.old }
+    ensures keeps { IfOk result (λ done. (items : List RecordTree) (x : RecordTree) → number ≡ length items
+        → IsSeenOf (net_of subject.now) (entry_of subject.now) subject.now.hops x seen.now
+        → AreKept (net_of subject.now) (entry_of subject.now) subject.now.hops items questions.now kept.old
+        → AreKept (net_of subject.now) (entry_of subject.now) subject.now.hops (items ++ x ∷ []) questions.now kept.new) }
+{
+    for i in 0..questions.len() {
+        keep(alloc, subject, &questions[i], number, seen, &mut kept[i])?;
+    }
+    Ok(())
+}

@@ -1,0 +1,32 @@
+//! What is known of a question while records come.
+
+ghost use Rattle.std.specs.Prelude.{◌≡◌, IfOk, length};
+ghost use Rattle.std.specs.List.{AllByRecursion};
+ghost use Rattle.queries.specs.Holding.{IsNothing};
+
+use refutation_check::Listed;
+use sn_width::{NoMemory, Num};
+use std::alloc::Global;
+
+/// What is known of a question.
+#[derive(Drop)]
+pub enum Kept {
+    /// The record of this number is the first that shows a hit; its values.
+    Found { number: u64, values: Listed<Num> },
+    /// No record shows one; the numbers of those that leave the question open.
+    LeftOpen { numbers: Vec<u64> },
+}
+
+/// What is known of questions before the first record.
+#[tactic(auto, using(crate::proofs::KeptLemmas::all_more))]
+pub fn nothing_kept(alloc: Global, count: usize) -> Result<Vec<Kept>, NoMemory>
+    ensures one_each { IfOk result (λ kept. length kept.items ≡ count) }
+    ensures open { IfOk result (λ kept. AllByRecursion IsNothing kept.items) }
+{
+    let mut kept = Vec::new(alloc);
+    for _ in 0..count {
+        let numbers = Vec::new(alloc);
+        kept.push(Kept::LeftOpen { numbers })?;
+    }
+    Ok(kept)
+}

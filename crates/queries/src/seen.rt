@@ -1,0 +1,150 @@
+//! Records, as questions see them.
+
+ghost use Rattle.std.specs.Prelude.{◌≡◌, IfOk, IfSome, Some, length};
+ghost use Rattle.net_check.specs.Sound.{AreOfOneJob};
+ghost use Rattle.exact_records.specs.View.{record_tree};
+ghost use Rattle.queries.specs.Asked.{looks_at, question_seen};
+ghost use Rattle.queries.specs.Deciding.{entry_of, net_of};
+ghost use Rattle.queries.specs.Paths.{AreNoted, IsPathRun, LeadsSo, SeesPath};
+ghost use Rattle.queries.specs.Judged.{IsSeenOf, IsWellSeen};
+
+use crate::kept::Kept;
+use crate::question::Question;
+use crate::states::{PathRun, Stop, comes_to, end_of, lead, noted_at, states_at};
+use crate::subject::Subject;
+use lin_term::Term;
+use path_exec::FollowFault;
+use path_records::Record;
+use sefl_meaning::laws::the_first_closed_decision_is_one;
+use sefl_meaning::{Decision, Place};
+use sn_width::NoMemory;
+use std::alloc::Global;
+use symbolic_engine::Led;
+use term_values::Formulas;
+
+/// A record, with what questions ask of it.
+#[derive(Drop)]
+pub(crate) enum Seen<'a> {
+    /// A path, with its arrivals at some ports.
+    Path { run: PathRun<'a>, stops: Vec<Stop> },
+    /// It was not tried.
+    Untried,
+    /// It rules every question out.
+    Nothing,
+}
+
+/// The port on whose arrivals the question looks.
+pub(crate) fn looks_at(question: &Question<'_>) -> Option<Place>
+    ensures { result ≡ looks_at (question_seen question.now) }
+{
+    match question {
+        Question::Reach { place, .. } => Some(*place),
+        Question::Invariant { .. } => None,
+        Question::Visible { place, .. } => Some(*place),
+    }
+}
+
+/// The same, where no hit is known and the path's arrivals there are still to be noted.
+fn wanted(question: &Question<'_>, known: &Kept, run: &PathRun<'_>, stops: &[Stop]) -> Option<Place>
+    ensures { IfSome result (λ place. looks_at (question_seen question.now) ≡ Some place) }
+{
+    if let Kept::Found { .. } = known {
+        return None;
+    }
+    let place = looks_at(question)?;
+    if noted_at(stops, place).is_some() || !comes_to(&run.places, place) {
+        return None;
+    }
+    Some(place)
+}
+
+/// The arrivals of a path at the ports where questions look that have no hit yet.
+#[tactic(auto, using(crate::proofs::KeptLemmas::all_more))]
+fn stops_of(
+    alloc: Global,
+    subject: &Subject<'_>,
+    questions: &[Question<'_>],
+    kept: &[Kept],
+    run: &PathRun<'_>,
+) -> Result<Vec<Stop>, NoMemory>
+    requires one_each { length questions.now ≡ length kept.now }
+    requires job { AreOfOneJob (net_of subject.now) (entry_of subject.now) }
+    requires path { IsPathRun (net_of subject.now) (entry_of subject.now) subject.now.hops run.now }
+    ensures { IfOk result (λ stops. AreNoted (net_of subject.now) (entry_of subject.now) subject.now.hops run.now.decisions.now stops.items) }
+{
+    let mut stops = Vec::new(alloc);
+    for i in 0..questions.len() {
+        if let Some(place) = wanted(&questions[i], &kept[i], run, &stops) {
+            let states = states_at(alloc, subject, run, place)?;
+            stops.push(Stop { place, states })?;
+        }
+    }
+    Ok(stops)
+}
+
+/// The path that decisions lead along, where it is one.
+fn path_of<'a>(
+    alloc: Global,
+    subject: &Subject<'_>,
+    decisions: &'a [Decision],
+    led: Led,
+) -> Result<Option<PathRun<'a>>, NoMemory>
+    requires { LeadsSo (net_of subject.now) (entry_of subject.now) subject.now.hops decisions.now led }
+    ensures { IfOk result (SeesPath (net_of subject.now) (entry_of subject.now) subject.now.hops decisions.now) }
+{
+    let Led { state, waits } = led;
+    let Some(how) = end_of(waits) else {
+        return Ok(None);
+    };
+    let places = state.places(alloc)?;
+    Ok(Some(PathRun {
+        decisions,
+        state,
+        how,
+        places,
+    }))
+}
+
+/// The path that decisions lead along, which is followed once; None where they lead along none.
+fn followed<'a>(
+    alloc: Global,
+    subject: &Subject<'_>,
+    decisions: &'a [Decision],
+) -> Result<Option<PathRun<'a>>, NoMemory>
+    requires { AreOfOneJob (net_of subject.now) (entry_of subject.now) }
+    ensures { IfOk result (SeesPath (net_of subject.now) (entry_of subject.now) subject.now.hops decisions.now) }
+{
+    the_first_closed_decision_is_one::<Term, Formulas>();
+    match lead(alloc, subject, decisions) {
+        Ok(led) => path_of(alloc, subject, decisions, led),
+        Err(FollowFault::Impossible { .. }) => Ok(None),
+        Err(FollowFault::NoMemory) => Err(NoMemory),
+    }
+}
+
+/// What questions see of a record, of which this is known before it. A path is followed once, and once more for each port where
+/// questions look that have no hit.
+pub(crate) fn see<'a>(
+    alloc: Global,
+    subject: &Subject<'_>,
+    questions: &[Question<'_>],
+    kept: &[Kept],
+    item: &'a Record,
+) -> Result<Seen<'a>, NoMemory>
+    requires one_each { length questions.now ≡ length kept.now }
+    requires job { AreOfOneJob (net_of subject.now) (entry_of subject.now) }
+    ensures path { IfOk result (IsWellSeen (net_of subject.now) (entry_of subject.now) subject.now.hops) }
+    ensures seen { IfOk result (IsSeenOf (net_of subject.now) (entry_of subject.now) subject.now.hops (record_tree item.now)) }
+{
+    match item {
+        Record::Path { decisions, .. } => {
+            let Some(run) = followed(alloc, subject, decisions)? else {
+                return Ok(Seen::Nothing);
+            };
+            let stops = stops_of(alloc, subject, questions, kept, &run)?;
+            Ok(Seen::Path { run, stops })
+        }
+        Record::Pruned { .. } => Ok(Seen::Nothing),
+        Record::Unexplored { .. } => Ok(Seen::Untried),
+    }
+}

@@ -1,0 +1,79 @@
+//! The answer to one question, from records.
+
+ghost use Rattle.std.specs.Prelude.{ℕ, IfErr, IfOk};
+ghost use Rattle.net_check.specs.Network.{entry, network};
+ghost use Rattle.net_check.specs.Sound.{AreOfOneJob};
+ghost use Rattle.sefl_syntax.specs.Views.{ask_tree};
+ghost use Rattle.exact_records.specs.Packets.{AreExactFor};
+ghost use Rattle.exact_records.specs.View.{record_trees};
+ghost use Rattle.question_meaning.specs.Laws.{IsOfInjection};
+ghost use Rattle.queries.specs.Answers.{IsAnswerTo, answer_seen};
+ghost use Rattle.queries.specs.Asked.{IsFault, question_seen};
+ghost use Rattle.queries.specs.Deciding.{entry_of, net_of};
+ghost use Rattle.queries.specs.Holding.{IsKeptOf};
+
+use crate::answer::{Answer, answer_of};
+use crate::keeping::keep;
+use crate::kept::Kept;
+use crate::placing::{AskFault, question_of};
+use crate::question::Question;
+use crate::seen::see;
+use crate::subject::Subject;
+use net_check::{Injection, Net};
+use path_records::Record;
+use question_meaning::laws::kept_outcomes_are_right;
+use sefl_syntax::Ask;
+use sn_width::NoMemory;
+use std::alloc::Global;
+
+/// What records tell of a question.
+fn told(
+    alloc: Global,
+    subject: &Subject<'_>,
+    question: &Question<'_>,
+    records: &[Record],
+) -> Result<Kept, NoMemory>
+    requires job { AreOfOneJob (net_of subject.now) (entry_of subject.now) }
+    requires own { IsOfInjection (net_of subject.now) (entry_of subject.now) (question_seen question.now) }
+    ensures { IfOk result (IsKeptOf (net_of subject.now) (entry_of subject.now) subject.now.hops (record_trees records.now) (question_seen question.now)) }
+{
+    let mut number: u64 = 0;
+    let mut kept = Kept::LeftOpen {
+        numbers: Vec::new(alloc),
+    };
+    for record in records {
+        let seen = see(alloc, subject, &[], &[], record)?;
+        keep(alloc, subject, question, number, &seen, &mut kept)?;
+        let Some(next) = number.checked_add(1) else {
+            return Err(NoMemory);
+        };
+        number = next;
+    }
+    Ok(kept)
+}
+
+/// The answer to the question of these words from the records of an exploration of a net and an injection with so many hops; or
+/// why the words ask none.
+pub fn ask(
+    alloc: Global,
+    net: &Net,
+    injection: &Injection,
+    hops: u32,
+    records: &[Record],
+    words: &Ask,
+) -> Result<Answer, AskFault>
+    requires job { AreOfOneJob (network net.now) (entry injection.now) }
+    requires exact { (limit : ℕ) × AreExactFor (network net.now) (entry injection.now) hops limit (record_trees records.now) }
+    ensures answered { IfOk result (λ answer. IsAnswerTo (network net.now) (entry injection.now) hops (record_trees records.now) (ask_tree words.now) (answer_seen answer)) }
+    ensures refused { IfErr result (IsFault (network net.now) (entry injection.now) (ask_tree words.now)) }
+{
+    kept_outcomes_are_right();
+    let question = question_of(net, injection, words)?;
+    let subject = Subject {
+        net,
+        injection,
+        hops,
+    };
+    let kept = told(alloc, &subject, &question, records)?;
+    Ok(answer_of(&question, kept))
+}

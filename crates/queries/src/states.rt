@@ -1,0 +1,187 @@
+//! The states of a path that questions speak of.
+
+ghost use Rattle.std.specs.Prelude.{◌≡◌, ◌<◌, IfOk, option_map};
+ghost use Rattle.net_check.specs.Sound.{AreOfOneJob};
+ghost use Rattle.symbolic_engine.specs.Exploring.{ArrivedFor, FollowedFor};
+ghost use Rattle.queries.specs.Deciding.{entry_of, net_of};
+ghost use Rattle.queries.specs.Paths.{ArriveAt, IsPathRun, delivered_at, end_of, has_place, noted_at, state_at_end};
+
+use crate::subject::Subject;
+use lin_term::Term;
+use path_exec::FollowFault;
+use sefl_meaning::laws::the_first_closed_decision_is_one;
+use sefl_meaning::{Decision, End, Place};
+use sn_width::{NoMemory, Steps};
+use std::alloc::Global;
+use std::marker::Brand;
+use std::sync::ledger::{Blank, Ledger};
+use sym_state::SymState;
+use symbolic_engine::{Led, Waits, arrivals, follow};
+use term_values::Formulas;
+
+/// A path: its decisions, its state at the end, how it ends, and the ports that it arrives at.
+#[derive(Drop)]
+pub(crate) struct PathRun<'a> {
+    pub(crate) decisions: &'a [Decision],
+    pub(crate) state: SymState,
+    pub(crate) how: End,
+    pub(crate) places: Vec<Place>,
+}
+
+/// A port, with the states in which a path arrives there.
+#[derive(Drop)]
+pub(crate) struct Stop {
+    pub(crate) place: Place,
+    pub(crate) states: Vec<SymState>,
+}
+
+/// Where decisions lead, with a counter of its own.
+fn follow_with<L: Ledger>(
+    alloc: Global,
+    subject: &Subject<'_>,
+    decisions: &[Decision],
+    blank: Blank,
+) -> Result<Led, FollowFault>
+    requires job { AreOfOneJob (net_of subject.now) (entry_of subject.now) }
+    requires name { blank.name ≡ L.name }
+    requires parts { blank.parts ≡ L.parts }
+    requires some { 0 < blank.parts }
+    ensures { FollowedFor (net_of subject.now) (entry_of subject.now) subject.now.hops decisions.now result }
+{
+    let mut steps = Steps::<L>::new(blank);
+    follow(
+        alloc,
+        subject.net,
+        subject.injection,
+        subject.hops,
+        decisions,
+        &mut steps,
+    )
+}
+
+/// Where decisions lead; or the first that is not offered.
+pub(crate) fn lead(
+    alloc: Global,
+    subject: &Subject<'_>,
+    decisions: &[Decision],
+) -> Result<Led, FollowFault>
+    requires { AreOfOneJob (net_of subject.now) (entry_of subject.now) }
+    ensures { FollowedFor (net_of subject.now) (entry_of subject.now) subject.now.hops decisions.now result }
+{
+    follow_with::<Brand>(alloc, subject, decisions, Blank::new(1))
+}
+
+/// Where decisions arrive at a port, with a counter of its own.
+fn arrivals_with<L: Ledger>(
+    alloc: Global,
+    subject: &Subject<'_>,
+    decisions: &[Decision],
+    place: Place,
+    blank: Blank,
+) -> Result<Vec<SymState>, FollowFault>
+    requires job { AreOfOneJob (net_of subject.now) (entry_of subject.now) }
+    requires name { blank.name ≡ L.name }
+    requires parts { blank.parts ≡ L.parts }
+    requires some { 0 < blank.parts }
+    ensures { ArrivedFor (net_of subject.now) (entry_of subject.now) subject.now.hops place decisions.now result }
+{
+    let mut steps = Steps::<L>::new(blank);
+    arrivals(
+        alloc,
+        subject.net,
+        subject.injection,
+        subject.hops,
+        decisions,
+        place,
+        &mut steps,
+    )
+}
+
+/// Whether the port is one of these.
+pub(crate) fn comes_to(places: &[Place], place: Place) -> bool
+    ensures { result ≡ has_place place places.now }
+{
+    for port in places {
+        if *port == place {
+            return true;
+        }
+    }
+    false
+}
+
+/// The states on each arrival of a path at a port, which its run is followed for.
+pub(crate) fn states_at(
+    alloc: Global,
+    subject: &Subject<'_>,
+    run: &PathRun<'_>,
+    place: Place,
+) -> Result<Vec<SymState>, NoMemory>
+    requires job { AreOfOneJob (net_of subject.now) (entry_of subject.now) }
+    requires path { IsPathRun (net_of subject.now) (entry_of subject.now) subject.now.hops run.now }
+    ensures { IfOk result (λ states. ArriveAt (net_of subject.now) (entry_of subject.now) subject.now.hops place run.now.decisions.now states.items) }
+{
+    the_first_closed_decision_is_one::<Term, Formulas>();
+    if !comes_to(&run.places, place) {
+        return Ok(Vec::new(alloc));
+    }
+    match arrivals_with::<Brand>(alloc, subject, run.decisions, place, Blank::new(1)) {
+        Ok(states) => Ok(states),
+        Err(FollowFault::Impossible { .. }) => unreachable!(),
+        Err(FollowFault::NoMemory) => Err(NoMemory),
+    }
+}
+
+/// The states at the first of the stops at this port.
+pub(crate) fn noted_at(stops: &[Stop], place: Place) -> Option<&[SymState]>
+    ensures { option_map (λ states. states.now) result ≡ noted_at place stops.now }
+{
+    for stop in stops {
+        if stop.place == place {
+            return Some(&stop.states);
+        }
+    }
+    None
+}
+
+/// Whether a path is delivered at a port.
+fn is_delivered_at(run: &PathRun<'_>, place: Place) -> bool
+    ensures { result ≡ delivered_at run.now.how place run.now.places.items }
+{
+    match &run.how {
+        End::Delivered => match run.places.last() {
+            None => false,
+            Some(last) => {
+                if *last == place {
+                    return true;
+                }
+                false
+            }
+        },
+        End::Stopped | End::Failed { .. } | End::Cut => false,
+    }
+}
+
+/// The state of a path at its end, where it is delivered at a port.
+pub(crate) fn state_at_end(
+    alloc: Global,
+    run: &PathRun<'_>,
+    place: Place,
+) -> Result<Vec<SymState>, NoMemory>
+    ensures { IfOk result (λ states. states.items ≡ state_at_end run.now place) }
+{
+    let mut states = Vec::new(alloc);
+    if is_delivered_at(run, place) {
+        states.push(run.state.fork()?)?;
+    }
+    Ok(states)
+}
+
+/// How a run is over, where nothing waits.
+pub(crate) fn end_of(waits: Waits) -> Option<End>
+    ensures { result ≡ end_of waits }
+{
+    match waits {
+        Waits::Nothing { how } => Some(how),
+        Waits::Decides { .. } => None,
+    }
+}

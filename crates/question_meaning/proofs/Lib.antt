@@ -1,0 +1,5 @@
+mod Commuting
+mod Growing
+mod Lists
+mod Typing
+mod Right
