@@ -1,0 +1,76 @@
+-- What `ask` writes of an accepted job.
+use Rattle.std.specs.Prelude.{ℕ, ◌≡◌, List, [], ◌∷◌, ◌++◌, ◌⊎◌, length}
+use Rattle.std.specs.List.{AllByRecursion}
+use Rattle.sefl_syntax.specs.Trees.{AskTree}
+use Rattle.net_check.specs.Network.{Network, Entry}
+use Rattle.exact_records.specs.Exact.{IsTried, IsUnexplored, SomeOne}
+use Rattle.exact_records.specs.Packets.{AreExactFor}
+use Rattle.exact_records.specs.Records.{RecordTree}
+use Rattle.question_meaning.specs.Placing.{Asks, IsMisplaced, IsNotInjected}
+use Rattle.question_meaning.specs.Questions.{Question}
+use Rattle.queries.specs.Answers.{AreReplies, Reply}
+use Rattle.run_answers.specs.Inputs.{Given, a_net}
+use Rattle.run_answers.specs.Runs.{Outcome, text, refused}
+use Rattle.run_answers.specs.declared.ending.Ending.{Ending}
+use Rattle.run_answers.specs.declared.ending.Ending.TheVariants.{Done, Partial}
+use Rattle.run_answers.specs.declared.fault.OwnFault.{OwnFault}
+use Rattle.run_answers.specs.declared.fault.OwnFault.TheVariants.{BadAsk, NoMemory}
+use Rattle.ask_command.specs.Texts.{answers_text}
+
+-- each record was tried; or one was not
+abbrev pub IsEnding : Ending → List RecordTree → Type 0
+IsEnding Done rs = AllByRecursion IsTried rs
+IsEnding Partial rs = SomeOne IsUnexplored rs
+
+module _ (net : Network) (i : Entry) where
+  -- the words ask these questions, in order
+  abbrev pub AllAsk : List AskTree → List Question → Type 0
+  AllAsk [] [] = Unit {0}
+  AllAsk [] (q ∷ qs) = ⊥
+  AllAsk (ask ∷ asks) [] = ⊥
+  AllAsk (ask ∷ asks) (q ∷ qs) = Asks net i ask q × AllAsk asks qs
+
+  -- the words name a place that is not there, 1; or, at a place that is there, a target that is not injected, 2
+  abbrev pub IsBadBy : ℕ → AskTree → Type 0
+  IsBadBy kind ask = ((kind ≡ 1) × IsMisplaced net i ask) ⊎ ((kind ≡ 2) × (IsMisplaced net i ask → ⊥) × IsNotInjected net i ask)
+
+  -- the words of this number are the first that ask no question, by this kind
+  pub record IsFirstBad (asks : List AskTree) (number kind : ℕ) : Type 0 where
+    pub front : List AskTree
+    pub bad : AskTree
+    pub rest : List AskTree
+    pub is : asks ≡ front ++ bad ∷ rest
+    pub numbered : number ≡ length front
+    pub questions : List Question
+    pub good : AllAsk front questions
+    pub fault : IsBadBy kind bad
+
+  -- why a job has no answers
+  abbrev pub IsAskRefusal : List AskTree → OwnFault → Type 0
+  IsAskRefusal asks (BadAsk number kind) = IsFirstBad asks number kind
+  IsAskRefusal asks NoMemory = Unit {0}
+  IsAskRefusal asks _ = ⊥
+
+module _ (hops limit : ℕ) (net : Network) (i : Entry) (asks : List AskTree) where
+  -- the words ask questions, the records of one exploration are exact and end so, and this is the text of one right answer to each
+  -- question over these records
+  pub record IsAnswersText (ending : Ending) (whole : List ℕ) : Type 0 where
+    pub questions : List Question
+    pub asked : AllAsk net i asks questions
+    pub records : List RecordTree
+    pub exact : AreExactFor net i hops limit records
+    pub ends : IsEnding ending records
+    pub replies : List Reply
+    pub right : AreReplies net i hops records questions replies
+    pub line : whole ≡ answers_text replies
+
+  -- such a text, or the first question that is refused
+  abbrev pub AnswersOf : Outcome → Type 0
+  AnswersOf (text ending whole) = IsAnswersText ending whole
+  AnswersOf (refused (BadAsk number kind)) = IsFirstBad net i asks number kind
+  AnswersOf (refused _) = ⊥
+
+-- `ask` of a job
+abbrev pub AskComes : ℕ → ℕ → List Given → Outcome → Type 0
+AskComes hops limit (a_net net i asks ∷ []) outcome = AnswersOf hops limit net i asks outcome
+AskComes hops limit _ outcome = ⊥

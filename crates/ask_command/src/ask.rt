@@ -1,0 +1,35 @@
+//! The command `ask`.
+
+ghost use Rattle.ask_command.specs.Asks.{AskComes};
+
+use crate::answering::text_of_answers;
+use command_runs::OnePiece;
+use explore_command::RecordLimit;
+use job_files::JobFile;
+use net_check::Accepted;
+use run_answers::{Ending, OwnFault};
+use std::alloc::Global;
+
+/// The answers to the questions of a job, from one exploration with so many hops and so many records.
+#[derive(Clone, Copy)]
+pub struct Ask<'a> {
+    pub source: JobFile<'a>,
+    pub hops: u32,
+    pub limit: RecordLimit,
+}
+
+impl<'a> OnePiece for Ask<'a> {
+    type From = JobFile<'a>;
+
+    ghost source = { λ a. a.source };
+
+    ghost comes = { λ a. AskComes a.hops a.limit };
+
+    fn source(&self) -> &JobFile<'a> {
+        &self.source
+    }
+
+    fn text(&self, alloc: Global, given: Accepted) -> Result<(Ending, String), OwnFault> {
+        text_of_answers(alloc, &given, self.hops, self.limit.count())
+    }
+}

@@ -1,0 +1,9 @@
+//! The command `ask`: the answers to all questions of a job, as one piece of JSON.
+#![tactic(auto)]
+
+mod answering;
+mod ask;
+mod text;
+
+pub use ask::Ask;
+pub use text::answers_text;
