@@ -7,6 +7,7 @@ use Rattle.run_answers.specs.Outside.{outside}
 use Rattle.run_answers.specs.Runs.{Runs, one_piece}
 use Rattle.run_answers.specs.declared.limits.TheConstants.{FILE_LIMIT}
 use Rattle.explore_command.specs.Explores.{explore_work}
+use Rattle.ask_command.specs.Asks.{AskComes}
 use Rattle.model_command.specs.Models.{ModelComes}
 use Rattle.symnet_program.specs.Commands.{kind_of}
 use Rattle.symnet_program.proofs.program.run_command.Goals as goal
@@ -33,7 +34,11 @@ pub returns-in-Grow-clause-ran : goal.returns-in-Grow-clause-ran
 returns-in-Grow-clause-ran g c = rw (c.in-Grow.is) c.run-in-Grow.ensures.ran
 
 pub returns-in-Ask-clause-ran : goal.returns-in-Ask-clause-ran
-returns-in-Ask-clause-ran g c = rw (c.in-Ask.is) c.run-in-Ask.ensures.ran
+returns-in-Ask-clause-ran g c =
+    rw (c.in-Ask.is) (subst (λ (limit : ℕ). Runs (g.K.Sink.taken c.args.out.now) (g.K.Sink.taken c.run-in-Ask.new.out)
+    (outside (g.F.Folder.files c.args.folder.now) g.P.Patterns.matches g.P.Patterns.bad_patterns g.P.Patterns.refusals g.P.Patterns.find_gives)
+    c.args.patterns.now c.run-in-Ask.new.patterns (a_job c.in-Ask.job.now ∷ []) (one_piece (AskComes c.in-Ask.hops limit)) c.run-in-Ask.result) c.new-in-Ask.ensures
+    c.run-in-Ask.ensures.ran)
 
 pub returns-in-Model-clause-ran : goal.returns-in-Model-clause-ran
 returns-in-Model-clause-ran g c =
