@@ -61,20 +61,6 @@ fn plus(alloc: Global, width: Width, id: u64, other: &Term) -> Result<Term, NoMe
     symbol.plus(alloc, other)
 }
 
-fn plus_number(alloc: Global, width: Width, id: u64, value: Num) -> Result<Term, NoMemory>
-    ensures { IfOk result (λ term. term.width ≡ width) }
-{
-    let number = number(alloc, width, value)?;
-    plus(alloc, width, id, &number)
-}
-
-fn plus_symbol(alloc: Global, width: Width, first: u64, second: u64) -> Result<Term, NoMemory>
-    ensures { IfOk result (λ term. term.width ≡ width) }
-{
-    let symbol = Term::of_symbol(alloc, width, SymId(second))?;
-    plus(alloc, width, first, &symbol)
-}
-
 /// The term of a side.
 pub(crate) fn term(alloc: Global, width: Width, side: Side) -> Result<Term, NoMemory>
     ensures { IfOk result (λ term. term.width ≡ width) }
@@ -82,41 +68,31 @@ pub(crate) fn term(alloc: Global, width: Width, side: Side) -> Result<Term, NoMe
     match side {
         Side::Number(value) => number(alloc, width, value),
         Side::Symbol(id) => Term::of_symbol(alloc, width, SymId(id)),
-        Side::Plus(id, value) => plus_number(alloc, width, id, value),
-        Side::Both(first, second) => plus_symbol(alloc, width, first, second),
+        Side::Plus(id, value) => {
+            let other = number(alloc, width, value)?;
+            plus(alloc, width, id, &other)
+        }
+        Side::Both(first, second) => {
+            let other = Term::of_symbol(alloc, width, SymId(second))?;
+            plus(alloc, width, first, &other)
+        }
     }
-}
-
-fn comparison(
-    alloc: Global,
-    width: Width,
-    left: Side,
-    rel: Rel,
-    right: Side,
-) -> Result<Formula, Fail> {
-    let left = term(alloc, width, left)?;
-    let right = term(alloc, width, right)?;
-    Ok(Formula::Compare { rel, left, right })
-}
-
-fn membership(
-    alloc: Global,
-    width: Width,
-    value: Side,
-    first: Num,
-    last: Num,
-) -> Result<Formula, Fail> {
-    let value = term(alloc, width, value)?;
-    let ranges = Ranges::from_list(alloc, width, &[(first, last)])?;
-    Ok(Formula::member(alloc, value, ranges)?)
 }
 
 /// The formula of an atom.
 pub(crate) fn formula(alloc: Global, width: Width, atom: Atom) -> Result<Formula, Fail> {
     match atom {
         Atom::Truth(truth) => Ok(Formula::Truth(truth)),
-        Atom::Compare(left, rel, right) => comparison(alloc, width, left, rel, right),
-        Atom::Within(value, first, last) => membership(alloc, width, value, first, last),
+        Atom::Compare(left, rel, right) => {
+            let left = term(alloc, width, left)?;
+            let right = term(alloc, width, right)?;
+            Ok(Formula::Compare { rel, left, right })
+        }
+        Atom::Within(side, first, last) => {
+            let value = term(alloc, width, side)?;
+            let ranges = Ranges::from_list(alloc, width, &[(first, last)])?;
+            Ok(Formula::member(alloc, value, ranges)?)
+        }
     }
 }
 
@@ -260,9 +236,10 @@ pub(crate) fn one_against_all(alloc: Global) -> Result<PathCond, Fail> {
 
 /// Whether the set's ranges are these.
 pub(crate) fn shows(set: &Ranges, ranges: &[(Num, Num)]) -> bool {
+    for (index, range) in ranges.iter().enumerate() {
+        if set.range(index) != Some(*range) {
+            return false;
+        }
+    }
     set.len() == ranges.len()
-        && ranges
-            .iter()
-            .enumerate()
-            .all(|(index, range)| set.range(index) == Some(*range))
 }

@@ -40,11 +40,12 @@ fn are_bounds(found: &[SymBound], plain: &[Plain]) -> bool {
 type Cases = Vec<Vec<SymBound>>;
 
 fn are_cases(found: &Cases, plain: &[&[Plain]]) -> bool {
+    for (case, bounds) in found.iter().zip(plain.iter()) {
+        if !are_bounds(case.as_slice(), bounds) {
+            return false;
+        }
+    }
     found.len() == plain.len()
-        && found
-            .iter()
-            .zip(plain.iter())
-            .all(|(case, bounds)| are_bounds(case.as_slice(), bounds))
 }
 
 /// The cases of a formula, of which the count says how many there are.
@@ -225,13 +226,22 @@ fn value(symbol: Option<SymId>, values: &[u8]) -> i128 {
 }
 
 fn is_met(case: &Vec<SymBound>, values: &[u8]) -> bool {
-    case.iter().all(|bound| {
-        value(bound.plus, values).saturating_sub(value(bound.minus, values)) <= bound.at_most
-    })
+    for bound in case {
+        let difference = value(bound.plus, values).saturating_sub(value(bound.minus, values));
+        if difference > bound.at_most {
+            return false;
+        }
+    }
+    true
 }
 
 fn is_one_met(found: &Cases, values: &[u8]) -> bool {
-    found.iter().any(|case| is_met(case, values))
+    for case in found {
+        if is_met(case, values) {
+            return true;
+        }
+    }
+    false
 }
 
 /// Whether, at all values of two symbols of 2 bits, a case is met exactly where the formula has the truth.

@@ -16,6 +16,7 @@ use refutation_check::{Listed, Refutation, Refute, check};
 use sn_ranges::Ranges;
 use sn_width::{NoMemory, Num, Rel, SymId};
 use std::alloc::Global;
+use std::process::Abort;
 use std::test::Fail;
 
 /// How many members a formula has.
@@ -79,16 +80,14 @@ fn differ_and_false(alloc: Global) -> Result<Vec<Formula>, Fail> {
 
 #[test]
 fn forty_members_without_a_case_are_refuted(rt: HostRuntime) -> Result<(), Fail> {
-    let cond = free(rt.alloc(), bits(8), 2)?;
-    let cond = with_all(rt.alloc(), &cond, forty_and_false(rt.alloc())?, true)?;
+    let cond = condition_of(rt.alloc(), forty_and_false(rt.alloc())?, true)?;
     check_decision(&rt, &cond, Refuted)
 }
 
 #[test]
 fn forty_members_before_a_formula_without_cases(rt: HostRuntime) -> Result<(), Fail> {
-    let cond = free(rt.alloc(), bits(8), 2)?;
-    let cond = with_all(rt.alloc(), &cond, forty(rt.alloc())?, true)?;
-    let cond = with_all(rt.alloc(), &cond, differ_and_false(rt.alloc())?, true)?;
+    let many = condition_of(rt.alloc(), forty(rt.alloc())?, true)?;
+    let cond = with_all(rt.alloc(), &many, differ_and_false(rt.alloc())?, true)?;
     check_decision(&rt, &cond, Refuted)
 }
 
@@ -110,35 +109,49 @@ fn divisions(alloc: Global, count: u32) -> Result<Refutation, NoMemory> {
     Ok(Listed::from_vec(steps))
 }
 
-/// Whether the steps are accepted where the formulas, together, must have this truth.
-fn accepts_splits(
-    alloc: Global,
-    parts: Vec<Formula>,
-    holds: bool,
-    count: u32,
-) -> Result<bool, Fail> {
+/// A condition over two symbols of 8 bits, whose formulas together must have this truth.
+fn condition_of(alloc: Global, parts: Vec<Formula>, holds: bool) -> Result<PathCond, Fail> {
     let cond = free(alloc, bits(8), 2)?;
-    let cond = with_all(alloc, &cond, parts, holds)?;
+    with_all(alloc, &cond, parts, holds)
+}
+
+/// Whether so many splits are accepted.
+fn accepts_splits(alloc: Global, cond: &PathCond, count: u32) -> Result<bool, NoMemory> {
     let steps = splits(alloc, count)?;
-    Ok(check(alloc, &steps, &cond)?)
+    check(alloc, &steps, cond)
+}
+
+/// Asserts which numbers of splits are accepted.
+fn check_splits<R: Abort + AllocGlobal>(
+    rt: &R,
+    cond: &PathCond,
+    rows: &[(u32, bool)],
+) -> Result<(), Fail> {
+    for (count, is_accepted) in rows {
+        let accepts = accepts_splits(rt.alloc(), cond, *count)?;
+        assert_eq!(rt; accepts, *is_accepted);
+    }
+    Ok(())
 }
 
 #[test]
 fn a_split_is_refused_where_it_has_more_cases_than_steps_are_left(
     rt: HostRuntime,
 ) -> Result<(), Fail> {
-    let alloc = rt.alloc();
-    for (count, is_accepted) in [(1, true), (2, false)] {
-        let accepts = accepts_splits(alloc, forty_and_false(alloc)?, true, count)?;
-        assert_eq!(rt; accepts, is_accepted);
-    }
-    for count in [1, 2, 1000] {
-        let accepts = accepts_splits(alloc, forty(alloc)?, true, count)?;
-        assert!(rt; !accepts);
-    }
-    let accepts = accepts_splits(alloc, forty_and_false(alloc)?, false, 1)?;
-    assert!(rt; !accepts);
-    Ok(())
+    let cond = condition_of(rt.alloc(), forty_and_false(rt.alloc())?, true)?;
+    check_splits(&rt, &cond, &[(1, true), (2, false)])
+}
+
+#[test]
+fn splits_of_forty_members_are_refused(rt: HostRuntime) -> Result<(), Fail> {
+    let cond = condition_of(rt.alloc(), forty(rt.alloc())?, true)?;
+    check_splits(&rt, &cond, &[(1, false), (2, false), (1000, false)])
+}
+
+#[test]
+fn a_split_of_the_other_truth_is_refused(rt: HostRuntime) -> Result<(), Fail> {
+    let cond = condition_of(rt.alloc(), forty_and_false(rt.alloc())?, false)?;
+    check_splits(&rt, &cond, &[(1, false)])
 }
 
 /// A set of so many ranges of one number each.
@@ -151,12 +164,16 @@ fn scattered(alloc: Global, count: u32) -> Result<Ranges, Fail> {
     Ok(Ranges::from_list(alloc, bits(32), &pairs)?)
 }
 
-/// The first symbol of 32 bits is in 32,000 ranges.
-fn in_many_ranges(alloc: Global) -> Result<PathCond, Fail> {
-    let cond = free(alloc, bits(32), 1)?;
+/// That the first symbol of 32 bits is in 32,000 ranges.
+fn is_in_many_ranges(alloc: Global) -> Result<Formula, Fail> {
     let value = Term::of_symbol(alloc, bits(32), SymId(0))?;
     let ranges = scattered(alloc, 32_000)?;
-    let parts = vec![in alloc; Formula::member(alloc, value, ranges)?]?;
+    Ok(Formula::member(alloc, value, ranges)?)
+}
+
+fn in_many_ranges(alloc: Global) -> Result<PathCond, Fail> {
+    let parts = vec![in alloc; is_in_many_ranges(alloc)?]?;
+    let cond = free(alloc, bits(32), 1)?;
     with_all(alloc, &cond, parts, true)
 }
 

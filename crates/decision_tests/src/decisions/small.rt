@@ -77,94 +77,38 @@ fn point_of(number: u8) -> Point {
     [Num::from(number / 4), Num::from(number % 4)]
 }
 
+fn are_true_at(atoms: &[Atom], at: Point) -> bool {
+    for atom in atoms {
+        if !is_true_at(*atom, at) {
+            return false;
+        }
+    }
+    true
+}
+
 /// The least values at which each of the atoms is true.
 fn least_of_all(atoms: &[Atom]) -> Option<Point> {
     for number in 0..16u8 {
         let at = point_of(number);
-        if atoms.iter().all(|atom| is_true_at(*atom, at)) {
+        if are_true_at(atoms, at) {
             return Some(at);
         }
     }
     None
 }
 
-/// The condition with an atom of 2 bits.
-fn with_atom(alloc: Global, cond: &PathCond, atom: Atom) -> Result<PathCond, Fail> {
-    with(alloc, cond, bits(2), atom, true)
-}
-
-/// Asserts the decision of the condition with the last of three atoms.
-fn check_third<R: Abort + AllocGlobal>(
-    rt: &R,
-    cond: &PathCond,
-    atoms: [Atom; 3],
-    tally: &mut Tally,
-) -> Result<(), Fail> {
-    let all = with_atom(rt.alloc(), cond, atoms[2])?;
-    count(rt, &all, least_of_all(&atoms), tally)
-}
-
-/// Asserts the decision of the condition of these two atoms, and with each of the third ones.
-fn check_thirds<R: Abort + AllocGlobal>(
-    rt: &R,
-    cond: &PathCond,
-    two: [Atom; 2],
-    thirds: &[Atom],
-    tally: &mut Tally,
-) -> Result<(), Fail> {
-    count(rt, cond, least_of_all(&two), tally)?;
-    for third in thirds {
-        check_third(rt, cond, [two[0], two[1], *third], tally)?;
-    }
-    Ok(())
-}
-
-/// Asserts the decisions of the condition with the first of the rest, and with one or two of them.
-fn check_second<R: Abort + AllocGlobal>(
-    rt: &R,
-    cond: &PathCond,
-    first: Atom,
-    rest: &[Atom],
-    tally: &mut Tally,
-) -> Result<(), Fail> {
-    match rest {
-        [] => Ok(()),
-        [second, ..] => {
-            let two = with_atom(rt.alloc(), cond, *second)?;
-            check_thirds(rt, &two, [first, *second], rest, tally)
-        }
-    }
-}
-
-/// Asserts the decision of the condition of this atom, and with each one or two of the others.
-fn check_others<R: Abort + AllocGlobal>(
-    rt: &R,
-    cond: &PathCond,
-    first: Atom,
-    others: &[Atom],
-    tally: &mut Tally,
-) -> Result<(), Fail> {
-    count(rt, cond, least_of_all(&[first]), tally)?;
-    for index in 0..others.len() {
-        check_second(rt, cond, first, &others[index..], tally)?;
-    }
-    Ok(())
-}
-
-/// Asserts the decisions of the conditions of the first of the rest, and with one or two of them.
-fn check_first<R: Abort + AllocGlobal>(
+/// Asserts the decision of the condition of these atoms.
+fn check_atoms<R: Abort + AllocGlobal>(
     rt: &R,
     free: &PathCond,
-    rest: &[Atom],
+    atoms: &[Atom],
     tally: &mut Tally,
 ) -> Result<(), Fail> {
-    match rest {
-        [] => Ok(()),
-        [first, ..] => {
-            let one = with_atom(rt.alloc(), free, *first)?;
-            check_others(rt, &one, *first, rest, tally)
-        }
+    let mut cond = free.fork()?;
+    for atom in atoms {
+        cond = with(rt.alloc(), &cond, bits(2), *atom, true)?;
     }
+    count(rt, &cond, least_of_all(atoms), tally)
 }
 
 /// Asserts the decision of each condition of one, two or three of the atoms.
@@ -174,8 +118,15 @@ fn check_all<R: Abort + AllocGlobal>(
     atoms: &[Atom],
     tally: &mut Tally,
 ) -> Result<(), Fail> {
-    for index in 0..atoms.len() {
-        check_first(rt, free, &atoms[index..], tally)?;
+    for first in 0..atoms.len() {
+        check_atoms(rt, free, &[atoms[first]], tally)?;
+        for second in first..atoms.len() {
+            check_atoms(rt, free, &[atoms[first], atoms[second]], tally)?;
+            for third in second..atoms.len() {
+                let three = [atoms[first], atoms[second], atoms[third]];
+                check_atoms(rt, free, &three, tally)?;
+            }
+        }
     }
     Ok(())
 }
