@@ -4,3 +4,4 @@ pub mod Spans
 pub mod FibLemmas
 pub mod LeastLemmas
 pub mod NodeLemmas
+pub mod FileLemmas

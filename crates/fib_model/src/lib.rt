@@ -2,6 +2,7 @@
 #![tactic(auto)]
 
 mod fib;
+pub mod laws;
 mod least;
 mod node;
 mod sets;

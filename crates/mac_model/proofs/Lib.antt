@@ -2,3 +2,4 @@ pub mod MacLemmas
 pub mod RowLemmas
 pub mod SetLemmas
 pub mod NodeLemmas
+pub mod FileLemmas

@@ -1,2 +1,3 @@
 pub mod MacTables
 pub mod Nodes
+pub mod Laws

@@ -1,6 +1,7 @@
 //! MAC tables: their files, and the nodes that they stand for.
 #![tactic(auto)]
 
+pub mod laws;
 mod node;
 mod sets;
 mod table;
