@@ -48,7 +48,7 @@ fn within(alloc: Global, field: Field, first: Num, last: Num) -> Result<Cond, No
     let value = Expr::Read(cell(alloc, field)?);
     let mut ranges = Vec::new(alloc);
     ranges.push((first, last))?;
-    Ok(Cond::Member { value, ranges })
+    Cond::member(alloc, value, ranges)
 }
 
 /// Whether the protocol has ports: TCP or UDP.
@@ -59,7 +59,7 @@ pub(crate) fn is_ported(alloc: Global) -> Result<Cond, NoMemory>
     let mut ranges = Vec::new(alloc);
     ranges.push((6, 6))?;
     ranges.push((17, 17))?;
-    Ok(Cond::Member { value, ranges })
+    Cond::member(alloc, value, ranges)
 }
 
 /// Adds a port's two tests.

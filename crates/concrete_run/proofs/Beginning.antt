@@ -9,23 +9,20 @@ use Rattle.sn_width.specs.declared.ids.NodeId.{NodeId}
 use Rattle.sefl_syntax.specs.Trees.{CondTree}
 use Rattle.sefl_syntax.specs.Views.{cond_tree, injection_tree}
 use Rattle.sefl_syntax.specs.declared.job.RawInjection.{RawInjection}
-use Rattle.sefl_syntax.specs.declared.reference.Addr.{Addr}
 use Rattle.sn_width.specs.declared.faults.LayoutFault.{LayoutFault}
 use Rattle.sn_width.specs.declared.faults.StepFault.{StepFault}
 use Rattle.sn_width.specs.declared.faults.StepFault.TheVariants.{Layout}
-use Rattle.cell_stacks.specs.Outcome.{Meets, and_then}
 use Rattle.sefl_syntax.specs.declared.cond.Cond.{Cond}
 use Rattle.sefl_syntax.specs.declared.job.RawField.{RawField}
 use Rattle.job_items.specs.AtomRules.{width_of}
-use Rattle.net_check.specs.Network.{EntryParts, entry, unknown_width, width_unless}
+use Rattle.net_check.specs.Network.{EntryParts, entry, width_unless}
 use Rattle.sefl_meaning.specs.Carried.{Carried, Scene, scene_at}
-use Rattle.sefl_meaning.specs.Injected.{FitWidths, IsTrueIn, Starts, injected, unknown_count, unknown_widths, with_field, with_fields, with_tags}
-use Rattle.sefl_meaning.specs.Steps.{tag_set}
+use Rattle.sefl_meaning.specs.Injected.{FitWidths, IsTrueIn, Starts, injected, unknown_count, unknown_widths}
 use Rattle.sefl_meaning.specs.Network.{Network}
 use Rattle.sefl_meaning.specs.Values.{Values, numbers}
 use Rattle.sefl_meaning.specs.declared.walk.Turn.{Turn}
 use Rattle.instr_steps.specs.Scenes.{GivesBy}
-use Rattle.concrete_run.specs.Starting.{Goes, HasNoFault, IsFirstTooWide, IsFirstOther, StartsBut}
+use Rattle.concrete_run.specs.Starting.{Goes, IsFirstTooWide, IsFirstOther, StartsBut}
 
 -- the member at a place, and those behind it
 next_of : {A : Type 0} (xs : List A) (i : ℕ) (x : A) → i < length xs → x ≡ get_or xs i x → drop i xs ≡ x ∷ drop (i + 1) xs
@@ -218,52 +215,6 @@ not_true r t b gives is false_is h = let e = is_truth r t b gives is in cc
 pub no_truth : (t : Result Bool LayoutFault) (found : StepFault) (fault : LayoutFault) → GivesBy (λ truth. truth) t (Err found) → found ≡ Layout fault → t ≡ Ok true → ⊥
 no_truth t found fault gives is h = let e = fault_seen t found fault gives is in cc
 
--- steps without a fault
-pub goes_first : (step : Result (Carried ℕ) LayoutFault) (next : Carried ℕ → Result (Carried ℕ) LayoutFault) → Goes (and_then step next) → Goes step
-goes_first (Ok s) next g = tt
-goes_first (Err fault) next g = g
-
-pub goes_next : (step : Result (Carried ℕ) LayoutFault) (next : Carried ℕ → Result (Carried ℕ) LayoutFault) (new : Carried ℕ)
-    → Goes (and_then step next) → step ≡ Ok new → Goes (next new)
-goes_next step next new g is = subst (λ r. Goes (and_then r next)) is g
-
-pub no_fault : (step : Result (Carried ℕ) LayoutFault) (result : Result (Unit {0}) StepFault) (old new : Carried ℕ)
-    → Meets step result old new → Goes step → HasNoFault result
-no_fault step result old new meets g fault is =
-    let refused = subst (λ r. Meets step r old new) is meets in
-    subst Goes refused.0 g
-
--- past a tag line or a field, with what is left
-module _ (o : Values ℕ Bool) (at : Scene) where
-  pub tag_goes : (tags : List (List ℕ × Addr)) (i : ℕ) (line : List ℕ × Addr) (old : Carried ℕ) (whole : Result (Carried ℕ) LayoutFault)
-      → i < length tags → line ≡ get_or tags i line → with_tags o at (drop i tags) old ≡ whole → Goes whole → Goes (tag_set at line.0 line.1 old)
-  tag_goes tags i line old whole h is before g =
-      goes_first (tag_set at line.0 line.1 old) (with_tags o at (drop (i + 1) tags))
-      (subst Goes (sym before ∙ ap (λ l. with_tags o at l old) (next_of tags i line h is)) g)
-
-  pub field_goes : (fields : List RawField) (i number : ℕ) (f : RawField) (old : Carried ℕ) (whole : Result (Carried ℕ) LayoutFault)
-      → i < length fields → f ≡ get_or fields i f → with_fields o at number (drop i fields) old ≡ whole → Goes whole → Goes (with_field o at number f old)
-  field_goes fields i number f old whole h is before g =
-      goes_first (with_field o at number f old) (with_fields o at (number + length (unknown_width f)) (drop (i + 1) fields))
-      (subst Goes (sym before ∙ ap (λ l. with_fields o at number l old) (next_of fields i f h is)) g)
-
-  pub tags_next : (tags : List (List ℕ × Addr)) (i : ℕ) (line : List ℕ × Addr) (old new : Carried ℕ) (whole : Result (Carried ℕ) LayoutFault)
-      (result : Result (Unit {0}) StepFault) → i < length tags → line ≡ get_or tags i line
-      → Meets (tag_set at line.0 line.1 old) result old new → result ≡ Ok tt
-      → with_tags o at (drop i tags) old ≡ whole → with_tags o at (drop (i + 1) tags) new ≡ whole
-  tags_next tags i line old new whole result h is meets done before =
-      let step = subst (λ r. Meets (tag_set at line.0 line.1 old) r old new) done meets in
-      sym (ap (λ l. with_tags o at l old) (next_of tags i line h is) ∙ ap (λ r. and_then r (with_tags o at (drop (i + 1) tags))) step) ∙ before
-
-  pub fields_next : (fields : List RawField) (i number : ℕ) (f : RawField) (old new : Carried ℕ) (whole : Result (Carried ℕ) LayoutFault)
-      → i < length fields → f ≡ get_or fields i f → with_field o at number f old ≡ Ok new
-      → with_fields o at number (drop i fields) old ≡ whole → with_fields o at (number + length (unknown_width f)) (drop (i + 1) fields) new ≡ whole
-  fields_next fields i number f old new whole h is step before =
-      sym (ap (λ l. with_fields o at number l old) (next_of fields i f h is)
-      ∙ ap (λ r. and_then r (with_fields o at (number + length (unknown_width f)) (drop (i + 1) fields))) step) ∙ before
-
-pub count_unknown : (f : RawField) → f.value ≡ None → length (unknown_width f) ≡ 1
-count_unknown f h = ap (λ x. length (width_unless x (width_of f.target))) h
-
-pub count_given : (f : RawField) (n : ℕ) → f.value ≡ Some n → length (unknown_width f) ≡ 0
-count_given f n h = ap (λ x. length (width_unless x (width_of f.target))) h
+-- an injection that goes is not refused
+pub not_refused : (step : Result (Carried ℕ) LayoutFault) (fault : LayoutFault) → Goes step → step ≡ Err fault → ⊥
+not_refused step fault g is = subst Goes is g

@@ -8,8 +8,6 @@ use Rattle.sefl_meaning.specs.View.{carried_of}
 use Rattle.sefl_meaning.specs.declared.walk.Carried.{Carried as State}
 use Rattle.sn_width.specs.Width.{FitsWidth}
 use Rattle.sn_width.specs.declared.faults.LayoutFault.{LayoutFault}
-use Rattle.sn_width.specs.declared.faults.StepFault.{StepFault}
-use Rattle.sn_width.specs.declared.faults.StepFault.TheVariants.{Layout}
 use Rattle.sefl_syntax.specs.Trees.{CondTree}
 use Rattle.std.specs.Prelude.{zero, suc, Option, None, Some}
 use Rattle.std.specs.List.{AllByRecursion}
@@ -63,7 +61,3 @@ OtherAnswer Holds tests (Some index) = IsFirstOther Holds tests index
 abbrev pub Goes : Result (Carried ℕ) LayoutFault → Type 0
 Goes (Ok s) = Unit {0}
 Goes (Err fault) = ⊥
-
--- what was answered is no fault of the layout
-abbrev pub HasNoFault : Result (Unit {0}) StepFault → Type 0
-HasNoFault step = (fault : LayoutFault) → step ≡ Err (Layout fault) → ⊥

@@ -1,21 +1,19 @@
 //! What a packet carries where it is injected.
 
-ghost use Rattle.std.specs.Prelude.{◌≡◌, ◌≤◌, length, OnOk, IfOk, Ok, map};
+ghost use Rattle.std.specs.Prelude.{◌≡◌, ◌≤◌, length, IfOk, Ok, map};
 ghost use Rattle.net_check.specs.Network.{entry, network};
 ghost use Rattle.net_check.specs.Sound.{AreOfOneJob};
 ghost use Rattle.sefl_syntax.specs.Views.{cond_tree, injection_tree};
-ghost use Rattle.sefl_meaning.specs.Injected.{IsTrueIn, injected, unknown_widths, with_field, with_fields, with_tags};
+ghost use Rattle.sefl_meaning.specs.Injected.{IsTrueIn, injected, unknown_widths};
 ghost use Rattle.sefl_meaning.specs.View.{carried_of};
 ghost use Rattle.instr_steps.specs.Scenes.{scene_of};
-ghost use Rattle.concrete_run.specs.Starting.{Goes, HasNoFault, OtherAnswer, StartAnswer, TooWideAnswer, operations_of};
+ghost use Rattle.concrete_run.specs.Starting.{Goes, OtherAnswer, StartAnswer, TooWideAnswer, operations_of};
 
-use header_layers::Layers;
-use instr_steps::{Numbers, Scene, allocate, put, reduced, set_tag, truth_of, width_of};
-use metadata_scopes::Scopes;
+use instr_steps::{Numbers, Scene, injected, truth_of, width_of};
 use net_check::{Injection, Net};
 use sefl_meaning::State;
 use sefl_meaning::laws::accepted_injections_go;
-use sefl_syntax::{Addr, Cond, Name, RawField, RawInjection};
+use sefl_syntax::{Cond, RawField, RawInjection};
 use sn_tree::Shared;
 use sn_width::{NoMemory, Num, StepFault};
 use std::alloc::Global;
@@ -79,7 +77,7 @@ pub fn start(
             unknowns,
         },
     };
-    let state = injected(alloc, &at, raw)?;
+    let state = carried(alloc, &at, raw)?;
     match first_false(alloc, &at, &state, &raw.tests)? {
         Some(index) => Err(StartFault::WhereFalse { index }),
         None => Ok(state),
@@ -130,82 +128,15 @@ fn first_false(
     Ok(None)
 }
 
-/// The tags and then the fields.
-fn injected(alloc: Global, at: &Origin<'_>, raw: &RawInjection) -> Result<State, NoMemory>
+/// The tags and then the fields, which have no fault.
+fn carried(alloc: Global, at: &Origin<'_>, raw: &RawInjection) -> Result<State, NoMemory>
     requires { Goes (injected (operations_of at.now) (scene_of at.now.scene) (injection_tree raw.now)) }
     ensures { IfOk result (λ s. injected (operations_of at.now) (scene_of at.now.scene) (injection_tree raw.now) ≡ Ok (carried_of s)) }
 {
-    let mut state = State {
-        layers: Layers::new(),
-        scopes: Scopes::new(),
-    };
-    add_tags(alloc, at, &mut state, &raw.tags)?;
-    add_fields(alloc, at, &mut state, &raw.fields)?;
-    Ok(state)
-}
-
-/// A step without a fault of the layout, as the tags and the fields of an accepted injection have none.
-fn taken(step: Result<(), StepFault>) -> Result<(), NoMemory>
-    requires { HasNoFault step }
-    ensures { OnOk result (step ≡ Ok tt) }
-{
-    match step {
-        Ok(()) => Ok(()),
+    match injected(alloc, &at.values, &at.scene, raw) {
+        Ok(state) => Ok(state),
         Err(StepFault::NoMemory) => Err(NoMemory),
+        // The tags and the fields of an accepted injection have no fault.
         Err(StepFault::Layout(_)) => unreachable!(),
     }
-}
-
-fn add_tags(
-    alloc: Global,
-    at: &Origin<'_>,
-    state: &mut State,
-    tags: &[(Name, Addr)],
-) -> Result<(), NoMemory>
-    requires { Goes (with_tags (operations_of at.now) (scene_of at.now.scene) tags.now (carried_of state.old)) }
-    ensures { OnOk result (with_tags (operations_of at.now) (scene_of at.now.scene) tags.now (carried_of state.old) ≡ Ok (carried_of state.new)) }
-{
-    for (name, addr) in tags {
-        taken(set_tag(alloc, &at.scene, state, name, addr))?;
-    }
-    Ok(())
-}
-
-fn add_fields(
-    alloc: Global,
-    at: &Origin<'_>,
-    state: &mut State,
-    fields: &[RawField],
-) -> Result<(), NoMemory>
-    requires { Goes (with_fields (operations_of at.now) (scene_of at.now.scene) 0 fields.now (carried_of state.old)) }
-    ensures { OnOk result (with_fields (operations_of at.now) (scene_of at.now.scene) 0 fields.now (carried_of state.old) ≡ Ok (carried_of state.new)) }
-{
-    let mut number: usize = 0;
-    for field in fields {
-        add_field(alloc, at, state, number, field)?;
-        if field.value.is_none() {
-            number += 1;
-        }
-    }
-    Ok(())
-}
-
-/// A field is one cell, with the given value or with that of the unknown field of this number.
-fn add_field(
-    alloc: Global,
-    at: &Origin<'_>,
-    state: &mut State,
-    number: usize,
-    field: &RawField,
-) -> Result<(), NoMemory>
-    requires { Goes (with_field (operations_of at.now) (scene_of at.now.scene) number field.now (carried_of state.old)) }
-    ensures { OnOk result (with_field (operations_of at.now) (scene_of at.now.scene) number field.now (carried_of state.old) ≡ Ok (carried_of state.new)) }
-{
-    let width = width_of(&field.target);
-    let value = match field.value {
-        None => at.values.unknown(width, number),
-        Some(value) => reduced(width, value),
-    };
-    taken(allocate(alloc, &at.scene, state, &field.target))?;
-    taken(put(alloc, &at.scene, state, &field.target, value))
 }

@@ -1,3 +1,4 @@
 pub mod Ids
+pub mod LineSteps
 pub mod Metadata
 pub mod Sums

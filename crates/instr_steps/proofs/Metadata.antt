@@ -7,7 +7,6 @@ use Rattle.sn_width.specs.declared.ids.NameId.{NameId}
 use Rattle.sn_width.specs.declared.faults.LayoutFault.{LayoutFault}
 use Rattle.sn_width.specs.declared.faults.StepFault.{StepFault}
 use Rattle.sn_width.specs.declared.faults.StepFault.TheVariants.{Layout, NoMemory}
-use Rattle.sn_width.specs.declared.rel.Rel.{Rel}
 use Rattle.sefl_syntax.specs.declared.reference.Scope.{Scope}
 use Rattle.sefl_syntax.specs.declared.reference.Target.{Target}
 use Rattle.sefl_syntax.specs.declared.reference.Target.TheVariants.{Meta}
@@ -15,9 +14,8 @@ use Rattle.sefl_syntax.specs.declared.expr.Expr.{Expr, Sum}
 use Rattle.sefl_syntax.specs.declared.expr.Expr as expr
 use Rattle.sefl_syntax.specs.declared.expr.Sign.{Sign}
 use Rattle.std.specs.declared.boxed.Box.{Box}
-use Rattle.sefl_syntax.specs.declared.cond.Cond.{Cond, Compare, Member, the_lemmas}
-use Rattle.sefl_syntax.specs.Trees.{compare, member, sum}
-use Rattle.sefl_syntax.specs.Views.{cond_tree, expr_tree, summand_trees}
+use Rattle.sefl_syntax.specs.Trees.{sum}
+use Rattle.sefl_syntax.specs.Views.{expr_tree, summand_trees}
 use Rattle.cell_stacks.specs.Outcome.{and_then, on_ok, Gives, Meets}
 use Rattle.metadata_scopes.specs.Scopes as scopes
 use Rattle.metadata_scopes.specs.Scopes.{Metadata}
@@ -68,18 +66,6 @@ module _ (at : carried.Scene) (target : Target) (scope : Scope) (name : List ℕ
   pub reads : {V : Type 0} (w : ℕ) (s : Carried V) (r : Result V LayoutFault) → r ≡ scopes.value_of owner id w s.scopes → r ≡ read_at at w target s
   reads w s r h =
       h ∙ ap (λ (k : Key). scopes.value_of k.0 k.1 w s.scopes) named ∙ ap (λ t. read_at at w t s) (sym is)
-
-pub tree_of_compare : (test : Cond) (rel : Rel) (left right : Expr) → test ≡ Compare rel left right → cond_tree test ≡ compare rel (expr_tree left) (expr_tree right)
-tree_of_compare test rel left right is = ap cond_tree is ∙ compare_tree
-  where
-    compare_tree : cond_tree (Compare rel left right) ≡ compare rel (expr_tree left) (expr_tree right)
-    compare_tree = search (rules, the_lemmas)
-
-pub tree_of_member : (test : Cond) (value : Expr) (ranges : Vec (ℕ × ℕ) Global) → test ≡ Member value ranges → cond_tree test ≡ member (expr_tree value) ranges.items
-tree_of_member test value ranges is = ap cond_tree is ∙ member_tree
-  where
-    member_tree : cond_tree (Member value ranges) ≡ member (expr_tree value) ranges.items
-    member_tree = search (rules, the_lemmas)
 
 pub tree_of_sum : (e : Expr) (first : Box Expr Global) (rest : Vec (Sign × Expr) Global) → e ≡ Sum first rest → expr_tree e ≡ sum (expr_tree first.value) (summand_trees rest.items)
 tree_of_sum e first rest is = ap expr_tree is ∙ sum_tree

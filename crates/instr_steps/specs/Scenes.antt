@@ -18,6 +18,12 @@ GivesBy f step (Ok x) = step ≡ Ok (f x)
 GivesBy f step (Err (Layout fault)) = step ≡ Err fault
 GivesBy f step (Err NoMemory) = Unit {0}
 
+-- what a call that changes something in steps answers and leaves: all of them, or the first fault, or want of memory
+abbrev pub Leads : {S : Type 0} → Result S LayoutFault → Result (Unit {0}) StepFault → S → Type 0
+Leads steps (Ok done) new = steps ≡ Ok new
+Leads steps (Err (Layout fault)) new = steps ≡ Err fault
+Leads steps (Err NoMemory) new = Unit {0}
+
 -- the width of the first of these references
 abbrev pub first_width : List Target → Option ℕ
 first_width [] = None

@@ -3,6 +3,7 @@
 ghost use Rattle.std.specs.Prelude.{◌≡◌, ℕ, map, IfOk};
 ghost use Rattle.sefl_meaning.specs.Values.{Values};
 
+use sefl_syntax::RangeList;
 use sn_width::{NoMemory, Num, Rel, Width};
 use std::alloc::Global;
 
@@ -31,6 +32,10 @@ pub trait Arithmetic {
     /// The number, modulo `2^w`.
     fn constant(&self, alloc: Global, width: Width, number: Num) -> Result<Self::Value, NoMemory>
         ensures { IfOk result (λ v. v ≡ (values self.now).constant width number) };
+
+    /// The value of the unknown field of this number, from 0.
+    fn unknown(&self, alloc: Global, width: Width, number: u64) -> Result<Self::Value, NoMemory>
+        ensures { IfOk result (λ v. v ≡ (values self.now).unknown width number) };
 
     /// The sum, modulo `2^w`.
     fn plus(
@@ -62,7 +67,7 @@ pub trait Arithmetic {
         alloc: Global,
         width: Width,
         value: Self::Value,
-        ranges: &[(Num, Num)],
+        ranges: &RangeList,
     ) -> Result<Self::Test, NoMemory>
         ensures { IfOk result (λ t. truth t ≡ (values self.now).member width value ranges.now) };
 

@@ -13,8 +13,8 @@ use crate::arithmetic::Arithmetic;
 use crate::scene::Scene;
 use crate::values::{value_of, width_of};
 use sefl_meaning::Carried;
-use sefl_syntax::{Cond, Expr, Sign};
-use sn_width::{Num, Rel, StepFault, Width};
+use sefl_syntax::{Cond, Expr, RangeList, Sign};
+use sn_width::{Rel, StepFault, Width};
 use std::alloc::Global;
 
 /// The test of a condition, or its first fault. Every atom is evaluated, from left to right.
@@ -90,7 +90,7 @@ fn look_up<A: Arithmetic>(
     at: &Scene<'_>,
     state: &Carried<A::Value>,
     value: &Expr,
-    ranges: &[(Num, Num)],
+    ranges: &RangeList,
 ) -> Result<A::Test, StepFault>
     ensures { GivesBy A.truth (looked_up (A.values o.now) (scene_of at.now) (atom_width (membership (expr_tree value.now) ranges.now))
         (expr_tree value.now) ranges.now (carried_of state.now)) result }

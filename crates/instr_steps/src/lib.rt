@@ -3,6 +3,7 @@
 
 mod arithmetic;
 mod conditions;
+mod injecting;
 mod numbers;
 mod scene;
 mod steps;
@@ -10,6 +11,7 @@ mod values;
 
 pub use arithmetic::Arithmetic;
 pub use conditions::truth_of;
+pub use injecting::injected;
 pub use numbers::{Numbers, reduced};
 pub use scene::Scene;
 pub use steps::{allocate, assign, create_tag, deallocate, destroy_tag, put, set_tag};

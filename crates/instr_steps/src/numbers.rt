@@ -2,11 +2,11 @@
 
 ghost use Rattle.std.specs.Prelude.{◌≡◌, ◌%◌, ◌^◌, map};
 ghost use Rattle.std.specs.List.{list_all, list_any};
-ghost use Rattle.sn_ranges.specs.Ranges.{is_member};
 ghost use Rattle.sn_width.specs.Width.{FitsWidth, wrapped_sum, wrapped_difference};
 ghost use Rattle.sefl_meaning.specs.Values.{numbers};
 
 use crate::arithmetic::Arithmetic;
+use sefl_syntax::RangeList;
 use sn_width::{NoMemory, Num, Rel, Width};
 use std::alloc::Global;
 
@@ -19,7 +19,7 @@ pub struct Numbers<'a> {
 
 impl<'a> Numbers<'a> {
     /// The number at this place of the packet's list, modulo `2^w`; 0 past its end.
-    pub fn unknown(&self, width: Width, place: usize) -> Num
+    pub fn number_at(&self, width: Width, place: usize) -> Num
         ensures { result ≡ (numbers self.now.numbers.now self.now.unknowns).unknown width place }
     {
         match self.numbers.get(place).copied() {
@@ -35,7 +35,7 @@ impl<'a> Numbers<'a> {
         let Some(place) = self.unknowns.checked_add(number) else {
             return 0;
         };
-        self.unknown(width, place)
+        self.number_at(width, place)
     }
 }
 
@@ -61,6 +61,10 @@ impl<'a> Arithmetic for Numbers<'a> {
         Ok(reduced(width, number))
     }
 
+    fn unknown(&self, _alloc: Global, width: Width, number: u64) -> Result<Num, NoMemory> {
+        Ok(self.number_at(width, number as usize))
+    }
+
     fn plus(&self, _alloc: Global, width: Width, left: &Num, right: &Num) -> Result<Num, NoMemory> {
         Ok(sum(width, *left, *right))
     }
@@ -84,9 +88,9 @@ impl<'a> Arithmetic for Numbers<'a> {
         _alloc: Global,
         _width: Width,
         value: Num,
-        ranges: &[(Num, Num)],
+        ranges: &RangeList,
     ) -> Result<bool, NoMemory> {
-        Ok(is_member(value, ranges))
+        Ok(ranges.has(value))
     }
 
     fn always(&self) -> bool {
@@ -135,15 +139,6 @@ fn difference(width: Width, a: Num, b: Num) -> Num
         return reduced(width, a);
     }
     width.sub(reduced(width, a), b)
-}
-
-#[tactic(auto, unfolding(sn_ranges::specs::Ranges::is_member, sn_ranges::specs::Ranges::in_range))]
-fn is_member(number: Num, ranges: &[(Num, Num)]) -> bool
-    ensures { result ≡ is_member ranges.now number }
-{
-    ranges
-        .iter()
-        .any(|range| range.0 <= number && number <= range.1)
 }
 
 fn all(tests: &[bool]) -> bool

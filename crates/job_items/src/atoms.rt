@@ -75,7 +75,7 @@ fn add_cond<'a>(alloc: Global, atoms: &mut Vec<Atom<'a>>, cond: &'a Cond) -> Res
             Ok(())
         }
         Cond::Member { value, ranges } => {
-            let atom = Atom::membership(alloc, value, ranges)?;
+            let atom = Atom::membership(alloc, value, ranges.listed())?;
             atoms.push(atom)?;
             Ok(())
         }

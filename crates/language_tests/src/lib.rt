@@ -14,6 +14,8 @@ mod names;
 #[cfg(test)]
 mod patterns;
 #[cfg(test)]
+mod ranges;
+#[cfg(test)]
 mod reading;
 #[cfg(test)]
 mod rules;

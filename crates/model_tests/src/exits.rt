@@ -12,9 +12,7 @@ fn holds(test: &Cond, address: Num) -> bool {
             right: Expr::Const(number),
             ..
         } => *number == address,
-        Cond::Member { ranges, .. } => ranges
-            .iter()
-            .any(|range| range.0 <= address && address <= range.1),
+        Cond::Member { ranges, .. } => ranges.has(address),
         _ => false,
     }
 }

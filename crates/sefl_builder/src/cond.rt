@@ -128,10 +128,8 @@ fn read_atom(words: &mut Cursor, room: u32) -> Result<Cond, Misread>
     let left = read_expr(words, room)?;
     if words.begins_with("in") {
         let ranges = read_braced_ranges(words)?;
-        return Ok(Cond::Member {
-            value: left,
-            ranges,
-        });
+        let test = Cond::member(words.alloc(), left, ranges)?;
+        return Ok(test);
     }
     let rel = read_rel(words)?;
     let right = read_expr(words, room)?;

@@ -2,6 +2,8 @@ pub mod CodeText
 pub mod Filled
 pub mod JobText
 pub mod Name
+pub mod Clipped
+pub mod RangeLists
 pub mod NetText
 pub mod NetWords
 pub mod Text

@@ -47,7 +47,7 @@ summand_trees ms = summands_of (map (λ m. (m.0, expr_tree m.1)) ms)
 abbrev pub cond_step : Cond-F CondTree → CondTree
 cond_step Cond-F.True = tree.always
 cond_step (Cond-F.Compare rel left right) = tree.compare rel (expr_tree left) (expr_tree right)
-cond_step (Cond-F.Member value ranges) = tree.member (expr_tree value) ranges.items
+cond_step (Cond-F.Member value ranges) = tree.member (expr_tree value) ranges
 cond_step (Cond-F.And members) = tree.all_of (conds_of members.items)
 cond_step (Cond-F.Or members) = tree.any_of (conds_of members.items)
 cond_step (Cond-F.Not member) = tree.negation member.value

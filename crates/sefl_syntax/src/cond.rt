@@ -1,31 +1,42 @@
 //! Conditions.
 
-ghost use Rattle.std.specs.Prelude.{◌≡◌, ◌++◌, OnOk, string_bytes};
+ghost use Rattle.std.specs.Prelude.{◌≡◌, ◌++◌, IfOk, OnOk, string_bytes};
 ghost use Rattle.sefl_syntax.specs.TermText.{cond_text, chain_text, joint_text, needs_brackets, bracketed, range_text, ranges_text};
-ghost use Rattle.sefl_syntax.specs.Views.{cond_tree, cond_trees};
+ghost use Rattle.sefl_syntax.specs.Views.{cond_tree, cond_trees, expr_tree};
 
-use crate::expr::{Expr, write_expr};
-use sn_width::{Num, Rel};
-use std::alloc::AllocError;
+use crate::expr::{Expr, first_width, write_expr};
+use crate::range_list::RangeList;
+use sn_width::{NoMemory, Num, Rel, Width};
+use std::alloc::{AllocError, Global};
 use std::fmt::Write;
 
 /// A condition. Every comparison and membership test in it is evaluated, from left to right.
 #[derive(Drop)]
 pub enum Cond {
     True,
-    Compare {
-        rel: Rel,
-        left: Expr,
-        right: Expr,
-    },
+    Compare { rel: Rel, left: Expr, right: Expr },
     /// Whether the value lies in one of the ranges, both ends of each included.
-    Member {
-        value: Expr,
-        ranges: Vec<(Num, Num)>,
-    },
+    Member { value: Expr, ranges: RangeList },
     And(Vec<Cond>),
     Or(Vec<Cond>),
     Not(Box<Cond>),
+}
+
+impl Cond {
+    ghost use Rattle.sefl_syntax.specs.Trees.{member};
+
+    /// Whether the value lies in one of the ranges, both ends of each included.
+    pub fn member(alloc: Global, value: Expr, ranges: Vec<(Num, Num)>) -> Result<Cond, NoMemory>
+        ensures { IfOk result (λ test. cond_tree test ≡ member (expr_tree value) ranges.items) }
+    {
+        // The width of the atom, by which the set of the ranges is asked for.
+        let width = match first_width(&value) {
+            Some(width) => width,
+            None => Width::new(64).unwrap(),
+        };
+        let ranges = RangeList::new(alloc, width, ranges)?;
+        Ok(Cond::Member { value, ranges })
+    }
 }
 
 /// How the members of a chain are joined: by `and`, or by `or`.
@@ -72,7 +83,7 @@ pub(crate) fn write_cond(out: &mut String, cond: &Cond) -> Result<(), AllocError
         Cond::Member { value, ranges } => {
             write_expr(out, value)?;
             out.push_str(" in {")?;
-            write_ranges(out, ranges)?;
+            write_ranges(out, ranges.listed())?;
             out.push_str("}")
         }
         Cond::And(members) => write_chain(out, Joint::All, members),

@@ -5,7 +5,7 @@ ghost use Rattle.sefl_syntax.specs.TermText.{sign_text, expr_text, operand_text,
 ghost use Rattle.sefl_syntax.specs.Views.{expr_tree, summand_trees};
 
 use crate::reference::Target;
-use sn_width::Num;
+use sn_width::{Num, Width};
 use std::alloc::AllocError;
 use std::fmt;
 use std::fmt::Write;
@@ -27,6 +27,33 @@ pub enum Expr {
         first: Box<Expr>,
         rest: Vec<(Sign, Expr)>,
     },
+}
+
+/// The width of the first reference; None without one. Nothing is proved of it: by a wrong width only time is lost.
+#[cycle(first_width)]
+pub(crate) fn first_width(expr: &Expr) -> Option<Width> {
+    match expr {
+        Expr::Const(_) => None,
+        Expr::Read(Target::Header { width, .. }) => Some(*width),
+        Expr::Read(Target::Meta { width, .. }) => Some(*width),
+        Expr::Read(Target::Bound { width, .. }) => Some(*width),
+        Expr::Sum { first, rest } => {
+            if let Some(width) = first_width(first) {
+                return Some(width);
+            }
+            first_width_among(rest)
+        }
+    }
+}
+
+#[cycle(first_width)]
+fn first_width_among(summands: &[(Sign, Expr)]) -> Option<Width> {
+    for (_, operand) in summands {
+        if let Some(width) = first_width(operand) {
+            return Some(width);
+        }
+    }
+    None
 }
 
 impl fmt::Display for Sign {

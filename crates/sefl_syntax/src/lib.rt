@@ -10,7 +10,9 @@ mod job_text;
 mod name;
 mod net;
 mod net_text;
+mod range_list;
 mod reference;
+mod sets;
 mod statement;
 mod text;
 
@@ -22,5 +24,6 @@ pub use job_text::print_job;
 pub use name::Name;
 pub use net::{Body, Link, NodeDecl, PortCode, RawNet, RawNode, Side, Style, TableKind};
 pub use net_text::{print_net, print_node};
+pub use range_list::RangeList;
 pub use reference::{Addr, Scope, Target};
 pub use text::Text;

@@ -68,12 +68,6 @@ BegunAs unknowns at i (Ok s) = BeginsAs unknowns at i s
 BegunAs unknowns at i (Err (Layout fault)) = and_then (injected (terms unknowns) at i) (tests_in (terms unknowns) at i.tests) ≡ Err fault
 BegunAs unknowns at i (Err NoMemory) = Unit {0}
 
--- what a call that changes something in steps answers and leaves: all of them, or the first fault, or want of memory
-abbrev pub Leads : {S : Type 0} → Result S LayoutFault → Result (Unit {0}) StepFault → S → Type 0
-Leads steps (Ok done) new = steps ≡ Ok new
-Leads steps (Err (Layout fault)) new = steps ≡ Err fault
-Leads steps (Err NoMemory) new = Unit {0}
-
 -- a state with the formulas of these tests more, which must be true
 pub record IsAsking (unknowns : ℕ) (at : Scene) (tests : List CondTree) (old new : Symbolic) : Type 0 where
   pub more : List Entry

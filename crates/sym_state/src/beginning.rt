@@ -1,29 +1,23 @@
 //! The state that an injection begins with.
 
 ghost use Rattle.std.specs.Prelude.{◌≡◌, ℕ, [], length, map, Ok, IfOk};
-ghost use Rattle.cell_stacks.specs.Outcome.{and_then};
-ghost use Rattle.instr_steps.specs.Scenes.{GivesBy, scene_of};
+ghost use Rattle.instr_steps.specs.Scenes.{scene_of};
 ghost use Rattle.net_check.specs.Network.{entry, network, unknown_count, unknown_widths};
 ghost use Rattle.net_check.specs.Sound.{AreOfOneJob};
-ghost use Rattle.sefl_meaning.specs.Injected.{field_value, injected, with_field, with_fields, with_tags};
 ghost use Rattle.sefl_meaning.specs.Start.{start_of};
-ghost use Rattle.sefl_meaning.specs.View.{carried_of};
 ghost use Rattle.sefl_syntax.specs.Views.{cond_tree, injection_tree};
-ghost use Rattle.sym_state.specs.Beginning.{AsksAs, Begins, BegunAs, CarriesAs, Leads, start_in};
+ghost use Rattle.sym_state.specs.Beginning.{AsksAs, Begins, BegunAs, CarriesAs, start_in};
 ghost use Rattle.term_values.specs.TermValues.{terms};
 
 use crate::state::SymState;
-use header_layers::Layers;
-use instr_steps::{Arithmetic, Scene, allocate, put, set_tag, width_of};
+use instr_steps::{Scene, injected, width_of};
 use interval_solver::Domains;
 use lin_term::Term;
-use metadata_scopes::Scopes;
 use net_check::{Injection, Net};
 use path_cond::PathCond;
-use sefl_meaning::Carried;
 use sefl_meaning::laws::symbols_are_typed;
 use sefl_meaning::starts::injections_have_a_start;
-use sefl_syntax::{Addr, Cond, Name, RawField, RawInjection};
+use sefl_syntax::{Cond, RawField, RawInjection};
 use sn_tree::Shared;
 use sn_width::{NoMemory, Num, StepFault, Width};
 use std::alloc::Global;
@@ -101,7 +95,7 @@ fn carrying(alloc: Global, at: &Origin<'_>, raw: &RawInjection) -> Result<SymSta
 {
     symbols_are_typed::<Term, Formulas>();
     terms_keep_types();
-    let carried = injected(alloc, at, raw)?;
+    let carried = injected(alloc, &at.terms, &at.scene, raw)?;
     let widths = widths_of(alloc, &raw.fields)?;
     let condition = PathCond::new(alloc, widths)?;
     let domains = Domains::of(alloc, &condition)?;
@@ -126,81 +120,4 @@ fn widths_of(alloc: Global, fields: &[RawField]) -> Result<Vec<Width>, NoMemory>
         }
     }
     Ok(widths)
-}
-
-/// The tags and then the fields.
-fn injected(alloc: Global, at: &Origin<'_>, raw: &RawInjection) -> Result<Carried<Term>, StepFault>
-    ensures { GivesBy carried_of (injected (terms at.now.terms.unknowns) (scene_of at.now.scene) (injection_tree raw.now)) result }
-{
-    let mut carried = Carried {
-        layers: Layers::new(),
-        scopes: Scopes::new(),
-    };
-    add_tags(alloc, at, &mut carried, &raw.tags)?;
-    add_fields(alloc, at, &mut carried, &raw.fields)?;
-    Ok(carried)
-}
-
-fn add_tags(
-    alloc: Global,
-    at: &Origin<'_>,
-    carried: &mut Carried<Term>,
-    tags: &[(Name, Addr)],
-) -> Result<(), StepFault>
-    ensures { Leads (with_tags (terms at.now.terms.unknowns) (scene_of at.now.scene) tags.now (carried_of carried.old)) result (carried_of carried.new) }
-{
-    for (name, addr) in tags {
-        set_tag(alloc, &at.scene, carried, name, addr)?;
-    }
-    Ok(())
-}
-
-fn add_fields(
-    alloc: Global,
-    at: &Origin<'_>,
-    carried: &mut Carried<Term>,
-    fields: &[RawField],
-) -> Result<(), StepFault>
-    ensures { Leads (with_fields (terms at.now.terms.unknowns) (scene_of at.now.scene) 0 fields.now (carried_of carried.old)) result (carried_of carried.new) }
-{
-    let mut number: u64 = 0;
-    for field in fields {
-        add_field(alloc, at, carried, number, field)?;
-        if field.value.is_none() {
-            number += 1;
-        }
-    }
-    Ok(())
-}
-
-/// A field is one cell, with the given value or with the symbol of this number.
-fn add_field(
-    alloc: Global,
-    at: &Origin<'_>,
-    carried: &mut Carried<Term>,
-    number: u64,
-    field: &RawField,
-) -> Result<(), StepFault>
-    ensures { Leads (with_field (terms at.now.terms.unknowns) (scene_of at.now.scene) number field.now (carried_of carried.old)) result (carried_of carried.new) }
-{
-    let width = width_of(&field.target);
-    let value = value_of(alloc, at.terms, width, number, field.value)?;
-    allocate(alloc, &at.scene, carried, &field.target)?;
-    put(alloc, &at.scene, carried, &field.target, value)
-}
-
-/// The given value, or the symbol of this number.
-fn value_of(
-    alloc: Global,
-    o: Terms,
-    width: Width,
-    number: u64,
-    value: Option<Num>,
-) -> Result<Term, NoMemory>
-    ensures { IfOk result (λ term. term ≡ field_value (terms o.unknowns) width number value) }
-{
-    match value {
-        None => o.unknown(alloc, width, number),
-        Some(given) => o.constant(alloc, width, given),
-    }
 }

@@ -27,7 +27,7 @@ fn is_member(alloc: Global, kind: TableKind, ranges: Vec<(Num, Num)>) -> Result<
     ensures { IfOk result (λ test. cond_tree test ≡ tree.member (tree.reading (destination kind)) ranges.items) }
 {
     let value = Expr::Read(destination(alloc, kind)?);
-    Ok(Cond::Member { value, ranges })
+    Cond::member(alloc, value, ranges)
 }
 
 /// Whether the destination is the address.

@@ -2,4 +2,3 @@ mod LawsBelow
 mod FitLemmas
 mod Respecting
 mod Typing
-mod SetLemmas

@@ -1,3 +1,2 @@
 pub mod TermValues
 pub mod Fits
-pub mod Clipped

@@ -2,7 +2,6 @@
 #![tactic(auto)]
 
 pub mod laws;
-mod sets;
 mod terms;
 
 pub use laws::Formulas;

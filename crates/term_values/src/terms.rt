@@ -4,10 +4,10 @@ ghost use Rattle.std.specs.Prelude.{◌≡◌, ◌%◌, ◌^◌, ◌<◌, map, I
 ghost use Rattle.path_formula.specs.View.{view};
 ghost use Rattle.term_values.specs.TermValues.{number_term, symbol_term, terms};
 
-use crate::sets::set_of;
 use instr_steps::Arithmetic;
 use lin_term::Term;
 use path_formula::Formula;
+use sefl_syntax::RangeList;
 use sn_width::{NoMemory, Num, Rel, SymId, Width};
 use std::alloc::Global;
 
@@ -18,13 +18,6 @@ pub struct Terms {
 }
 
 impl Terms {
-    /// The unknown field of this number.
-    pub fn unknown(&self, alloc: Global, width: Width, number: u64) -> Result<Term, NoMemory>
-        ensures { IfOk result (λ t. t ≡ (terms self.now.unknowns).unknown width number) }
-    {
-        symbol(alloc, width, number)
-    }
-
     /// The choice of this number, from 0; want of memory where its symbol has no number below 2^64.
     pub fn choice(&self, alloc: Global, width: Width, number: u64) -> Result<Term, NoMemory>
         ensures { IfOk result (λ t. t ≡ (terms self.now.unknowns).choice width number) }
@@ -59,6 +52,11 @@ impl Arithmetic for Terms {
     /// The number modulo `2^w`.
     fn constant(&self, alloc: Global, width: Width, number: Num) -> Result<Term, NoMemory> {
         number_term(alloc, width, number)
+    }
+
+    /// The symbol of this number.
+    fn unknown(&self, alloc: Global, width: Width, number: u64) -> Result<Term, NoMemory> {
+        symbol(alloc, width, number)
     }
 
     /// `left + right`, modulo `2^w`; 0 where one of the two has another width.
@@ -100,10 +98,10 @@ impl Arithmetic for Terms {
         alloc: Global,
         width: Width,
         value: Term,
-        ranges: &[(Num, Num)],
+        ranges: &RangeList,
     ) -> Result<Formula, NoMemory> {
-        let set = set_of(alloc, width, ranges)?;
-        Formula::member(alloc, value, set)
+        let ranges = ranges.set(alloc, width)?;
+        Ok(Formula::Member { value, ranges })
     }
 
     /// The test that always holds.

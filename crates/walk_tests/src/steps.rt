@@ -235,7 +235,7 @@ fn a_variable_stands_for_metadata_of_its_box(rt: HostRuntime) {
 /// The number at the place, and the choice of that number, at 8 bits.
 fn assert_numbers(rt: &impl Abort, place: usize, number: Num, choice: Num) {
     let width = width_of(rt, 8);
-    assert_eq!(rt; numbers().unknown(width, place), number);
+    assert_eq!(rt; numbers().number_at(width, place), number);
     assert_eq!(rt; numbers().choice(width, place), choice);
 }
 

@@ -167,7 +167,7 @@ fn wide(rt: &(impl Abort + AllocGlobal), count: u32) -> Cond {
     for _ in 0..count {
         ranges.push((0, 255)).expect(rt, "memory");
     }
-    Cond::Member { value, ranges }
+    Cond::member(rt.alloc(), value, ranges).expect(rt, "memory")
 }
 
 /// A job with two tests against so many ranges each.

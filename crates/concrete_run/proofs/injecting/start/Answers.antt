@@ -6,8 +6,8 @@ use Rattle.sefl_meaning.specs.View.{carried_of}
 use Rattle.concrete_run.proofs.Beginning.{goes, starts_but, starts}
 use Rattle.concrete_run.proofs.injecting.start.Goals as goal
 
-pub injected-requires : goal.injected-requires
-injected-requires c =
+pub carried-requires : goal.carried-requires
+carried-requires c =
     let net = network c.args.net.now in
     let p = c.args.injection.now in
     let v = c.args.values.now in

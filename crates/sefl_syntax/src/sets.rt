@@ -4,7 +4,7 @@ ghost use Rattle.std.specs.Prelude.{◌≡◌, ◌<◌, ◌^◌, ◌∷◌, [], 
 ghost use Rattle.std.specs.List.{AllByRecursion};
 ghost use Rattle.sn_ranges.specs.Ranges.{is_member};
 ghost use Rattle.sn_ranges.specs.Sets.{set_of};
-ghost use Rattle.term_values.specs.Clipped.{IsGoodPair, kept_of};
+ghost use Rattle.sefl_syntax.specs.Clipped.{IsGoodPair, kept_of};
 
 use sn_ranges::laws::{faultless_where_all_fit, the_set_of_a_test};
 use sn_ranges::{RangeFault, Ranges};

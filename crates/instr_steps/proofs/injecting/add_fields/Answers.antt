@@ -3,14 +3,13 @@ use Rattle.sefl_meaning.specs.Injected.{with_field, with_fields}
 use Rattle.net_check.specs.Network.{unknown_width}
 use Rattle.sefl_meaning.specs.View.{carried_of}
 use Rattle.instr_steps.specs.Scenes.{scene_of}
-use Rattle.term_values.specs.TermValues.{terms}
-use Rattle.sym_state.proofs.Starting.{leads_error, left_on, stops, fields_at, none_of, some_of, count_unknown, count_given}
-use Rattle.sym_state.proofs.beginning.add_fields.Goals as goal
-use Rattle.sym_state.proofs.beginning.add_fields.Goals.{then-is_none, else-is_none}
+use Rattle.instr_steps.proofs.LineSteps.{leads_error, left_on, stops, fields_at, none_of, some_of, count_unknown, count_given}
+use Rattle.instr_steps.proofs.injecting.add_fields.Goals as goal
+use Rattle.instr_steps.proofs.injecting.add_fields.Goals.{then-is_none, else-is_none}
 
 pub returns-in_err-add_field : goal.returns-in_err-add_field
-returns-in_err-add_field c =
-    let o = terms c.args.at.now.terms.unknowns in
+returns-in_err-add_field g c =
+    let o = g.A.Arithmetic.values c.args.at.now.values.now in
     let at = scene_of c.args.at.now.scene in
     let fields = c.args.fields.now in
     let i = c.loop-field.field-index in
@@ -25,8 +24,8 @@ returns-in_err-add_field c =
     (sym c.loop-field.invariant.whole ∙ fields_at o at fields i number f old c.loop-field-test.true c.field-item.is) c.in_err-add_field.ensures)
 
 pub loop-field-preserved : goal.loop-field-preserved
-loop-field-preserved c =
-    let o = terms c.args.at.now.terms.unknowns in
+loop-field-preserved g c =
+    let o = g.A.Arithmetic.values c.args.at.now.values.now in
     let at = scene_of c.args.at.now.scene in
     let fields = c.args.fields.now in
     let i = c.loop-field.field-index in

@@ -1,8 +1,8 @@
 use Rattle.std.proofs.Common.{◌≡◌, ℕ, ◌<◌, ◌^◌, take}
 use Rattle.std.specs.List.{AllByRecursion}
 use Rattle.sn_ranges.specs.Ranges.{is_member}
-use Rattle.term_values.specs.Clipped.{IsGoodPair}
-use Rattle.term_values.proofs.sets.clipped.Given as goal
+use Rattle.sefl_syntax.specs.Clipped.{IsGoodPair}
+use Rattle.sefl_syntax.proofs.sets.clipped.Given as goal
 
 abbrev pub invariant-loop-range : goal.invariant-loop-range
 invariant-loop-range l = record {

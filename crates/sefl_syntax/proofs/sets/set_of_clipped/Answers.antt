@@ -1,5 +1,5 @@
-use Rattle.term_values.proofs.SetLemmas.{the_clipped}
-use Rattle.term_values.proofs.sets.set_of_clipped.Goals as goal
+use Rattle.sefl_syntax.proofs.SetLemmas.{the_clipped}
+use Rattle.sefl_syntax.proofs.sets.set_of_clipped.Goals as goal
 
 pub returns-in-Ok : goal.returns-in-Ok
 returns-in-Ok c =

@@ -2,14 +2,13 @@ use Rattle.sefl_meaning.specs.Injected.{with_tags}
 use Rattle.sefl_meaning.specs.Steps.{tag_set}
 use Rattle.sefl_meaning.specs.View.{carried_of}
 use Rattle.instr_steps.specs.Scenes.{scene_of}
-use Rattle.term_values.specs.TermValues.{terms}
 use Rattle.std.proofs.Common.{◌+◌, drop}
-use Rattle.sym_state.proofs.Starting.{left_on, tags_at}
-use Rattle.sym_state.proofs.beginning.add_tags.Goals as goal
+use Rattle.instr_steps.proofs.LineSteps.{left_on, tags_at}
+use Rattle.instr_steps.proofs.injecting.add_tags.Goals as goal
 
 pub loop-name-preserved : goal.loop-name-preserved
-loop-name-preserved c =
-    let o = terms c.args.at.now.terms.unknowns in
+loop-name-preserved g c =
+    let o = g.A.Arithmetic.values c.args.at.now.values.now in
     let at = scene_of c.args.at.now.scene in
     let tags = c.args.tags.now in
     let i = c.loop-name.name-index in
