@@ -1,3 +1,4 @@
 pub mod Stops
 pub mod Sides
 pub mod Starting
+pub mod Telling

@@ -1,7 +1,8 @@
 -- What is answered of the records of a net and an injection.
 use Rattle.std.specs.Prelude.{ℕ, List, Result, Ok, Err}
+use Rattle.std.specs.List.{AllByRecursion}
 use Rattle.sefl_meaning.specs.Network.{Network, Entry}
-use Rattle.exact_records.specs.Packets.{IsExplored}
+use Rattle.exact_records.specs.Packets.{HasPacket, IsExplored, IsNotTaken}
 use Rattle.exact_records.specs.Records.{RecordTree, SymStart}
 use Rattle.record_checks.specs.Confirming.{Confirms, IsConfirmedBack}
 use Rattle.record_checks.specs.declared.counts.Confirmed.{Confirmed}
@@ -20,3 +21,8 @@ module _ (net : Network) (i : Entry) (hops : ℕ) where
   -- and the other way
   abbrev pub IsConfirmedBackFor : List RecordTree → Result Confirmed ReplayFault → Type 0
   IsConfirmedBackFor xs result = (start : SymStart) → IsExplored net i hops start → IsConfirmedBack start xs result
+
+  -- the values of each path that has some are a packet that takes it, and no packet takes a refuted side
+  pub record TellPackets (xs : List RecordTree) : Type 0 where
+    pub packets : AllByRecursion (HasPacket net i hops) xs
+    pub refuted : AllByRecursion (IsNotTaken net i hops) xs

@@ -1,14 +1,14 @@
 //! Records that are confirmed by themselves.
 
-ghost use Rattle.std.specs.Prelude.{◌≡◌};
+ghost use Rattle.std.specs.Prelude.{◌≡◌, IfOk};
 ghost use Rattle.net_check.specs.Network.{entry, network};
 ghost use Rattle.net_check.specs.Sound.{AreOfOneJob};
 ghost use Rattle.exact_records.specs.Packets.{IsExplored};
 ghost use Rattle.exact_records.specs.View.{record_trees};
 ghost use Rattle.symbolic_engine.specs.Origins.{IsFirstState};
-ghost use Rattle.path_replay.specs.Replaying.{ConfirmsFor, IsConfirmedBackFor};
+ghost use Rattle.path_replay.specs.Replaying.{ConfirmsFor, IsConfirmedBackFor, TellPackets};
 
-use crate::laws::one_answer_for_a_net;
+use crate::laws::{confirmed_records_tell_packets, one_answer_for_a_net};
 use crate::runs::Runs;
 use net_check::{Injection, Net};
 use path_records::Record;
@@ -20,7 +20,8 @@ use symbolic_engine::{Explorer, Origin};
 
 /// Confirms that each record has its own meaning, of a net and an injection with so many hops: the counts of the records,
 /// or the first that has not its meaning, by its first broken part. It speaks of each record by itself: not of whether all
-/// packets are shown, and not of whether values are the least.
+/// packets are shown, and not of whether values are the least. Where all are confirmed, the values of each path are a packet
+/// that takes it, and no packet takes a refuted side.
 ///
 /// One run is guided along the decisions of all records, so that records that ascend by their decisions cost what exploring
 /// them cost. The values of a path are tried in the condition to which its decisions lead. Refutations and causes are checked,
@@ -35,8 +36,10 @@ pub fn confirm(
     requires { AreOfOneJob (network net.now) (entry injection.now) }
     ensures confirms { ConfirmsFor (network net.now) (entry injection.now) hops (record_trees records.now) result }
     ensures back { IsConfirmedBackFor (network net.now) (entry injection.now) hops (record_trees records.now) result }
+    ensures packets { IfOk result (λ counts. TellPackets (network net.now) (entry injection.now) hops (record_trees records.now)) }
 {
     one_answer_for_a_net();
+    confirmed_records_tell_packets();
     confirm_job(alloc, net, injection, hops, records)
 }
 

@@ -6,16 +6,10 @@ ghost use Rattle.path_records.specs.Shown.{fields_seen, held_head, held_meta};
 use cell_stacks::Cell;
 use lin_term::Term;
 use path_records::Fields;
-use sefl_meaning::{End, Failure, Place};
+use sefl_meaning::{End, Place};
 use sn_width::{NameId, NodeId, TagId};
 
 pub(crate) fn are_same_places(first: &[Place], second: &[Place]) -> bool
-    ensures { IsTrue result ↔ (first.now ≡ second.now) }
-{
-    first == second
-}
-
-fn is_same_failure(first: &Failure, second: &Failure) -> bool
     ensures { IsTrue result ↔ (first.now ≡ second.now) }
 {
     first == second

@@ -112,6 +112,7 @@ module _ (s : SymStart) (ds : List Decision) (x : Symbolic) (tree : ℕ → SymT
     decisions = led.decisions;
     places = sym led.places;
     condition = condition_led;
+    unknowns = run.unknowns;
   }
 
 -- the first decision that is not offered, or want of memory, for the net

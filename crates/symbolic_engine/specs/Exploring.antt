@@ -1,5 +1,5 @@
 -- What explorations of a net and an injection answer.
-use Rattle.std.specs.Prelude.{ℕ, ◌≡◌, ◌<◌, ◌≤◌, ◌+◌, List, [], ◌∷◌, ◌++◌, reverse, Result, Ok, Err, Some}
+use Rattle.std.specs.Prelude.{ℕ, ◌≡◌, ◌<◌, ◌≤◌, ◌+◌, List, [], ◌∷◌, ◌++◌, length, reverse, Result, Ok, Err, Some}
 use Rattle.std.specs.Global.{Vec}
 use Rattle.std.specs.List.{AllByRecursion}
 use Rattle.sefl_meaning.specs.declared.walk.Decision.{Decision}
@@ -76,7 +76,7 @@ abbrev pub WaitsAs : Waits → SymTree → Symbolic → Type 0
 WaitsAs (Nothing how) t x = (begun : ℕ) × (t ≡ over (progress_in x begun) how)
 WaitsAs (Decides offer) t x = IsNode offer t
 
--- these decisions lead to this state, by its ports and its formulas, and this waits there
+-- these decisions lead to this state, by its ports and its formulas, and this waits there; its first symbols are the unknown fields
 pub record LeadsThere (start : SymStart) (ds : List Decision) (led : Led) : Type 0 where
   pub way : SymRoute
   pub leads : route start.tree ds ≡ Some way
@@ -85,6 +85,7 @@ pub record LeadsThere (start : SymStart) (ds : List Decision) (led : Led) : Type
   pub decisions : reverse led.state.decisions ≡ ds
   pub places : reverse led.state.places ≡ places_on way
   pub condition : condition_seen led.state ≡ condition_on start way
+  pub unknowns : led.state.unknowns ≡ length start.unknowns
 
 -- by these states they arrive at the port
 pub record ArrivesBy (start : SymStart) (port : Place) (ds : List Decision) (states : List Symbolic) : Type 0 where

@@ -29,7 +29,7 @@ module _ (s : SymStart) (net : Network) where
 abbrev pub finished_at : SymStart → Symbolic → End → Here
 finished_at s x how = here_of s x (λ begun. over (progress_in x begun) how)
 
--- a receiver of records takes each of them
+-- what the engine's values are seen as; nothing is said of the ids in a record, so a receiver has to take each of them
 abbrev pub views_of : {B : Type 0} {origin : Ghosts B} → SymStart → Network → Views (Standing B) (Finished B) (Waiting B origin) Verdict Record
 views_of s net = record {
   start = s;

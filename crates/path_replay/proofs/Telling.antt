@@ -1,0 +1,24 @@
+-- What confirmed records tell of packets.
+use Rattle.std.proofs.Common.{ℕ, List, [], ◌∷◌, Result, Ok, Err, IfOk}
+use Rattle.std.specs.List.{AllByRecursion}
+use Rattle.sefl_meaning.specs.Network.{Network, Entry}
+use Rattle.exact_records.specs.Laws.{RecordsTellPackets}
+use Rattle.exact_records.specs.Packets.{IsExplored}
+use Rattle.exact_records.specs.Records.{HasMeaning, RecordTree, SymStart}
+use Rattle.record_checks.specs.declared.counts.Confirmed.{Confirmed}
+use Rattle.record_checks.specs.declared.fault.ReplayFault.{ReplayFault}
+use Rattle.path_replay.specs.Replaying.{ConfirmsFor, TellPackets}
+
+module _ (net : Network) (i : Entry) (hops : ℕ) (law : RecordsTellPackets net i hops) where
+  each_tells : (start : SymStart) → IsExplored net i hops start → (xs : List RecordTree) → AllByRecursion (HasMeaning start) xs
+      → TellPackets net i hops xs
+  each_tells start explored [] h = record { packets = tt; refuted = tt }
+  each_tells start explored (x ∷ xs) h =
+      let one = law start explored x h.0 in
+      let others = each_tells start explored xs h.1 in
+      record { packets = (one.0, others.packets); refuted = (one.1, others.refuted) }
+
+  pub confirmed_tell : (xs : List RecordTree) (answer : Result Confirmed ReplayFault) → ConfirmsFor net i hops xs answer
+      → IfOk answer (λ counts. TellPackets net i hops xs)
+  confirmed_tell xs (Ok counts) h = each_tells h.start h.explored xs h.holds.0
+  confirmed_tell xs (Err fault) h = tt
