@@ -1,5 +1,8 @@
 -- The headline, of the report of a finished exploration.
-use Rattle.std.proofs.Common.{ℕ, List, [], ◌∷◌}
+use Rattle.std.proofs.Common.{◌≡◌, refl, sym, subst, ℕ, ◌<◌, ◌≤◌, ◌^◌, Bool, true, false, List, [], ◌∷◌, ◌++◌, Result, arith}
+use Rattle.std.proofs.lemmas.Fmt.{IsAscii-decimal}
+use Rattle.std.proofs.lemmas.Str.{IsUtf8-append, IsUtf8-from_ascii}
+use Rattle.std.specs.Prelude.{IsUtf8, codes, decimal}
 use Rattle.std.specs.List.{AllByRecursion}
 use Rattle.net_check.specs.Network.{Network, Entry}
 use Rattle.exact_records.specs.Exact.{IsGood}
@@ -7,9 +10,19 @@ use Rattle.exact_records.specs.Records.{HasMeaning, RecordTree, SymStart, path, 
 use Rattle.exact_records.specs.View.{record_trees}
 use Rattle.exact_records.specs.Whole.{WalksHaveOnePath}
 use Rattle.run_answers.specs.declared.ending.Ending.TheVariants.{Done}
+use Rattle.path_records.specs.declared.records.Record.{Record}
+use Rattle.record_text.specs.Reports.{head_text, report_line, state_text, tail_text}
+use Rattle.record_text.specs.declared.report.Report.{Report}
+use Rattle.report_forms.specs.Fits.{LineFits, RecordFits}
+use Rattle.report_forms.specs.Seen.{line_seen}
+use Rattle.path_report.specs.Reading.{ReadsReport, Shows}
+use Rattle.path_report.specs.declared.report.ReportFault.{ReportFault}
+use Rattle.record_lines.specs.Lines.{records_text, refuted_count, written_of}
 use Rattle.record_lines.specs.declared.lines.RefutedSides.{RefutedSides}
-use Rattle.explore_command.specs.Explores.{IsReport}
-use Rattle.explore_command.specs.Headline.{IsHeadline, IsRefuted}
+use Rattle.record_lines.specs.declared.lines.RefutedSides.TheVariants.{Counted, Written}
+use Rattle.explore_command.specs.Explores.{IsReport, line_of}
+use Rattle.explore_command.specs.Headline.{IsHeadline, IsRefuted, MayBeShown}
+use Rattle.explore_command.proofs.PutLemmas.{Joins}
 
 module _ (start : SymStart) where
   refuted_of : (x : RecordTree) → HasMeaning start x → IsRefuted start x
@@ -21,9 +34,56 @@ module _ (start : SymStart) where
   all_refuted [] h = tt
   all_refuted (x ∷ rs) h = (refuted_of x h.0.meaning, all_refuted rs h.1)
 
-pub headline_of : (hops limit : ℕ) (sides : RefutedSides) (net : Network) (i : Entry) (whole : List ℕ) → WalksHaveOnePath net i hops → IsReport hops limit sides net i Done whole
-    → IsHeadline net i hops limit sides whole
-headline_of hops limit sides net i whole one h =
+-- ---- the line is read back
+
+-- a number in decimal is text, and so are the head and the tail
+decimal_utf8 : (n : ℕ) → n < 2 ^ 64 → IsUtf8 (decimal n)
+decimal_utf8 n h = IsUtf8-from_ascii (decimal n) (IsAscii-decimal n h)
+
+state_utf8 : (complete : Bool) → IsUtf8 (state_text complete)
+unfolding lib.Utf8.encode
+state_utf8 true = ((codes "done"), (refl, refl))
+state_utf8 false = ((codes "partial"), (refl, refl))
+
+head_utf8 : (hops limit : ℕ) → hops ≤ 256 → limit ≤ 100000 → IsUtf8 (head_text hops limit)
+unfolding lib.Utf8.encode
+head_utf8 hops limit h l =
+    IsUtf8-append (codes "{\"hops\":") _ ((codes "{\"hops\":"), (refl, refl))
+    (IsUtf8-append (decimal hops) _ (decimal_utf8 hops (omega (arith, h)))
+    (IsUtf8-append (codes ",\"limit\":") _ ((codes ",\"limit\":"), (refl, refl))
+    (IsUtf8-append (decimal limit) (codes ",\"records\":[") (decimal_utf8 limit (omega (arith, l))) ((codes ",\"records\":["), (refl, refl)))))
+
+tail_utf8 : (refuted : ℕ) (complete : Bool) → refuted < 2 ^ 64 → IsUtf8 (tail_text refuted complete)
+unfolding lib.Utf8.encode
+tail_utf8 refuted complete h =
+    IsUtf8-append (codes "],\"refuted\":") _ ((codes "],\"refuted\":"), (refl, refl))
+    (IsUtf8-append (decimal refuted) _ (decimal_utf8 refuted h)
+    (IsUtf8-append (codes ",\"state\":\"") _ ((codes ",\"state\":\""), (refl, refl))
+    (IsUtf8-append (state_text complete) (codes "\",\"symnet\":1}\n") (state_utf8 complete) ((codes "\",\"symnet\":1}\n"), (refl, refl)))))
+
+abbrev ReadsBack : Type 0
+ReadsBack = (net : Network) (hops limit : ℕ) (records : List Record) (refuted : ℕ) (complete : Bool) (answer : Result Report ReportFault)
+    → LineFits net hops limit records refuted → IsUtf8 (report_line net hops limit records refuted complete)
+    → ReadsReport net (report_line net hops limit records refuted complete) answer
+    → Shows (line_seen hops limit records refuted complete) answer
+
+read_so : (hops limit : ℕ) (sides : RefutedSides) (net : Network) (records : List Record) → Joins → ReadsBack → sides ≡ Written → MayBeShown hops limit
+    → refuted_count records < 2 ^ 64 → AllByRecursion (RecordFits net) records → IsUtf8 (records_text net (written_of sides records))
+    → (answer : Result Report ReportFault) → ReadsReport net (line_of hops limit sides net Done records) answer
+    → Shows (line_seen hops limit records (refuted_count records) true) answer
+read_so hops limit Counted net records joins back written shown few fit utf8 answer reads = cc
+read_so hops limit Written net records joins back written shown few fit utf8 answer reads =
+    let refuted = refuted_count records in
+    back net hops limit records refuted true answer
+    (record { least_hops = shown.0; most_hops = shown.1; least_limit = shown.2; most_limit = shown.3; all_records = fit; count = few })
+    (subst IsUtf8 (sym (joins net hops limit records refuted true))
+    (IsUtf8-append (head_text hops limit) (records_text net records ++ tail_text refuted true) (head_utf8 hops limit shown.1 shown.3)
+    (IsUtf8-append (records_text net records) (tail_text refuted true) utf8 (tail_utf8 refuted true few))))
+    reads
+
+pub headline_of : (hops limit : ℕ) (sides : RefutedSides) (net : Network) (i : Entry) (whole : List ℕ) → WalksHaveOnePath net i hops → Joins → ReadsBack
+    → IsReport hops limit sides net i Done whole → IsHeadline net i hops limit sides whole
+headline_of hops limit sides net i whole one joins back h =
     let exact = h.found.exact in record {
       records = h.records;
       line = h.line;
@@ -36,4 +96,6 @@ headline_of hops limit sides net i whole one h =
         not_taken = exact.refuted;
         tried = h.found.ends;
       };
+      read_back = λ written shown answer reads. read_so hops limit sides net h.records joins back written shown h.found.few h.found.fit h.found.utf8 answer
+          (subst (λ bytes. ReadsReport net bytes answer) h.line reads);
     }

@@ -2,6 +2,7 @@
 use Rattle.std.proofs.Common.{◌≡◌, ◌∙◌, inl, inr, ap, refl, sym, subst, ℕ, Bool, List, [], ◌∷◌, ◌++◌, Option, Some, None, Result, Ok, Err}
 use Rattle.std.proofs.lemmas.List.{append-nil, same_from_push}
 use Rattle.std.specs.Prelude.{IfErr}
+use Rattle.std.specs.List.{AllByRecursion}
 use Rattle.std.specs.Io.KnownBytes.{append_known}
 use Rattle.sn_edge.specs.Pieces.{IsPrefix, append_known-append}
 use Rattle.sn_edge.specs.declared.sink.Put.TheVariants as putting
@@ -11,18 +12,21 @@ use Rattle.path_records.specs.declared.records.Record.{Record}
 use Rattle.path_exec.specs.declared.exploration.Ended.{Ended}
 use Rattle.path_exec.specs.declared.exploration.Ended.TheVariants as ended
 use Rattle.path_exec.specs.Receiving.{Receiving}
-use Rattle.exact_records.specs.Packets.{AreExactUpToFor}
+use Rattle.exact_records.specs.Packets.{AreExactFor, AreExactUpToFor}
 use Rattle.exact_records.specs.View.{record_tree, record_trees}
+use Rattle.report_forms.specs.Fits.{RecordFits}
+use Rattle.record_ranges.specs.Ranges.{RecordInRange}
 use Rattle.record_text.specs.Reports.{head_text, report_line, tail_text}
-use Rattle.record_lines.specs.Lines.{HasLines, PutAs, StopsInLine, records_text, refuted_count, written_of}
+use Rattle.record_lines.specs.Lines.{AreOfTypes, HasLines, PutAs, StopsInLine, records_text, refuted_count, written_of}
 use Rattle.record_lines.specs.declared.lines.RefutedSides.{RefutedSides}
 use Rattle.symbolic_engine.specs.Exploring.{ExploredFor}
 use Rattle.run_answers.specs.Inputs.{a_net}
 use Rattle.run_answers.specs.Runs.{Performs, WriteShows}
 use Rattle.run_answers.specs.declared.ending.Ending.{Ending}
+use Rattle.run_answers.specs.declared.ending.Ending.TheVariants.{Done, Partial}
 use Rattle.run_answers.specs.declared.ending.Stop.{Stop}
 use Rattle.run_answers.specs.declared.ending.Stop.TheVariants.{Input, Own, Write, NoMemory}
-use Rattle.explore_command.specs.Explores.{AreFound, end_of, explore_work, is_done}
+use Rattle.explore_command.specs.Explores.{AreFound, IsEnding, end_of, explore_work, is_done}
 use Rattle.explore_command.specs.Putting.{PutsEnd, PutsRecords, PutsRest, StopShows, tail_of}
 use Rattle.explore_command.specs.declared.report.Tail.{Tail}
 use Rattle.explore_command.proofs.SoFarLemmas.{so_far}
@@ -53,22 +57,37 @@ module _ (hops limit : ℕ) (sides : RefutedSides) (net : Network) (i : Entry) w
       subst (λ r. AreExactUpToFor net i hops (record_trees done) (record_tree r)) ends
       (subst (λ rs. AreExactUpToFor net i hops (record_trees rs) (record_tree end')) fronts h)
 
+  -- records that are exact and of their types fit
+  abbrev pub FitSo : Type 0
+  FitSo = (items : List Record) → AreExactFor net i hops limit (record_trees items) → AllByRecursion RecordInRange items → AllByRecursion (RecordFits net) items
+
+  found_so : FitSo → (ending : Ending) (items : List Record) → AreExactFor net i hops limit (record_trees items) → IsEnding ending (record_trees items)
+      → AreOfTypes net sides items → AreFound hops limit sides net i ending items
+  found_so fits ending items exact ends types = record {
+    exact = exact;
+    ends = ends;
+    fit = fits items exact types.ranges;
+    few = types.few;
+    utf8 = types.utf8;
+  }
+
   -- an exploration over lines ended so
   module _ {E : Type 0} (known now : Option (List ℕ)) (own : Network) (own_sides : RefutedSides) (some : Bool) (refuted : ℕ) (m : Receiving Record)
       (stands : (items : List Record) → m.StandsFor items → HasLines net sides known now own own_sides some refuted items)
       (stopped : (items : List Record) → m.StoppedIn items → StopsInLine net sides known now items)
+      (fits : FitSo)
       (stops before after : ℕ) where
     pub records_put : (answer : Result Ended E) → ExploredFor net i hops limit stops m before after answer → PutsRecords hops limit sides net i known now (tail_of answer refuted)
     records_put (Ok ended.Whole) h =
         let has = stands h.items h.stands in (
           records_text net (written_of sides h.items),
-          record { records = h.items; found = record { exact = h.exact; ends = h.tried }; counted = has.counted; pieces = refl },
+          record { records = h.items; found = found_so fits Done h.items h.exact h.tried has.of_types; counted = has.counted; pieces = refl },
           has.taken,
         )
     records_put (Ok ended.Partial) h =
         let has = stands h.items h.stands in (
           records_text net (written_of sides h.items),
-          record { records = h.items; found = record { exact = h.exact; ends = h.untried }; counted = has.counted; pieces = refl },
+          record { records = h.items; found = found_so fits Partial h.items h.exact h.untried has.of_types; counted = has.counted; pieces = refl },
           has.taken,
         )
     records_put (Ok ended.Stopped) h =

@@ -1,5 +1,5 @@
 -- What `explore` writes of an accepted job.
-use Rattle.std.specs.Prelude.{ℕ, ◌≡◌, ◌⊎◌, Bool, true, false, List, [], ◌∷◌, ◌++◌}
+use Rattle.std.specs.Prelude.{ℕ, ◌≡◌, ◌<◌, ◌^◌, ◌⊎◌, Bool, true, false, List, [], ◌∷◌, ◌++◌, IsUtf8}
 use Rattle.std.specs.List.{AllByRecursion}
 use Rattle.sn_edge.specs.Pieces.{IsPrefix}
 use Rattle.net_check.specs.Network.{Network, Entry}
@@ -8,6 +8,7 @@ use Rattle.exact_records.specs.Exact.{IsTried, IsUnexplored, SomeOne}
 use Rattle.exact_records.specs.Packets.{AreExactFor, AreExactSoFarFor, AreExactUpToFor}
 use Rattle.exact_records.specs.Records.{RecordTree}
 use Rattle.exact_records.specs.View.{record_tree, record_trees}
+use Rattle.report_forms.specs.Fits.{RecordFits}
 use Rattle.record_text.specs.Reports.{head_text, report_line, tail_text}
 use Rattle.record_lines.specs.Lines.{has_some, is_written, piece_text, records_text, refuted_count, written_of}
 use Rattle.record_lines.specs.declared.lines.RefutedSides.{RefutedSides}
@@ -55,10 +56,13 @@ module _ (hops : ℕ) (sides : RefutedSides) (net : Network) (i : Entry) where
     pub pieces : part ≡ records_text net (written_of sides done) ++ own
 
 module _ (hops limit : ℕ) (sides : RefutedSides) (net : Network) (i : Entry) where
-  -- the records are exact for the net and the injection, and end so
+  -- the records are exact for the net and the injection, and end so; they fit a report of the net, and their pieces are text
   pub record AreFound (ending : Ending) (records : List Record) : Type 0 where
     pub exact : AreExactFor net i hops limit (record_trees records)
     pub ends : IsEnding ending (record_trees records)
+    pub fit : AllByRecursion (RecordFits net) records
+    pub few : refuted_count records < 2 ^ 64
+    pub utf8 : IsUtf8 (records_text net (written_of sides records))
 
   -- the text is the report of such records
   pub record IsReport (ending : Ending) (whole : List ℕ) : Type 0 where

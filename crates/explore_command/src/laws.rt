@@ -11,15 +11,18 @@ ghost use Rattle.explore_command.specs.Explores.{BehindHead, IsCut, IsReport, Is
 ghost use Rattle.explore_command.specs.Headline.{IsHeadline};
 
 use exact_records::laws::whole_records_have_one_path_a_walk;
+use path_report::laws::lines_are_read_back;
 use record_lines::laws::a_record_comes_behind_the_others;
 use record_text::laws::lines_join;
 
 /// The headline: where the report of a job is written whole and nothing was left out, it tells all walks of all packets that
-/// meet the injection.
+/// meet the injection; and it is read back, where refuted sides are written.
 pub fn finished_reports_tell_all()
     ensures { (hops limit : ℕ) (sides : SidesOf) (net : Network) (i : Entry) (whole : List ℕ) → IsReport hops limit sides net i Done whole → IsHeadline net i hops limit sides whole }
 {
     whole_records_have_one_path_a_walk();
+    lines_join();
+    lines_are_read_back();
 }
 
 /// What was written where the sink failed is a beginning of a report, or of the head and the pieces of records that are exact

@@ -9,6 +9,8 @@ ghost use Rattle.explore_command.specs.Explores.{explore_work, is_done};
 ghost use Rattle.explore_command.specs.Putting.{PutsEnd, PutsRecords, PutsRest, StopShows, tail_of};
 
 use net_check::Accepted;
+use own_records::laws::exact_records_fit;
+use own_records::names_are_spelled;
 use path_exec::Ended;
 use record_lines::{Lines, Mark, RefutedSides, put_head, put_tail};
 use record_text::laws::lines_join;
@@ -78,6 +80,8 @@ fn put_records<M: Mark, K: Sink, L: Ledger>(
     ensures puts { PutsRecords hops limit sides (network job.now.net) (entry job.now.injection) M.known (K.taken out.new) result }
     ensures shows { IfErr result (StopShows (K.faults out.old < K.faults out.new)) }
 {
+    exact_records_fit();
+    names_are_spelled(&job.net);
     let mut steps = Steps::<L>::new(blank);
     let mut lines: Lines<'_, M, K> = Lines {
         alloc,

@@ -5,6 +5,7 @@ use Rattle.serde_json.specs.Data.{Data}
 use Rattle.serde_json.specs.Read.{read}
 use Rattle.serde_json.specs.Written.{compact_text}
 use Rattle.net_check.specs.Network.{Network}
+use Rattle.path_records.specs.declared.records.Record.{Record}
 use Rattle.report_shape.specs.declared.part.Part.{Part}
 use Rattle.report_shape.specs.declared.part.Part.TheVariants as part
 use Rattle.report_shape.specs.declared.read.ShapeFault.{ShapeFault}
@@ -13,11 +14,12 @@ use Rattle.report_shape.specs.Faults.{fault}
 use Rattle.report_shape.specs.Reads.{IsTextOf, Reads}
 use Rattle.report_names.specs.Names.{knows}
 use Rattle.record_text.specs.declared.report.Report.{Report}
-use Rattle.record_text.specs.Reports.{data_of, report_text}
-use Rattle.report_forms.specs.Seen.{report_seen}
-use Rattle.report_forms.specs.Fits.{ReportFits}
+use Rattle.record_text.specs.Records.{records_data}
+use Rattle.record_text.specs.Reports.{data_of, report_data, report_line, report_text}
+use Rattle.report_forms.specs.Seen.{line_seen, report_seen}
+use Rattle.report_forms.specs.Fits.{LineFits, ReportFits}
 use Rattle.path_report.specs.Having.{HasForm}
-use Rattle.path_report.specs.Reading.{refusal, ReadsReport, GivesBack}
+use Rattle.path_report.specs.Reading.{refusal, ReadsReport, GivesBack, Shows}
 use Rattle.path_report.specs.declared.report.ReportFault.{ReportFault}
 use Rattle.path_report.specs.declared.report.ReportFault.TheVariants.{NotJson, NotReport, NoMemory}
 
@@ -57,3 +59,35 @@ pub gives_back : ReadsLines → HaveForm → AreOne → (net : Network) (bytes :
 gives_back lines formed one net bytes r h report fits utf8 is =
     let form = formed net report fits in
     by_answer one net report bytes r fits form (record { utf8 = utf8; value = ap read is ∙ lines (knows net) part.Report (data_of net report) form }) h
+
+-- so is the line of a report of any records
+abbrev pub LinesHaveForm : Type 0
+LinesHaveForm = (net : Network) (hops limit : ℕ) (records : List Record) (refuted : ℕ) (complete : Bool) → LineFits net hops limit records refuted
+    → HasForm net part.Report (report_data hops limit (records_data net records) refuted complete)
+
+abbrev pub LinesAreOne : Type 0
+LinesAreOne = (net : Network) (hops limit : ℕ) (records : List Record) (refuted : ℕ) (complete : Bool) (found : Report)
+    → LineFits net hops limit records refuted → ReportFits net found → report_data hops limit (records_data net records) refuted complete ≡ data_of net found
+    → report_seen found ≡ line_seen hops limit records refuted complete
+
+module _ (net : Network) (hops limit : ℕ) (records : List Record) (refuted : ℕ) (complete : Bool) where
+  abbrev shown : Data
+  shown = report_data hops limit (records_data net records) refuted complete
+
+  line_answer : LinesAreOne → (bytes : List ℕ) (answer : Result Report ReportFault) → LineFits net hops limit records refuted → HasForm net part.Report shown
+      → IsTextOf bytes shown → ReadsReport net bytes answer → Shows (line_seen hops limit records refuted complete) answer
+  line_answer one bytes (Ok found) fits form is h =
+      one net hops limit records refuted complete found fits h.2 (some_is shown (data_of net found) (sym is.value ∙ h.0.value))
+  line_answer one bytes (Err NotJson) fits form is h = h shown is
+  line_answer one bytes (Err (NotReport pointer)) fits form is h =
+      let same : h.0 ≡ shown = some_is h.0 shown (sym h.1.value ∙ is.value) in
+      some_none (string_bytes pointer) (sym (subst (λ d. fault (knows net) part.Report d ≡ Some (string_bytes pointer)) same h.2) ∙ form)
+  line_answer one bytes (Err NoMemory) fits form is h = tt
+
+  pub line_back : ReadsLines → LinesHaveForm → LinesAreOne → (answer : Result Report ReportFault) → LineFits net hops limit records refuted
+      → IsUtf8 (report_line net hops limit records refuted complete) → ReadsReport net (report_line net hops limit records refuted complete) answer
+      → Shows (line_seen hops limit records refuted complete) answer
+  line_back lines formed one answer fits utf8 h =
+      let form = formed net hops limit records refuted complete fits in
+      line_answer one (report_line net hops limit records refuted complete) answer fits form
+      (record { utf8 = utf8; value = lines (knows net) part.Report shown form }) h

@@ -8,7 +8,7 @@ use Rattle.report_shape.specs.Reads.{IsTextOf}
 use Rattle.report_names.specs.Names.{knows}
 use Rattle.record_text.specs.declared.report.Report.{Report}
 use Rattle.record_text.specs.Reports.{data_of}
-use Rattle.report_forms.specs.Seen.{report_seen}
+use Rattle.report_forms.specs.Seen.{ReportSeen, report_seen}
 use Rattle.report_forms.specs.Fits.{ReportFits}
 use Rattle.path_report.specs.Having.{HasForm}
 use Rattle.path_report.specs.declared.report.ReportFault.{ReportFault}
@@ -30,9 +30,13 @@ ReadsReport net bytes (Err NotJson) = (d : Data) → IsTextOf bytes d → ⊥
 ReadsReport net bytes (Err (NotReport pointer)) = (d : Data) × IsTextOf bytes d × (fault (knows net) part.Report d ≡ Some (string_bytes pointer))
 ReadsReport net bytes (Err NoMemory) = Unit {0}
 
+-- a report that is seen so, whatever lies where in memory; or want of memory
+abbrev pub Shows : ReportSeen → Result Report ReportFault → Type 0
+Shows seen (Ok found) = report_seen found ≡ seen
+Shows seen (Err NotJson) = ⊥
+Shows seen (Err (NotReport pointer)) = ⊥
+Shows seen (Err NoMemory) = Unit {0}
+
 -- the report itself, but for where its lists lie in memory; or want of memory
 abbrev pub GivesBack : Report → Result Report ReportFault → Type 0
-GivesBack report (Ok found) = report_seen found ≡ report_seen report
-GivesBack report (Err NotJson) = ⊥
-GivesBack report (Err (NotReport pointer)) = ⊥
-GivesBack report (Err NoMemory) = Unit {0}
+GivesBack report = Shows (report_seen report)

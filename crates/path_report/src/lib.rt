@@ -5,6 +5,7 @@ mod decoder;
 mod ends;
 mod fields;
 mod items;
+pub mod laws;
 mod leaves;
 mod records;
 mod refutations;

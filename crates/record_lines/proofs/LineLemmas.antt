@@ -1,21 +1,24 @@
 -- What the pieces of records leave in a sink.
-use Rattle.std.proofs.Common.{◌≡◌, ◌∙◌, ap, sym, subst, refl, ℕ, ◌+◌, Bool, true, false, List, [], ◌∷◌, ◌++◌, map, Option, append_assoc}
+use Rattle.std.proofs.Common.{◌≡◌, ◌∙◌, ap, sym, subst, refl, ℕ, ◌+◌, ◌<◌, ◌^◌, arith, Bool, true, false, List, [], ◌∷◌, ◌++◌, map, Option, append_assoc}
 use Rattle.std.proofs.lemmas.Bool.{true≢false}
 use Rattle.std.proofs.lemmas.List.{append-nil, map-append}
 use Rattle.std.proofs.lemmas.List.Elements.{filter-append}
-use Rattle.std.specs.Prelude.{filter, fold}
+use Rattle.std.proofs.lemmas.Str.{IsUtf8-append, IsUtf8-nil}
+use Rattle.std.specs.Prelude.{IsUtf8, filter, fold}
+use Rattle.std.specs.List.{AllByRecursion}
 use Rattle.std.specs.Io.KnownBytes.{append_known}
 use Rattle.serde_json.specs.Data.{Data}
 use Rattle.serde_json.specs.Written.{comma_if, compact_text}
 use Rattle.net_check.specs.Network.{Network}
 use Rattle.path_records.specs.declared.records.Record.{Record}
+use Rattle.record_ranges.specs.Ranges.{RecordInRange}
 use Rattle.record_text.specs.Records.{record_data}
 use Rattle.record_text.specs.Reports.{record_pieces}
 use Rattle.sn_edge.specs.Pieces.{IsPrefix, append_known-append}
 use Rattle.sn_edge.specs.Put.{OnAll, OnNoMemory}
 use Rattle.sn_edge.specs.declared.sink.Put.{Put}
 use Rattle.sn_edge.specs.declared.sink.Put.TheVariants.{All, Failed, NoMemory}
-use Rattle.record_lines.specs.Lines.{HasLines, PutAs, StopsInLine, has_some, is_written, piece_text, records_text, refuted_by, refuted_count, written_of}
+use Rattle.record_lines.specs.Lines.{AreOfTypes, HasLines, PutAs, StopsInLine, has_some, is_written, piece_text, records_text, refuted_by, refuted_count, written_of}
 use Rattle.record_lines.specs.declared.lines.RefutedSides.{RefutedSides}
 use Rattle.record_lines.specs.declared.lines.RefutedSides.TheVariants.{Written, Counted}
 
@@ -71,14 +74,26 @@ counted_from first (x ∷ items) item = counted_from (first + refuted_by x) item
 count_with : (items : List Record) (item : Record) → refuted_count (items ++ item ∷ []) ≡ refuted_count items + refuted_by item
 count_with items item = counted_from 0 items item
 
+-- the empty list, and one record more
+ranges_with : (items : List Record) (item : Record) → AllByRecursion RecordInRange items → RecordInRange item → AllByRecursion RecordInRange (items ++ item ∷ [])
+ranges_with [] item all one = (one, tt)
+ranges_with (x ∷ items) item all one = (all.0, ranges_with items item all.1 one)
+
+pub none_of_types : (net : Network) (sides : RefutedSides) → AreOfTypes net sides []
+none_of_types net Written = record { ranges = tt; few = omega arith; utf8 = IsUtf8-nil }
+none_of_types net Counted = record { ranges = tt; few = omega arith; utf8 = IsUtf8-nil }
+
 module _ (net own : Network) (sides own_sides : RefutedSides) (known before now : Option (List ℕ)) (some : Bool) (refuted : ℕ) (item : Record) where
   -- the piece was put
-  pub one_more : is_written own_sides item ≡ true → (count : ℕ) → count ≡ refuted + refuted_by item → now ≡ append_known before (piece_text own some item)
+  pub one_more : is_written own_sides item ≡ true → RecordInRange item → IsUtf8 (piece_text own some item) → (count : ℕ) → count < 2 ^ 64
+      → count ≡ refuted + refuted_by item → now ≡ append_known before (piece_text own some item)
       → (items : List Record) → HasLines net sides known before own own_sides some refuted items
       → HasLines net sides known now own own_sides true count (items ++ item ∷ [])
-  one_more put count counts gained items has =
+  one_more put range utf8 count small counts gained items has =
       let is : is_written sides item ≡ true = subst (λ s. is_written s item ≡ true) has.same_sides put in
-      let before_it = written_of sides items in record {
+      let before_it = written_of sides items in
+      let counted : count ≡ refuted_count (items ++ item ∷ []) = counts ∙ (ap (λ n. n + refuted_by item) has.counted ∙ sym (count_with items item)) in
+      record {
         same = has.same;
         same_sides = has.same_sides;
         taken = gained ∙ (ap (λ n. append_known before (piece_text n some item)) has.same
@@ -87,21 +102,35 @@ module _ (net own : Network) (sides own_sides : RefutedSides) (known before now 
             ∙ (append_known-append known (records_text net before_it) (piece_text net (has_some before_it) item)
             ∙ ap (append_known known) (sym (written_behind net sides items item is))))));
         has = sym (has_some_with before_it item) ∙ ap has_some (sym (written_with sides items item is));
-        counted = counts ∙ (ap (λ n. n + refuted_by item) has.counted ∙ sym (count_with items item));
+        counted = counted;
+        of_types = record {
+          ranges = ranges_with items item has.of_types.ranges range;
+          few = subst (λ n. n < 2 ^ 64) counted small;
+          utf8 = subst IsUtf8 (sym (written_behind net sides items item is))
+              (IsUtf8-append (records_text net before_it) (piece_text net (has_some before_it) item) has.of_types.utf8
+              (subst (λ b. IsUtf8 (piece_text net b item)) has.has (subst (λ n. IsUtf8 (piece_text n some item)) has.same utf8)));
+        };
       }
 
   -- it is not written
-  pub one_counted : is_written own_sides item ≡ false → (count : ℕ) → count ≡ refuted + refuted_by item
+  pub one_counted : is_written own_sides item ≡ false → RecordInRange item → (count : ℕ) → count < 2 ^ 64 → count ≡ refuted + refuted_by item
       → (items : List Record) → HasLines net sides known before own own_sides some refuted items
       → HasLines net sides known before own own_sides some count (items ++ item ∷ [])
-  one_counted left count counts items has =
+  one_counted left range count small counts items has =
       let is : is_written sides item ≡ false = subst (λ s. is_written s item ≡ false) has.same_sides left in
-      let same : written_of sides items ≡ written_of sides (items ++ item ∷ []) = sym (written_without sides items item is) in record {
+      let same : written_of sides items ≡ written_of sides (items ++ item ∷ []) = sym (written_without sides items item is) in
+      let counted : count ≡ refuted_count (items ++ item ∷ []) = counts ∙ (ap (λ n. n + refuted_by item) has.counted ∙ sym (count_with items item)) in
+      record {
         same = has.same;
         same_sides = has.same_sides;
         taken = has.taken ∙ ap (λ xs. append_known known (records_text net xs)) same;
         has = has.has ∙ ap has_some same;
-        counted = counts ∙ (ap (λ n. n + refuted_by item) has.counted ∙ sym (count_with items item));
+        counted = counted;
+        of_types = record {
+          ranges = ranges_with items item has.of_types.ranges range;
+          few = subst (λ n. n < 2 ^ 64) counted small;
+          utf8 = subst (λ xs. IsUtf8 (records_text net xs)) same has.of_types.utf8;
+        };
       }
 
   -- or a beginning of its piece was put

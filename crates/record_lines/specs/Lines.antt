@@ -1,5 +1,6 @@
 -- What a sink has gained of the records of a report.
-use Rattle.std.specs.Prelude.{ℕ, ◌≡◌, Bool, true, false, List, [], ◌∷◌, ◌++◌, filter, map, sum_by, Option}
+use Rattle.std.specs.Prelude.{ℕ, ◌≡◌, ◌<◌, ◌^◌, Bool, true, false, List, [], ◌∷◌, ◌++◌, filter, map, sum_by, IsUtf8, Option}
+use Rattle.std.specs.List.{AllByRecursion}
 use Rattle.std.specs.Io.KnownBytes.{append_known}
 use Rattle.serde_json.specs.Written.{comma_if, compact_text}
 use Rattle.net_check.specs.Network.{Network}
@@ -7,6 +8,7 @@ use Rattle.path_records.specs.declared.records.Record.{Record}
 use Rattle.path_records.specs.declared.records.Record.TheVariants.{Path, Pruned, Unexplored}
 use Rattle.record_lines.specs.declared.lines.RefutedSides.{RefutedSides}
 use Rattle.record_lines.specs.declared.lines.RefutedSides.TheVariants.{Written, Counted}
+use Rattle.record_ranges.specs.Ranges.{RecordInRange}
 use Rattle.record_text.specs.Records.{record_data}
 use Rattle.record_text.specs.Reports.{record_pieces}
 use Rattle.sn_edge.specs.Pieces.{IsPrefix}
@@ -53,6 +55,12 @@ PutAs known now piece All = now ≡ append_known known piece
 PutAs known now piece Failed = (part : List ℕ) × IsPrefix part piece × (now ≡ append_known known part)
 PutAs known now piece NoMemory = now ≡ known
 
+-- what their types say of these records: their numbers are in range, they are few enough to count, and their pieces are text
+pub record AreOfTypes (net : Network) (sides : RefutedSides) (items : List Record) : Type 0 where
+  pub ranges : AllByRecursion RecordInRange items
+  pub few : refuted_count items < 2 ^ 64
+  pub utf8 : IsUtf8 (records_text net (written_of sides items))
+
 module _ (net : Network) (sides : RefutedSides) (known now : Option (List ℕ)) where
   -- behind what was known there are the pieces of those of these records that are written, which are of the net; whether there is
   -- any, and how many are refuted sides
@@ -62,6 +70,7 @@ module _ (net : Network) (sides : RefutedSides) (known now : Option (List ℕ)) 
     pub taken : now ≡ append_known known (records_text net (written_of sides items))
     pub has : some ≡ has_some (written_of sides items)
     pub counted : refuted ≡ refuted_count items
+    pub of_types : AreOfTypes net sides items
 
   -- or those of all but the last, which is written, and a beginning of the piece of that
   pub record StopsInLine (items : List Record) : Type 0 where

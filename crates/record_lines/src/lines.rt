@@ -1,13 +1,15 @@
 //! Records that are put as they are found.
 
-ghost use Rattle.std.specs.Prelude.{◌≡◌, ◌+◌, string_bytes, IfOk, IfSome};
+ghost use Rattle.std.specs.Prelude.{◌≡◌, ◌+◌, string_bytes, IfOk, IfSome, IsTrue};
 ghost use Rattle.net_check.specs.Network.{network};
+ghost use Rattle.record_ranges.specs.Ranges.{RecordInRange};
 ghost use Rattle.record_lines.specs.Lines.{HasLines, StopsInLine, is_written, piece_text, refuted_by};
 
 use crate::ends::put_piece;
 use net_check::Net;
 use path_exec::{Receiver, Took};
 use path_records::Record;
+use record_ranges::numbers_are_in_range;
 use record_text::record_text;
 use sn_edge::{Put, Sink};
 use sn_width::NoMemory;
@@ -84,6 +86,17 @@ fn refuted_with(refuted: u64, item: &Record) -> Option<u64>
     }
 }
 
+/// Whether the numbers of a record are known to be of their types, as those of each record are; false where they cannot be
+/// counted.
+fn is_in_range(item: &Record) -> bool
+    ensures { IsTrue result → RecordInRange item.now }
+{
+    match numbers_are_in_range(item) {
+        Ok(()) => true,
+        Err(_) => false,
+    }
+}
+
 /// Whether a record is written.
 fn is_written(sides: RefutedSides, item: &Record) -> bool
     ensures { result ≡ is_written sides item.now }
@@ -112,6 +125,9 @@ impl<M: Mark, K: Sink> Receiver for Lines<'_, M, K> {
         let Some(refuted) = refuted_with(self.refuted, &item) else {
             return Took::NoMemory;
         };
+        if !is_in_range(&item) {
+            return Took::NoMemory;
+        }
         if !is_written(self.sides, &item) {
             self.refuted = refuted;
             return Took::More;

@@ -42,8 +42,8 @@ use Rattle.record_text.specs.Records.{ids_data, step_data, refutation_data, caus
 use Rattle.record_text.specs.Reports.{state_text, report_data, data_of}
 use Rattle.report_names.specs.Names.{node_named, meta_named, tag_named, place_named}
 use Rattle.report_names.specs.Own.{IsOwnPlace}
-use Rattle.report_forms.specs.Seen.{RecordSeen, path, pruned, unexplored, record_seen, ReportSeen, report_seen}
-use Rattle.report_forms.specs.Fits.{DecisionFits, EndFits, AddressFits, PartFits, TermFits, ValueFits, CellFits, HeadFits, OwnerFits, MetaFits, TagFits, FieldsFit, Fit128, Fit32, CauseFits, VerdictFits, BeforeFits, StepFits, PathFits, RecordFits, ReportFits}
+use Rattle.report_forms.specs.Seen.{RecordSeen, path, pruned, unexplored, record_seen, ReportSeen, line_seen, report_seen}
+use Rattle.report_forms.specs.Fits.{DecisionFits, EndFits, AddressFits, PartFits, TermFits, ValueFits, CellFits, HeadFits, OwnerFits, MetaFits, TagFits, FieldsFit, Fit128, Fit32, CauseFits, VerdictFits, BeforeFits, StepFits, PathFits, LineFits, RecordFits, ReportFits}
 use Rattle.report_forms.proofs.Written.{HasDigits, FindsPlaces, value_in, power_within, parts_fit, PartFits128}
 
 -- ---- parts of a value, whatever it is
@@ -369,3 +369,15 @@ module _ (net : Network) (digits : HasDigits) (places : FindsPlaces) where
 
   pub report_one : (a b : Report) → ReportFits net a → ReportFits net b → data_of net a ≡ data_of net b → report_seen a ≡ report_seen b
   report_one a b h k same = sym (report_is a h) ∙ ap (report_back net) same ∙ report_is b k
+
+  line_is : (hops limit : ℕ) (records : List Record) (refuted : ℕ) (complete : Bool) → LineFits net hops limit records refuted
+      → report_back net (report_data hops limit (records_data net records) refuted complete) ≡ line_seen hops limit records refuted complete
+  unfolding report_data
+  line_is hops limit records refuted complete h =
+      λ i. record { hops = hops; limit = limit; records = records_is records h.all_records i; refuted = refuted; complete = state_is complete i }
+
+  pub line_one : (hops limit : ℕ) (records : List Record) (refuted : ℕ) (complete : Bool) (found : Report) → LineFits net hops limit records refuted
+      → ReportFits net found → report_data hops limit (records_data net records) refuted complete ≡ data_of net found
+      → report_seen found ≡ line_seen hops limit records refuted complete
+  line_one hops limit records refuted complete found h k same =
+      sym (report_is found k) ∙ ap (report_back net) (sym same) ∙ line_is hops limit records refuted complete h

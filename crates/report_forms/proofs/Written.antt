@@ -48,7 +48,7 @@ use Rattle.record_text.specs.Records.{ids_data, step_data, refutation_data, caus
 use Rattle.record_text.specs.Reports.{state_text, report_data, data_of}
 use Rattle.report_names.specs.Names.{knows, place_named}
 use Rattle.report_names.specs.Own.{IsOwnPlace}
-use Rattle.report_forms.specs.Fits.{DecisionFits, EndFits, AddressFits, PartFits, TermFits, ValueFits, CellFits, HeadFits, OwnerFits, MetaFits, TagFits, FieldsFit, Fit128, Fit32, CauseFits, VerdictFits, BeforeFits, StepFits, PathFits, RecordFits, ReportFits}
+use Rattle.report_forms.specs.Fits.{DecisionFits, EndFits, AddressFits, PartFits, TermFits, ValueFits, CellFits, HeadFits, OwnerFits, MetaFits, TagFits, FieldsFit, Fit128, Fit32, CauseFits, VerdictFits, BeforeFits, StepFits, PathFits, LineFits, RecordFits, ReportFits}
 
 -- no place of the value is refused
 abbrev HasForm : Network → Shaped → Data → Type 0
@@ -324,3 +324,9 @@ module _ (net : Network) (digits : HasDigits) (places : FindsPlaces) where
   unfolding report_data
   report_form r h =
       rw (within 1 256 r.hops h.least_hops h.most_hops, within 1 100000 r.limit h.least_limit h.most_limit, records_form r.records.items h.all_records, count_form r.refuted h.refuted, state_form r.complete) refl
+
+  pub line_form : (hops limit : ℕ) (records : List Record) (refuted : ℕ) (complete : Bool) → LineFits net hops limit records refuted
+      → HasForm net part.Report (report_data hops limit (records_data net records) refuted complete)
+  unfolding report_data
+  line_form hops limit records refuted complete h =
+      rw (within 1 256 hops h.least_hops h.most_hops, within 1 100000 limit h.least_limit h.most_limit, records_form records h.all_records, count_form refuted h.count, state_form complete) refl

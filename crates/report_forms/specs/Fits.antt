@@ -121,3 +121,12 @@ pub record ReportFits (net : Network) (r : Report) : Type 0 where
   pub most_limit : r.limit ≤ 100000
   pub all_records : AllByRecursion (RecordFits net) r.records.items
   pub refuted : r.refuted < 2 ^ 64
+
+-- the same of the line of a report of any records
+pub record LineFits (net : Network) (hops limit : ℕ) (records : List Record) (refuted : ℕ) : Type 0 where
+  pub least_hops : 1 ≤ hops
+  pub most_hops : hops ≤ 256
+  pub least_limit : 1 ≤ limit
+  pub most_limit : limit ≤ 100000
+  pub all_records : AllByRecursion (RecordFits net) records
+  pub count : refuted < 2 ^ 64

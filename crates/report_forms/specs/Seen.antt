@@ -33,3 +33,8 @@ pub record ReportSeen : Type 0 where
 
 abbrev pub report_seen : Report → ReportSeen
 report_seen r = record { hops = r.hops; limit = r.limit; records = map record_seen r.records.items; refuted = r.refuted; complete = r.complete }
+
+-- what the line of a report of any records shows
+abbrev pub line_seen : ℕ → ℕ → List Record → ℕ → Bool → ReportSeen
+line_seen hops limit records refuted complete =
+    record { hops = hops; limit = limit; records = map record_seen records; refuted = refuted; complete = complete }

@@ -1,0 +1,5 @@
+pub mod Fitting
+pub mod Found
+pub mod Lists
+pub mod Places
+pub mod Ways
