@@ -15,7 +15,7 @@ use Rattle.run_answers.specs.declared.ending.Ending.{Ending}
 use Rattle.run_answers.specs.declared.ending.Ending.TheVariants.{Done, Partial}
 use Rattle.run_answers.specs.declared.fault.OwnFault.{OwnFault}
 use Rattle.run_answers.specs.declared.fault.OwnFault.TheVariants as own
-use Rattle.ask_command.specs.Asks.{IsEnding}
+use Rattle.explore_command.specs.Explores.{IsEnding}
 
 -- the refusal of a question
 abbrev pub refused_by : ℕ → AskFault → OwnFault

@@ -1,9 +1,7 @@
 -- What `ask` writes of an accepted job.
 use Rattle.std.specs.Prelude.{ℕ, ◌≡◌, List, [], ◌∷◌, ◌++◌, ◌⊎◌, length}
-use Rattle.std.specs.List.{AllByRecursion}
 use Rattle.sefl_syntax.specs.Trees.{AskTree}
 use Rattle.net_check.specs.Network.{Network, Entry}
-use Rattle.exact_records.specs.Exact.{IsTried, IsUnexplored, SomeOne}
 use Rattle.exact_records.specs.Packets.{AreExactFor}
 use Rattle.exact_records.specs.Records.{RecordTree}
 use Rattle.question_meaning.specs.Placing.{Asks, IsMisplaced, IsNotInjected}
@@ -12,15 +10,10 @@ use Rattle.queries.specs.Answers.{AreReplies, Reply}
 use Rattle.run_answers.specs.Inputs.{Given, a_net}
 use Rattle.run_answers.specs.Runs.{Outcome, text, refused}
 use Rattle.run_answers.specs.declared.ending.Ending.{Ending}
-use Rattle.run_answers.specs.declared.ending.Ending.TheVariants.{Done, Partial}
 use Rattle.run_answers.specs.declared.fault.OwnFault.{OwnFault}
 use Rattle.run_answers.specs.declared.fault.OwnFault.TheVariants.{BadAsk, NoMemory}
+use Rattle.explore_command.specs.Explores.{IsEnding}
 use Rattle.ask_command.specs.Texts.{answers_text}
-
--- each record was tried; or one was not
-abbrev pub IsEnding : Ending → List RecordTree → Type 0
-IsEnding Done rs = AllByRecursion IsTried rs
-IsEnding Partial rs = SomeOne IsUnexplored rs
 
 module _ (net : Network) (i : Entry) where
   -- the words ask these questions, in order

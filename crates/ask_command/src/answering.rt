@@ -97,7 +97,7 @@ fn answer_with<M: Mark, L: Ledger>(
         failed,
         ..
     } = asking;
-    // Where memory ended in the midst of the questions, the exploration told so.
+    // Neither comes: where memory ended in the midst of the questions, `explore_into` has answered so.
     if failed || questions.len() != kept.len() {
         return Err(NoMemory);
     }

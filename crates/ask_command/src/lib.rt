@@ -3,6 +3,7 @@
 
 mod answering;
 mod ask;
+pub mod laws;
 mod text;
 
 pub use ask::Ask;

@@ -17,4 +17,3 @@ pub use fault::Unread;
 pub use item::Item;
 pub use numeral::number;
 pub use statement::read_items;
-pub use token::{Token, TokenKind, next_token};

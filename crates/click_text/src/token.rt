@@ -8,7 +8,7 @@ use crate::front::front_of;
 
 /// What a token is.
 #[derive(Clone, Copy)]
-pub enum TokenKind {
+pub(crate) enum TokenKind {
     /// A letter or `_`, then letters, digits and `_`: 64 bytes at most.
     Name,
     /// A digit, then letters, digits and `_`: it need not be a number.
@@ -34,7 +34,7 @@ pub enum TokenKind {
 
 /// A token with the line that it begins in. Lines count from 1.
 #[derive(Clone, Copy)]
-pub struct Token<'a> {
+pub(crate) struct Token<'a> {
     pub kind: TokenKind,
     pub line: u64,
     pub word: &'a [u8],
@@ -42,7 +42,7 @@ pub struct Token<'a> {
 
 /// The first token of the bytes, which begin in the line `line`, and what follows it with its line;
 /// nothing follows the end.
-pub fn next_token(bytes: &[u8], line: u64) -> (Token<'_>, Option<(&[u8], u64)>)
+pub(crate) fn next_token(bytes: &[u8], line: u64) -> (Token<'_>, Option<(&[u8], u64)>)
     requires room { line + length bytes.now < 2 ^ 64 }
     ensures last { IfNone result.1 (tokens_from line bytes.now ≡ seen result.0 ∷ []) }
     ensures more { IfSome result.1 (λ behind. tokens_from line bytes.now

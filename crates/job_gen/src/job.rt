@@ -104,7 +104,7 @@ fn injection(alloc: Global) -> Result<RawInjection, NoMemory>
 
 /// The job of so many boxes that grows from the seed, as a tree: box i is linked to the boxes 2i + 1 and 2i + 2, and cuts the
 /// addresses that come to it in two, at a place that the seed draws. Each box counts the packet's time to live down, and fails
-/// where it is at most 1. So of n boxes n + 1 paths are delivered, and n fail.
+/// where it is at most 1.
 pub fn grow(alloc: Global, seed: u64, boxes: u32) -> Result<Job, NoMemory>
     ensures { IfOk result (λ job. job_tree job ≡ grown seed boxes) }
 {

@@ -27,7 +27,10 @@ pub enum InputFault {
 /// Why the own work of a command gives no text, though all inputs are good.
 #[derive(Drop)]
 pub enum OwnFault {
-    /// The line of the file is the first that breaks a rule, whose kind is that of a job's table.
+    /// The line of the file is the first that breaks a rule. Of a table the kind is 1 to 3, as of a job's table. Of a Click
+    /// configuration it is 1 for a token that the grammar does not allow, 2 for a name that is declared again, 3 for the first
+    /// declaration past the limit, 4 for a class that there is not, 5 for its arguments, 6 for a port that is not free, and 7 for a
+    /// name that is declared nowhere.
     BadTable { name: Text, line: u64, kind: u8 },
     /// The packet does not start: the kind is 1 for too few numbers, 2 for one that is too wide, and 3 for a test of
     /// the injection that is not true; 4 where the packet's file is no list of numbers.
@@ -36,11 +39,13 @@ pub enum OwnFault {
     TooMany { count: u64 },
     /// The file is no report: 1 for bytes that are no JSON, 2 for the place, as a JSON pointer, that has not its shape.
     BadReport { kind: u8, pointer: Text },
-    /// The record of this number has not the meaning that it states.
+    /// The record of this number is the first that has not the meaning that it states: the kind is 1 where it is not taken, 2 where
+    /// it is not refuted, 3 where its end, places or fields differ, and 4 where its cause is not lawful.
     NotConfirmed { number: u64, kind: u8 },
-    /// The question of this number names no place of the net, 1, or no injected field, 2.
+    /// The question of this number is the first that names no place of the net, or an input port where packets are to be delivered, 1;
+    /// or no injected field, 2.
     BadAsk { number: u64, kind: u8 },
-    /// The two jobs cannot be compared, for what these numbers name.
+    /// The two jobs cannot be compared, for what these numbers name. No command compares jobs yet.
     BadCompare { kind: u8, one: u64, other: u64 },
     NoMemory,
 }

@@ -25,11 +25,11 @@ use Rattle.run_answers.specs.declared.fault.OwnFault.TheVariants as working
 use Rattle.explore_command.specs.Explores.{ReportsOf}
 use Rattle.symnet_program.specs.Commands.{inputs, sides_of, work}
 use Rattle.symnet_program.specs.Program.{Cause, Comes, IsCaused}
-use Rattle.symnet_program.specs.Status.{IsStopped, IsWritten, MayBeBad, input_status, outcome_status}
+use Rattle.exit_status.specs.Status.{IsStopped, IsUnread, IsWritten, MayBeBad, input_status, outcome_status}
 use Rattle.command_words.specs.Commands.{Command, explore}
 use Rattle.command_words.specs.declared.command.Pruned.{Pruned}
-use Rattle.symnet_program.specs.declared.status.Status.{Status}
-use Rattle.symnet_program.specs.declared.status.Status.TheVariants.{Done, NoMemory, Usage, NoFile, ReadFault, WriteFault, TooBig, Syntax, BadPattern, Refused, BadTable, BadPacket, Partial, TooMany, BadReport, NotConfirmed, BadAsk, BadCompare}
+use Rattle.exit_status.specs.declared.status.Status.{Status}
+use Rattle.exit_status.specs.declared.status.Status.TheVariants.{Done, NoMemory, Usage, NoFile, ReadFault, WriteFault, TooBig, Syntax, BadPattern, Refused, BadTable, BadPacket, Partial, TooMany, BadReport, NotConfirmed, BadAsk, BadCompare}
 
 some_and : {T : Type 0} (o : Option T) (P : T → Type 0) → IsSomeAnd o P → (x : T) × (o ≡ Some x) × P x
 some_and None P h = absurd h
@@ -43,7 +43,7 @@ abbrev tree_or : OutcomeOf → JobTree → JobTree
 tree_or (job_outcome j) other = j
 tree_or _ other = other
 
--- the files of tables are refused for what a world decides, or the run was stopped
+-- the files of tables are refused for what a world decides, or for one that was not read
 no_pattern : (p : World) (ds : List DeclTree) (site : Site) → FirstUnfilled (Some p.at) ds (input.BadPattern site) → ⊥
 no_pattern p [] site h = h
 no_pattern p (d ∷ ds) site (inl h) = by d.body h
@@ -54,7 +54,7 @@ no_pattern p (d ∷ ds) site (inl h) = by d.body h
     by (table kind name style) (inr (bytes, has, h)) = h
 no_pattern p (d ∷ ds) site (inr (node, is, h)) = no_pattern p ds site h
 
-settled_or : (p : World) (ds : List DeclTree) (fault : InputFault) → FirstUnfilled (Some p.at) ds fault → IsSettled p fault ⊎ IsStopped (input_status fault)
+settled_or : (p : World) (ds : List DeclTree) (fault : InputFault) → FirstUnfilled (Some p.at) ds fault → IsSettled p fault ⊎ IsUnread (input_status fault)
 settled_or p ds (input.ReadFault own) h = inr tt
 settled_or p ds input.NoMemory h = inr tt
 settled_or p ds (input.BadPattern site) h = absurd (no_pattern p ds site h)
@@ -70,6 +70,12 @@ pub record FilledOnce (p : World) : Type 0 where
   pub excludes : (j full : JobTree) (f : InputFault) → IsSettled p f → IsFilled (Some p.at) j full → FirstUnfilled (Some p.at) j.net.nodes f → ⊥
   pub first : (j : JobTree) (f g : InputFault) → IsSettled p f → IsSettled p g → FirstUnfilled (Some p.at) j.net.nodes f → FirstUnfilled (Some p.at) j.net.nodes g
       → f ≡ g
+
+-- then the run was stopped
+pub unread_stops : (status : Status) → IsUnread status → IsStopped status
+unread_stops NoMemory h = tt
+unread_stops (ReadFault name) h = tt
+unread_stops status h = absurd h
 
 module _ (p : World) (name : List ℕ) (rest : List Input) (w : OwnWork) where
   -- behind the job, which gave this: the run was stopped; or the inputs were good, and the own work came to an outcome; or an
@@ -90,7 +96,7 @@ module _ (p : World) (name : List ℕ) (rest : List Input) (w : OwnWork) where
 
   -- with what is under the name
   pub data FileCase (status : Status) : Type 0 where
-    is_stopped : IsStopped status → FileCase status
+    is_unread : IsUnread status → FileCase status
     is_missing : p.at name ≡ None → status ≡ NoFile name → FileCase status
     is_long : (bytes : List ℕ) → p.at name ≡ Some bytes → FILE_LIMIT < length bytes → status ≡ TooBig name → FileCase status
     has_flaw : (bytes : List ℕ) (flaw : Flaw) → p.at name ≡ Some bytes → length bytes ≤ FILE_LIMIT → IsOnlyFlaw bytes flaw
@@ -99,17 +105,17 @@ module _ (p : World) (name : List ℕ) (rest : List Input) (w : OwnWork) where
 
   of_load : (fault : InputFault) → LoadFails (Some p.at) FILE_LIMIT name fault → FileCase (input_status fault)
   of_load (input.NoFile own) h = is_missing (h.1 p.at refl) (ap NoFile h.0)
-  of_load (input.ReadFault own) h = is_stopped tt
+  of_load (input.ReadFault own) h = is_unread tt
   of_load (input.TooBig own) h =
       let (bytes, has, long) = some_and (p.at name) (λ bytes. FILE_LIMIT < length bytes) (h.1 p.at refl) in
       is_long bytes has long (ap TooBig h.0)
-  of_load input.NoMemory h = is_stopped tt
+  of_load input.NoMemory h = is_unread tt
   of_load fault h = absurd h
 
   of_text : (fault : InputFault) (bytes : List ℕ) → HasFile (Some p.at) FILE_LIMIT name bytes → ReadFails bytes fault → FileCase (input_status fault)
   of_text (input.Syntax line column kind) bytes has h =
       has_flaw bytes (record { line = line; column = column; kind = kind }) (has.1 p.at refl) has.0 h refl
-  of_text input.NoMemory bytes has h = is_stopped tt
+  of_text input.NoMemory bytes has h = is_unread tt
   of_text fault bytes has h = absurd h
 
   with_job : (status : Status) (j : JobTree) → HasJob (Some p.at) name j → JobCase j status → FileCase status
@@ -118,15 +124,15 @@ module _ (p : World) (name : List ℕ) (rest : List Input) (w : OwnWork) where
   of_tables : (fault : InputFault) (j : JobTree) → HasJob (Some p.at) name j → FirstUnfilled (Some p.at) j.net.nodes fault → FileCase (input_status fault)
   of_tables fault j has h = by (settled_or p j.net.nodes fault h)
     where
-      by : IsSettled p fault ⊎ IsStopped (input_status fault) → FileCase (input_status fault)
+      by : IsSettled p fault ⊎ IsUnread (input_status fault) → FileCase (input_status fault)
       by (inl settled) = with_job (input_status fault) j has (is_unfilled fault settled h refl)
-      by (inr stopped) = is_stopped stopped
+      by (inr stopped) = is_unread stopped
 
   of_accept : (fault : InputFault) (j full : JobTree) → HasJob (Some p.at) name j → IsFilled (Some p.at) j full → AcceptFails (world p).refuses tt full fault tt
       → FileCase (input_status fault)
   of_accept (input.Refused site kind) j full has filled h = with_job (Refused site kind) j has (breaks_rule full site kind filled h.0 refl)
   of_accept (input.BadPattern site) j full has filled h = with_job (BadPattern site) j has (has_bad full site filled h refl)
-  of_accept input.NoMemory j full has filled h = is_stopped tt
+  of_accept input.NoMemory j full has filled h = is_unread tt
   of_accept fault j full has filled h = absurd h
 
   of_fault : (fault : InputFault) → Fails (world p) tt (a_job name) fault tt → FileCase (input_status fault)
@@ -149,11 +155,11 @@ module _ (p : World) (name : List ℕ) (rest : List Input) (w : OwnWork) where
 
   of_cause : (status : Status) → Cause (world p) tt tt (a_job name ∷ rest) w status → FileCase status
   of_cause Done h = comes (text ending.Done h.0) h.1
-  of_cause NoMemory h = is_stopped tt
+  of_cause NoMemory h = is_unread tt
   of_cause Usage h = absurd h
   of_cause (NoFile own) h = stops (input.NoFile own) h
-  of_cause (ReadFault own) h = is_stopped tt
-  of_cause WriteFault h = is_stopped tt
+  of_cause (ReadFault own) h = is_unread tt
+  of_cause WriteFault (given, (g, m, opens, others, more, same)) = of_opens WriteFault g opens (inl tt)
   of_cause (TooBig own) h = stops (input.TooBig own) h
   of_cause (Syntax line column kind) h = stops (input.Syntax line column kind) h
   of_cause (BadPattern site) h = stops (input.BadPattern site) h
@@ -180,8 +186,8 @@ module _ (p : World) (name : List ℕ) (rest : List Input) (w : OwnWork) (status
   too_long : (a b : List ℕ) → a ≡ b → FILE_LIMIT < length a → length b ≤ FILE_LIMIT → ⊥
   too_long a b same long short = let lengths : length a ≡ length b = ap length same in absurd (omega (arith, lengths, long, short))
 
-  pub absent_in : p.at name ≡ None → FileCase p name rest w status → (status ≡ NoFile name) ⊎ IsStopped status
-  absent_in none (is_stopped h) = inr h
+  pub absent_in : p.at name ≡ None → FileCase p name rest w status → (status ≡ NoFile name) ⊎ IsUnread status
+  absent_in none (is_unread h) = inr h
   absent_in none (is_missing own is) = inl is
   absent_in none (is_long bytes has long is) = absurd (none-some bytes (sym none ∙ has))
   absent_in none (has_flaw bytes flaw has short only is) = absurd (none-some bytes (sym none ∙ has))
@@ -191,8 +197,8 @@ module _ (p : World) (name : List ℕ) (rest : List Input) (w : OwnWork) (status
     same_bytes : (own : List ℕ) → p.at name ≡ Some own → bytes ≡ own
     same_bytes own has = same_Some bytes own (sym is ∙ has)
 
-    pub long_in : FILE_LIMIT < length bytes → FileCase p name rest w status → (status ≡ TooBig name) ⊎ IsStopped status
-    long_in long (is_stopped h) = inr h
+    pub long_in : FILE_LIMIT < length bytes → FileCase p name rest w status → (status ≡ TooBig name) ⊎ IsUnread status
+    long_in long (is_unread h) = inr h
     long_in long (is_missing none told) = absurd (none-some bytes (sym none ∙ is))
     long_in long (is_long own has more told) = inl told
     long_in long (has_flaw own flaw has short only told) = absurd (too_long bytes own (same_bytes own has) long short)
@@ -207,8 +213,8 @@ module _ (p : World) (name : List ℕ) (rest : List Input) (w : OwnWork) (status
         none-some flaw (sym (ap (flaw_of own) (only.only outcome (subst (λ b. IsOutcome b outcome) same so))) ∙ subst (λ b. flaw_of b outcome ≡ Some flaw) same has)
 
     pub flawed_in : (flaw : Flaw) → length bytes ≤ FILE_LIMIT → HasFlaw bytes flaw → FileCase p name rest w status
-        → (status ≡ Syntax flaw.line flaw.column flaw.kind) ⊎ IsStopped status
-    flawed_in flaw short wrong (is_stopped h) = inr h
+        → (status ≡ Syntax flaw.line flaw.column flaw.kind) ⊎ IsUnread status
+    flawed_in flaw short wrong (is_unread h) = inr h
     flawed_in flaw short wrong (is_missing none told) = absurd (none-some bytes (sym none ∙ is))
     flawed_in flaw short wrong (is_long own has long told) = absurd (too_long own bytes (sym (same_bytes own has)) long short)
     flawed_in flaw short wrong (has_flaw own other has less only told) =
@@ -216,8 +222,8 @@ module _ (p : World) (name : List ℕ) (rest : List Input) (w : OwnWork) (status
     flawed_in flaw short wrong (has_job own j has less only h) = absurd (flaw_or_job own flaw j (same_bytes own has) only wrong)
 
     -- of bytes that are a text of the job
-    pub job_in : (j : JobTree) → length bytes ≤ FILE_LIMIT → IsTextOf j bytes → FileCase p name rest w status → JobCase p name rest w j status ⊎ IsStopped status
-    job_in j short spells (is_stopped h) = inr h
+    pub job_in : (j : JobTree) → length bytes ≤ FILE_LIMIT → IsTextOf j bytes → FileCase p name rest w status → JobCase p name rest w j status ⊎ IsUnread status
+    job_in j short spells (is_unread h) = inr h
     job_in j short spells (is_missing none told) = absurd (none-some bytes (sym none ∙ is))
     job_in j short spells (is_long own has long told) = absurd (too_long own bytes (sym (same_bytes own has)) long short)
     job_in j short spells (has_flaw own flaw has less only told) =
@@ -227,8 +233,8 @@ module _ (p : World) (name : List ℕ) (rest : List Input) (w : OwnWork) (status
         inl (subst (λ t. JobCase p name rest w t status) (sym one) h)
 
   module _ (once : FilledOnce p) where
-    pub tables_in : (j : JobTree) (fault : InputFault) → FirstUnfilled (Some p.at) j.net.nodes fault → IsSettled p fault → JobCase p name rest w j status ⊎ IsStopped status
-        → (status ≡ input_status fault) ⊎ IsStopped status
+    pub tables_in : (j : JobTree) (fault : InputFault) → FirstUnfilled (Some p.at) j.net.nodes fault → IsSettled p fault → JobCase p name rest w j status ⊎ IsUnread status
+        → (status ≡ input_status fault) ⊎ IsUnread status
     tables_in j fault fails settled (inr h) = inr h
     tables_in j fault fails settled (inl (is_unfilled own own_settled own_fails is)) =
         inl (is ∙ ap input_status (once.first j own fault own_settled settled own_fails fails))
@@ -248,7 +254,7 @@ module _ (p : World) (name : List ℕ) (rest : List Input) (w : OwnWork) (status
 
   module _ (once : FilledOnce p) (j full : JobTree) (filled : IsFilled (Some p.at) j full) where
     pub refused_in : (site : Site) (rule : Rule) → refusal full ≡ Some (site.0, rule)
-        → JobCase p name rest w j status ⊎ IsStopped status → (status ≡ input_status (fault_by_rule site rule)) ⊎ IsStopped status
+        → JobCase p name rest w j status ⊎ IsUnread status → (status ≡ input_status (fault_by_rule site rule)) ⊎ IsUnread status
     refused_in site rule breaks (inr h) = inr h
     refused_in site rule breaks (inl (is_unfilled fault settled fails is)) = absurd (once.excludes j full fault settled filled fails)
     refused_in site rule breaks (inl (breaks_rule own at kind own_filled own_breaks is)) =
@@ -259,7 +265,7 @@ module _ (p : World) (name : List ℕ) (rest : List Input) (w : OwnWork) (status
         absurd (sound_or_broken full site rule (subst IsSound (once.full j own full own_filled filled) taken.0) breaks)
 
     pub bad_in : (site : Site) (is_bad : List ℕ → Bool) → IsSound full → p.is_bad ≡ Some is_bad → first_bad is_bad full ≡ Some site.0
-        → JobCase p name rest w j status ⊎ IsStopped status → (status ≡ BadPattern site) ⊎ IsStopped status
+        → JobCase p name rest w j status ⊎ IsUnread status → (status ≡ BadPattern site) ⊎ IsUnread status
     bad_in site is_bad sound tells first (inr h) = inr h
     bad_in site is_bad sound tells first (inl (is_unfilled fault settled fails is)) = absurd (once.excludes j full fault settled filled fails)
     bad_in site is_bad sound tells first (inl (breaks_rule own at kind own_filled breaks is)) =
@@ -291,8 +297,8 @@ module _ (p : World) (name : List ℕ) (hops limit : ℕ) (pruned : Pruned) (sta
   written net i (refused fault) is h = absurd h
 
   -- of a job that with code for its tables breaks no rule
-  pub explored_in : FilledOnce p → (j full : JobTree) → IsFilled (Some p.at) j full → IsSound full → Explored j ⊎ IsStopped status → IsWritten status ⊎ MayBeBad status
-  explored_in once j full filled sound (inr h) = inr (inl h)
+  pub explored_in : FilledOnce p → (j full : JobTree) → IsFilled (Some p.at) j full → IsSound full → Explored j ⊎ IsUnread status → IsWritten status ⊎ MayBeBad status
+  explored_in once j full filled sound (inr h) = inr (inl (unread_stops status h))
   explored_in once j full filled sound (inl (is_unfilled fault settled fails is)) = absurd (once.excludes j full fault settled filled fails)
   explored_in once j full filled sound (inl (breaks_rule own at kind own_filled breaks is)) =
       absurd (sound_or_refused own at kind (subst IsSound (sym (once.full j own full own_filled filled)) sound) breaks)

@@ -8,9 +8,9 @@ use Rattle.run_answers.specs.declared.fault.InputFault.{InputFault}
 use Rattle.run_answers.specs.declared.fault.InputFault.TheVariants as input
 use Rattle.run_answers.specs.declared.fault.OwnFault.TheVariants as own
 use Rattle.symnet_program.specs.Program.{Cause, Comes}
-use Rattle.symnet_program.specs.Status.{MayStop, outcome_status}
-use Rattle.symnet_program.specs.declared.status.Status.{Status}
-use Rattle.symnet_program.specs.declared.status.Status.TheVariants.{Done, NoMemory, Usage, NoFile, ReadFault, WriteFault, TooBig, Syntax, BadPattern, Refused, BadTable, BadPacket, Partial, TooMany, BadReport, NotConfirmed, BadAsk, BadCompare}
+use Rattle.exit_status.specs.Status.{MayStop, outcome_status}
+use Rattle.exit_status.specs.declared.status.Status.{Status}
+use Rattle.exit_status.specs.declared.status.Status.TheVariants.{Done, NoMemory, Usage, NoFile, ReadFault, WriteFault, TooBig, Syntax, BadPattern, Refused, BadTable, BadPacket, Partial, TooMany, BadReport, NotConfirmed, BadAsk, BadCompare}
 
 module _ (is : List Input) (w : OwnWork) (p : World) (given : List Given)
     (once : (other : List Given) → AllOpen (world p) tt is other tt → other ≡ given)

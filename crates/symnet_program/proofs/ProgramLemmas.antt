@@ -16,7 +16,7 @@ use Rattle.run_answers.specs.declared.ending.Ending.TheVariants as ending
 use Rattle.run_answers.specs.declared.ending.Stop.{Stop}
 use Rattle.run_answers.specs.declared.ending.Stop.TheVariants.{Input as ByInput, Own, Write, NoMemory as NoRoom}
 use Rattle.symnet_program.proofs.ToldLemmas.{first_told, all_told}
-use Rattle.symnet_program.specs.Status.{MayStop, input_status, own_status, status_of}
+use Rattle.exit_status.specs.Status.{MayBeUnread, input_status, own_status, status_of}
 use Rattle.symnet_program.specs.Commands.{inputs, sides_of, work}
 use Rattle.explore_command.specs.Explores.{IsReport}
 use Rattle.explore_command.specs.Headline.{IsHeadline}
@@ -24,8 +24,8 @@ use Rattle.symnet_program.specs.Headline.{TellsJob}
 use Rattle.command_words.specs.Commands.{Command, explore}
 use Rattle.command_words.specs.declared.command.Pruned.{Pruned}
 use Rattle.symnet_program.specs.Program.{Cause, Comes, IsAnswered, IsCaused, MayWrite, RefusesInput, Shown, Stops, Writes}
-use Rattle.symnet_program.specs.declared.status.Status.{Status}
-use Rattle.symnet_program.specs.declared.status.Status.TheVariants.{Done, NoMemory, Usage, NoFile, ReadFault, WriteFault, TooBig, Syntax, BadPattern, Refused, BadTable, BadPacket, Partial, TooMany, BadReport, NotConfirmed, BadAsk, BadCompare}
+use Rattle.exit_status.specs.declared.status.Status.{Status}
+use Rattle.exit_status.specs.declared.status.Status.TheVariants.{Done, NoMemory, Usage, NoFile, ReadFault, WriteFault, TooBig, Syntax, BadPattern, Refused, BadTable, BadPacket, Partial, TooMany, BadReport, NotConfirmed, BadAsk, BadCompare}
 
 gains_nothing : (known now : Option (List ℕ)) → now ≡ known → now ≡ append_known known []
 gains_nothing None now same = same
@@ -162,24 +162,24 @@ pub record Decides (p : World) : Type 0 where
 
 -- an input that is refused in the world is refused
 module _ (is : List Input) (w : OwnWork) (p : World) (decides : Decides p) (fault : InputFault) (settled : IsSettled p fault) (fails : FirstFails (world p) tt is fault tt) where
-  one : (other : InputFault) → IsSettled p other → Stops (world p) tt tt is w other → (input_status other ≡ input_status fault) ⊎ MayStop p (input_status other)
+  one : (other : InputFault) → IsSettled p other → Stops (world p) tt tt is w other → (input_status other ≡ input_status fault) ⊎ MayBeUnread p (input_status other)
   one other s h = inl (ap input_status (decides.first is other fault s settled h fails))
 
   none : {A : Type 0} (outcome : Outcome) → Comes (world p) tt tt is w outcome → A
   none outcome (given, opened, h) = absurd (decides.excludes is given fault settled opened fails)
 
-  pub exact_of : (status : Status) → Cause (world p) tt tt is w status → (status ≡ input_status fault) ⊎ MayStop p status
+  pub exact_of : (status : Status) → Cause (world p) tt tt is w status → (status ≡ input_status fault) ⊎ MayBeUnread p status
   exact_of Done h = none (text ending.Done h.0) h.1
   exact_of NoMemory h = inr tt
   exact_of Usage h = absurd h
   exact_of (NoFile name) h = one (input.NoFile name) tt h
   exact_of (ReadFault name) h = inr tt
-  exact_of WriteFault h = inr tt
+  exact_of WriteFault (given, opened) = absurd (decides.excludes is given fault settled opened fails)
   exact_of (TooBig name) h = one (input.TooBig name) tt h
   exact_of (Syntax line column kind) h = one (input.Syntax line column kind) tt h
   exact_of (BadPattern site) h = by p.is_bad refl
     where
-      by : (told : Option (List ℕ → Bool)) → p.is_bad ≡ told → (BadPattern site ≡ input_status fault) ⊎ MayStop p (BadPattern site)
+      by : (told : Option (List ℕ → Bool)) → p.is_bad ≡ told → (BadPattern site ≡ input_status fault) ⊎ MayBeUnread p (BadPattern site)
       by None is = inr is
       by (Some is_bad) is = one (input.BadPattern site) (is_bad, is) h
   exact_of (Refused site kind) h = one (input.Refused site kind) tt h
@@ -259,7 +259,7 @@ module _ {S : Type 0} (files : Option (List ℕ → Option (List ℕ))) (matches
       subst (λ r. IsCaused (world p) tt tt r status) named (told_of files matches bad refusals gives u v (inputs c) (work c) p told status caused)
 
   pub exact_said : (command : Command) (p : World) (fault : InputFault) → Decides p → said ≡ Some command → Tells files matches bad u p
-      → FirstFails (world p) tt (inputs command) fault tt → IsSettled p fault → (status ≡ input_status fault) ⊎ MayStop p status
+      → FirstFails (world p) tt (inputs command) fault tt → IsSettled p fault → (status ≡ input_status fault) ⊎ MayBeUnread p status
   exact_said command p fault decides is told fails settled =
       exact_of (inputs command) (work command) p decides fault settled fails status
       (subst (λ r. IsCaused (world p) tt tt r status) is (told_said p told))

@@ -18,12 +18,12 @@ use Rattle.run_answers.specs.declared.fault.InputFault.TheVariants as input
 use Rattle.walk_command.specs.Walks.{WalksOf}
 use Rattle.symnet_program.specs.Commands.{inputs, work}
 use Rattle.symnet_program.specs.Program.{IsCaused}
-use Rattle.symnet_program.specs.Status.{IsStopped, MayBeBad, MayStop, input_status, outcome_status}
+use Rattle.exit_status.specs.Status.{IsUnread, MayBeBad, MayBeUnread, MayStop, OrBad, input_status, outcome_status}
 use Rattle.symnet_program.specs.Told.{TellsNet}
 use Rattle.command_words.specs.Commands.{walk}
-use Rattle.symnet_program.specs.declared.status.Status.{Status}
-use Rattle.symnet_program.specs.declared.status.Status.TheVariants.{NoMemory, NoFile, ReadFault, WriteFault, TooBig, BadPattern}
-use Rattle.symnet_program.proofs.CaseLemmas.{FilledOnce, JobCase, case_of, has_bad, is_unfilled, breaks_rule, is_taken, job_in, sound_or_refused}
+use Rattle.exit_status.specs.declared.status.Status.{Status}
+use Rattle.exit_status.specs.declared.status.Status.TheVariants.{NoMemory, NoFile, ReadFault, WriteFault, TooBig, BadPattern}
+use Rattle.symnet_program.proofs.CaseLemmas.{FilledOnce, JobCase, case_of, has_bad, is_unfilled, breaks_rule, is_taken, job_in, sound_or_refused, unread_stops}
 use Rattle.symnet_program.proofs.OwnLemmas.{own_told}
 use Rattle.symnet_program.proofs.ProgramLemmas.{Decides, exact_of}
 
@@ -34,13 +34,23 @@ stop_or_bad p WriteFault h = inl tt
 stop_or_bad p (BadPattern site) h = inr (site, refl)
 stop_or_bad p status h = absurd h
 
+unread_or_bad : (p : World) (status : Status) → MayBeUnread p status → OrBad IsUnread status
+unread_or_bad p NoMemory h = inl tt
+unread_or_bad p (ReadFault name) h = inl tt
+unread_or_bad p (BadPattern site) h = inr (site, refl)
+unread_or_bad p status h = absurd h
+
+weaker : (status : Status) → OrBad IsUnread status → MayBeBad status
+weaker status (inl h) = inl (unread_stops status h)
+weaker status (inr h) = inr h
+
 module _ (job packet : List ℕ) (hops limit : ℕ) (p : World) (status : Status) (net : Network) (i : Entry)
     (caused : IsCaused (world p) tt tt (Some (walk job packet hops limit)) status) (is : TellsNet p job net i) (filled_once : FilledOnce p) where
   -- the file has the job, and no pattern is bad; or the status tells why not
   abbrev IsGood : Type 0
   IsGood = HasFilled (Some p.at) job is.tree × ForSome p.is_bad (λ b. first_bad b is.tree ≡ None)
 
-  good_or : JobCase p job (a_file FILE_LIMIT packet ∷ []) (work (walk job packet hops limit)) is.job status ⊎ IsStopped status → IsGood ⊎ MayBeBad status
+  good_or : JobCase p job (a_file FILE_LIMIT packet ∷ []) (work (walk job packet hops limit)) is.job status ⊎ IsUnread status → IsGood ⊎ OrBad IsUnread status
   good_or (inr h) = inr (inl h)
   good_or (inl (is_unfilled fault settled fails told)) = absurd (filled_once.excludes is.job is.tree fault settled is.filled fails)
   good_or (inl (breaks_rule own site kind filled breaks told)) =
@@ -52,19 +62,15 @@ module _ (job packet : List ℕ) (hops limit : ℕ) (p : World) (status : Status
         subst (λ (t : JobTree). ForSome p.is_bad (λ b. first_bad b t ≡ None)) (filled_once.full is.job own is.tree filled is.filled) taken.4,
       )
 
-  good : IsGood ⊎ MayBeBad status
+  good : IsGood ⊎ OrBad IsUnread status
   good =
       good_or (job_in p job (a_file FILE_LIMIT packet ∷ []) (work (walk job packet hops limit)) status is.bytes is.file is.job is.short is.text
       (case_of p (walk job packet hops limit) job (a_file FILE_LIMIT packet ∷ []) refl status caused))
 
-  -- what is due of such a job, the run told, unless it was stopped or a pattern is bad
-  due : (told : Status) → (IsGood → (status ≡ told) ⊎ MayStop p status) → IsGood ⊎ MayBeBad status → (status ≡ told) ⊎ MayBeBad status
-  due told by (inr h) = inr h
-  due told by (inl h) = told_or (by h)
-    where
-      told_or : (status ≡ told) ⊎ MayStop p status → (status ≡ told) ⊎ MayBeBad status
-      told_or (inl h) = inl h
-      told_or (inr h) = inr (stop_or_bad p status h)
+  -- what is due of such a job, or of one that is not told
+  due : {T : Type 0} → (IsGood → T) → (OrBad IsUnread status → T) → IsGood ⊎ OrBad IsUnread status → T
+  due by other (inl h) = by h
+  due by other (inr h) = other h
 
   opens : IsGood → Opens (world p) tt (a_job job) (a_net net i is.tree.asks) tt
   opens (has, good) = (
@@ -78,17 +84,22 @@ module _ (job packet : List ℕ) (hops limit : ℕ) (p : World) (status : Status
 
   -- the packet's file is refused
   module _ (decides : Decides p) where
-    refused_file : (fault : InputFault) → IsSettled p fault → LoadFails (Some p.at) FILE_LIMIT packet fault → (status ≡ input_status fault) ⊎ MayBeBad status
+    refused_file : (fault : InputFault) → IsSettled p fault → LoadFails (Some p.at) FILE_LIMIT packet fault
+        → (status ≡ input_status fault) ⊎ OrBad IsUnread status
     refused_file fault settled fails =
-        due (input_status fault)
-        (λ h. exact_of (inputs (walk job packet hops limit)) (work (walk job packet hops limit)) p decides fault settled
-        (inr (a_net net i is.tree.asks, tt, opens h, inl (fails, refl))) status caused)
-        good
+        due
+        (λ h. told_or (exact_of (inputs (walk job packet hops limit)) (work (walk job packet hops limit)) p decides fault settled
+        (inr (a_net net i is.tree.asks, tt, opens h, inl (fails, refl))) status caused))
+        (λ h. inr h) good
+      where
+        told_or : (status ≡ input_status fault) ⊎ MayBeUnread p status → (status ≡ input_status fault) ⊎ OrBad IsUnread status
+        told_or (inl h) = inl h
+        told_or (inr h) = inr (unread_or_bad p status h)
 
-    pub absent_packet : p.at packet ≡ None → (status ≡ NoFile packet) ⊎ MayBeBad status
+    pub absent_packet : p.at packet ≡ None → (status ≡ NoFile packet) ⊎ OrBad IsUnread status
     absent_packet none = refused_file (input.NoFile packet) tt (refl, λ at told. subst (λ f. f packet ≡ None) (same_Some p.at at told) none)
 
-    pub long_packet : (bytes : List ℕ) → p.at packet ≡ Some bytes → FILE_LIMIT < length bytes → (status ≡ TooBig packet) ⊎ MayBeBad status
+    pub long_packet : (bytes : List ℕ) → p.at packet ≡ Some bytes → FILE_LIMIT < length bytes → (status ≡ TooBig packet) ⊎ OrBad IsUnread status
     long_packet bytes has long =
         refused_file (input.TooBig packet) tt (
           refl,
@@ -112,7 +123,7 @@ module _ (job packet : List ℕ) (hops limit : ℕ) (p : World) (status : Status
     )
 
     pub walked_packet : (status ≡ outcome_status outcome) ⊎ MayBeBad status
-    walked_packet = due (outcome_status outcome) (λ h. by (came h)) good
+    walked_packet = due (λ h. by (came h)) (λ h. inr (weaker status h)) good
       where
         came : IsGood → ((other : Outcome) × (work (walk job packet hops limit)).comes (a_net net i is.tree.asks ∷ some_bytes bytes ∷ []) other × (status ≡ outcome_status other)) ⊎ MayStop p status
         came h =
@@ -122,6 +133,6 @@ module _ (job packet : List ℕ) (hops limit : ℕ) (p : World) (status : Status
             status caused
 
         by : ((other : Outcome) × (work (walk job packet hops limit)).comes (a_net net i is.tree.asks ∷ some_bytes bytes ∷ []) other × (status ≡ outcome_status other)) ⊎ MayStop p status
-            → (status ≡ outcome_status outcome) ⊎ MayStop p status
+            → (status ≡ outcome_status outcome) ⊎ MayBeBad status
         by (inl (other, h, told)) = inl (told ∙ ap outcome_status (alone other h))
-        by (inr h) = inr h
+        by (inr h) = inr (stop_or_bad p status h)

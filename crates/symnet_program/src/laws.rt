@@ -22,37 +22,37 @@ ghost use Rattle.run_answers.specs.declared.limits.TheConstants.{FILE_LIMIT};
 ghost use Rattle.symnet_program.specs.Commands.{ReadsJob, inputs, work};
 ghost use Rattle.symnet_program.specs.Program.{IsCaused};
 ghost use Rattle.walk_command.specs.Walks.{WalksOf};
-ghost use Rattle.symnet_program.specs.Status.{IsStopped, IsWritten, MayBeBad, MayStop, input_status, outcome_status};
+ghost use Rattle.exit_status.specs.Status.{IsUnread, IsWritten, MayBeBad, MayStop, OrBad, input_status, outcome_status};
 ghost use Rattle.symnet_program.specs.Told.{TellsNet};
 ghost use Rattle.command_words.specs.Commands.{Command as CommandOf, explore, walk};
 ghost use Rattle.command_words.specs.declared.command.Pruned.{Pruned as PrunedOf};
-ghost use Rattle.symnet_program.specs.declared.status.Status.{Status as StatusOf};
-ghost use Rattle.symnet_program.specs.declared.status.Status.TheVariants.{BadPattern, NoFile, Syntax, TooBig};
+ghost use Rattle.exit_status.specs.declared.status.Status.{Status as StatusOf};
+ghost use Rattle.exit_status.specs.declared.status.Status.TheVariants.{BadPattern, NoFile, Syntax, TooBig};
 
 use run_answers::laws::{jobs_are_filled_once, worlds_decide};
 use walk_command::laws::walks_have_one_outcome;
 
-/// What is wrong with the job's file, or with the files of its tables, is told, unless the outside failed or there was no memory.
+/// What is wrong with the job's file, or with the files of its tables, is told, unless a file was not read or there was no memory.
 pub fn jobs_are_told()
     ensures absent { (command : CommandOf) (job : List ℕ) (w : World) (status : StatusOf) → ReadsJob command job → IsCaused (world w) tt tt (Some command) status
-        → w.at job ≡ None → (status ≡ NoFile job) ⊎ IsStopped status }
+        → w.at job ≡ None → (status ≡ NoFile job) ⊎ IsUnread status }
     ensures long { (command : CommandOf) (job : List ℕ) (w : World) (status : StatusOf) (bytes : List ℕ) → ReadsJob command job → IsCaused (world w) tt tt (Some command) status
-        → w.at job ≡ Some bytes → FILE_LIMIT < length bytes → (status ≡ TooBig job) ⊎ IsStopped status }
+        → w.at job ≡ Some bytes → FILE_LIMIT < length bytes → (status ≡ TooBig job) ⊎ IsUnread status }
     ensures flawed { (command : CommandOf) (job : List ℕ) (w : World) (status : StatusOf) (bytes : List ℕ) (flaw : Flaw)
         → ReadsJob command job → IsCaused (world w) tt tt (Some command) status → w.at job ≡ Some bytes → length bytes ≤ FILE_LIMIT
-        → HasFlaw bytes flaw → (status ≡ Syntax flaw.line flaw.column flaw.kind) ⊎ IsStopped status }
+        → HasFlaw bytes flaw → (status ≡ Syntax flaw.line flaw.column flaw.kind) ⊎ IsUnread status }
     ensures tables { (command : CommandOf) (job : List ℕ) (w : World) (status : StatusOf) (bytes : List ℕ) (j : JobTree) (fault : InputFault)
         → ReadsJob command job → IsCaused (world w) tt tt (Some command) status → w.at job ≡ Some bytes → length bytes ≤ FILE_LIMIT
         → IsTextOf j bytes → FirstUnfilled (Some w.at) j.net.nodes fault → IsSettled w fault
-        → (status ≡ input_status fault) ⊎ IsStopped status }
+        → (status ≡ input_status fault) ⊎ IsUnread status }
     ensures refused { (command : CommandOf) (job : List ℕ) (w : World) (status : StatusOf) (bytes : List ℕ) (j full : JobTree) (site : Site) (rule : Rule)
         → ReadsJob command job → IsCaused (world w) tt tt (Some command) status → w.at job ≡ Some bytes → length bytes ≤ FILE_LIMIT
         → IsTextOf j bytes → IsFilled (Some w.at) j full → refusal full ≡ Some (site.0, rule)
-        → (status ≡ input_status (fault_by_rule site rule)) ⊎ IsStopped status }
+        → (status ≡ input_status (fault_by_rule site rule)) ⊎ IsUnread status }
     ensures bad { (command : CommandOf) (job : List ℕ) (w : World) (status : StatusOf) (bytes : List ℕ) (j full : JobTree) (site : Site)
         → ReadsJob command job → IsCaused (world w) tt tt (Some command) status → w.at job ≡ Some bytes → length bytes ≤ FILE_LIMIT
         → IsTextOf j bytes → IsFilled (Some w.at) j full → IsSound full
-        → ForSome w.is_bad (λ is_bad. first_bad is_bad full ≡ Some site.0 → (status ≡ BadPattern site) ⊎ IsStopped status) }
+        → ForSome w.is_bad (λ is_bad. first_bad is_bad full ≡ Some site.0 → (status ≡ BadPattern site) ⊎ IsUnread status) }
 {
     jobs_are_filled_once();
 }
@@ -71,10 +71,10 @@ pub fn explored_jobs_are_told()
 pub fn walked_jobs_are_told()
     ensures absent { (job packet : List ℕ) (hops limit : ℕ) (w : World) (status : StatusOf) (net : Network) (i : Entry)
         → IsCaused (world w) tt tt (Some (walk job packet hops limit)) status → TellsNet w job net i
-        → w.at packet ≡ None → (status ≡ NoFile packet) ⊎ MayBeBad status }
+        → w.at packet ≡ None → (status ≡ NoFile packet) ⊎ OrBad IsUnread status }
     ensures long { (job packet : List ℕ) (hops limit : ℕ) (w : World) (status : StatusOf) (net : Network) (i : Entry) (bytes : List ℕ)
         → IsCaused (world w) tt tt (Some (walk job packet hops limit)) status → TellsNet w job net i
-        → w.at packet ≡ Some bytes → FILE_LIMIT < length bytes → (status ≡ TooBig packet) ⊎ MayBeBad status }
+        → w.at packet ≡ Some bytes → FILE_LIMIT < length bytes → (status ≡ TooBig packet) ⊎ OrBad IsUnread status }
     ensures walked { (job packet : List ℕ) (hops limit : ℕ) (w : World) (status : StatusOf) (net : Network) (i : Entry) (bytes : List ℕ) (outcome : Outcome)
         → IsCaused (world w) tt tt (Some (walk job packet hops limit)) status → TellsNet w job net i
         → w.at packet ≡ Some bytes → length bytes ≤ FILE_LIMIT → WalksOf hops limit net i (packet_of bytes) outcome

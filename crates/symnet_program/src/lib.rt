@@ -3,7 +3,5 @@
 
 pub mod laws;
 mod program;
-mod status;
 
 pub use program::symnet;
-pub use status::{Status, status_text};

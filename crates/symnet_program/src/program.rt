@@ -9,17 +9,17 @@ ghost use Rattle.run_answers.specs.declared.fault.InputFault.{InputFault as Inpu
 ghost use Rattle.symnet_program.specs.Commands.{inputs, kind_of, sides_of, style_of, work};
 ghost use Rattle.symnet_program.specs.Headline.{TellsJob};
 ghost use Rattle.symnet_program.specs.Program.{Cause, IsAnswered, IsCaused, MayWrite, RefusesInput, Shown};
-ghost use Rattle.symnet_program.specs.Status.{MayStop, input_status};
+ghost use Rattle.exit_status.specs.Status.{MayBeUnread, input_status};
 ghost use Rattle.command_words.specs.Commands.{Command as CommandOf, HasRanges, command_of, explore, reading};
 ghost use Rattle.command_words.specs.declared.command.Pruned.{Pruned as PrunedOf};
-ghost use Rattle.symnet_program.specs.declared.status.Status.{Status as StatusOf};
-ghost use Rattle.symnet_program.specs.declared.status.Status.TheVariants.{Done, Usage};
+ghost use Rattle.exit_status.specs.declared.status.Status.{Status as StatusOf};
+ghost use Rattle.exit_status.specs.declared.status.Status.TheVariants.{Done, Usage};
 
-use crate::status::{Status, status_of};
 use ask_command::Ask;
 use click_command::ClickModel;
 use command_runs::{Piece, run};
 use command_words::{Command, LIMIT, Pruned, Style, Table, reading};
+use exit_status::{Status, status_of};
 use explore_command::laws::finished_reports_tell_all;
 use explore_command::{Explore, RecordLimit, RefutedSides};
 use grow_command::{Grow, GrownJob};
@@ -200,12 +200,13 @@ pub fn symnet<F: Folder, P: Patterns, K: Sink>(
         × TellsJob (outside (F.files folder.old) P.matches P.bad_patterns P.refusals P.find_gives) patterns.old patterns.new job hops limit (sides_of pruned) whole
         × (K.taken out.new ≡ append_known (K.taken out.old) whole) }
 
-    // Where the outside tells a world, the cause is one in that world; and an input that is refused there is refused.
+    // Where the outside tells a world, the cause is one in that world; and an input that is refused there is refused, unless a file was
+    // not read or there was no memory.
     ensures told { (w : World) → Tells (F.files folder.old) P.matches P.bad_patterns patterns.old w
         → IsCaused (world w) tt tt (reading words.now) result }
     ensures exact { (command : CommandOf) (w : World) (fault : InputFaultOf) → reading words.now ≡ Some command
         → Tells (F.files folder.old) P.matches P.bad_patterns patterns.old w
-        → FirstFails (world w) tt (inputs command) fault tt → IsSettled w fault → (result ≡ input_status fault) ⊎ MayStop w result }
+        → FirstFails (world w) tt (inputs command) fault tt → IsSettled w fault → (result ≡ input_status fault) ⊎ MayBeUnread w result }
 
     // Where the words have a reading, no count rose and nothing that was read is refused, the command ran to its end.
     ensures complete { (command : CommandOf) → reading words.now ≡ Some command → F.faults folder.new ≡ F.faults folder.old

@@ -1,21 +1,13 @@
 //! Runs worked rows of the program `symnet`, from the tables that the words name.
 #![tactic(auto)]
 
-mod compare;
-mod flaw;
-mod line;
-mod piece;
-mod row;
 mod run;
-mod table;
 
-use compare::differences;
-use row::Row;
+use row_tables::{Row, differences, read_table};
 use run::run_given;
 use std::process::ExitCode;
 use std::rt::Files;
 use std::{env, fs, io};
-use table::read_table;
 
 /// Runs a row, and prints what differs. Whether nothing does.
 fn run_row<R: Print + AllocGlobal>(rt: &R, table: &str, row: Row) -> io::Result<bool> {

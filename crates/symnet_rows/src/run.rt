@@ -1,9 +1,10 @@
 //! Runs of rows.
 
-use crate::row::{Ending, Given};
+use exit_status::{Status, status_text};
+use row_tables::{Ending, Given};
 use sn_edge::{MemFolder, MemPatterns, MemSink};
 use std::alloc::{AllocError, Global};
-use symnet_program::{Status, status_text, symnet};
+use symnet_program::symnet;
 
 /// Runs the program over what a row gives, and tells how the run ended.
 pub fn run_given(alloc: Global, given: Given) -> Result<Ending, AllocError> {

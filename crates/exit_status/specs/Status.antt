@@ -11,8 +11,8 @@ use Rattle.run_answers.specs.declared.fault.InputFault.{InputFault}
 use Rattle.run_answers.specs.declared.fault.InputFault.TheVariants as input
 use Rattle.run_answers.specs.declared.fault.OwnFault.{OwnFault}
 use Rattle.run_answers.specs.declared.fault.OwnFault.TheVariants as own
-use Rattle.symnet_program.specs.declared.status.Status.{Status}
-use Rattle.symnet_program.specs.declared.status.Status.TheVariants.{Done, NoMemory, Usage, NoFile, ReadFault, WriteFault, TooBig, Syntax, BadPattern, Refused, BadTable, BadPacket, Partial, TooMany, BadReport, NotConfirmed, BadAsk, BadCompare}
+use Rattle.exit_status.specs.declared.status.Status.{Status}
+use Rattle.exit_status.specs.declared.status.Status.TheVariants.{Done, NoMemory, Usage, NoFile, ReadFault, WriteFault, TooBig, Syntax, BadPattern, Refused, BadTable, BadPacket, Partial, TooMany, BadReport, NotConfirmed, BadAsk, BadCompare}
 
 -- why an input is refused
 abbrev pub input_status : InputFault → Status
@@ -53,6 +53,19 @@ MayStop w WriteFault = Unit {0}
 MayStop w (BadPattern site) = w.is_bad ≡ None
 MayStop w _ = ⊥
 
+-- a file was not read, or there was no memory; or a pattern was refused, where it is not told which are bad
+abbrev pub MayBeUnread : World → Status → Type 0
+MayBeUnread w NoMemory = Unit {0}
+MayBeUnread w (ReadFault name) = Unit {0}
+MayBeUnread w (BadPattern site) = w.is_bad ≡ None
+MayBeUnread w _ = ⊥
+
+-- a file was not read, or there was no memory
+abbrev pub IsUnread : Status → Type 0
+IsUnread NoMemory = Unit {0}
+IsUnread (ReadFault name) = Unit {0}
+IsUnread _ = ⊥
+
 -- the outside failed, or there was no memory
 abbrev pub IsStopped : Status → Type 0
 IsStopped NoMemory = Unit {0}
@@ -61,8 +74,11 @@ IsStopped WriteFault = Unit {0}
 IsStopped _ = ⊥
 
 -- or a pattern is refused
+abbrev pub OrBad : (Status → Type 0) → Status → Type 0
+OrBad Is status = Is status ⊎ ((site : Site) × (status ≡ BadPattern site))
+
 abbrev pub MayBeBad : Status → Type 0
-MayBeBad status = IsStopped status ⊎ ((site : Site) × (status ≡ BadPattern site))
+MayBeBad status = OrBad IsStopped status
 
 -- the text was written whole, whether something was left out or not
 abbrev pub IsWritten : Status → Type 0

@@ -1,7 +1,7 @@
 //! How a run ends.
 
 ghost use Rattle.std.specs.Prelude.{◌≡◌, string_bytes, IfOk};
-ghost use Rattle.symnet_program.specs.Status.{bad_ask_text, bad_report_text, bad_table_text, input_status, not_confirmed_text, own_status, refused_text, status_of, syntax_text, text_of};
+ghost use Rattle.exit_status.specs.Status.{bad_ask_text, bad_report_text, bad_table_text, input_status, not_confirmed_text, own_status, refused_text, status_of, syntax_text, text_of};
 
 use run_answers::{Ending, InputFault, OwnFault, Stop};
 use sefl_syntax::Text;
@@ -27,7 +27,8 @@ pub enum Status {
     /// The item at the site is the first in the text that breaks a rule, and the kind is the number of the
     /// first rule that it breaks, 1 to 15.
     Refused { site: Site, kind: u8 },
-    /// The line of a table's file is the first that breaks a rule; the kind is 1 to 3, as in `InputFault`.
+    /// The line of the file of a table, or of a Click configuration, is the first that breaks a rule; the kind is 1 to 3, or 1 to 7, as in
+    /// `OwnFault`.
     BadTable { name: Text, line: u64, kind: u8 },
     /// The packet does not start, or its file has no packet; the kind is 1 to 4, as in `OwnFault`.
     BadPacket { kind: u8 },
@@ -35,18 +36,18 @@ pub enum Status {
     Partial,
     /// The packet has more walks than the limit, which is one less than the count.
     TooMany { count: u64 },
-    /// The file is no report. No command reads one yet.
+    /// The file is no report; the kind is 1 or 2, as in `OwnFault`, and the pointer is empty for 1.
     BadReport { kind: u8, pointer: Text },
-    /// The record of this number has not the meaning that it states. No command reads a report yet.
+    /// The record of this number, counted from 0, is the first that has not the meaning that it states; the kind is 1 to 4, as in `OwnFault`.
     NotConfirmed { number: u64, kind: u8 },
-    /// The question of this number cannot be asked. No command asks one yet.
+    /// The question of this number, counted from 0, is the first that cannot be asked; the kind is 1 or 2, as in `OwnFault`.
     BadAsk { number: u64, kind: u8 },
     /// The two jobs cannot be compared. No command compares jobs yet.
     BadCompare { kind: u8, one: u64, other: u64 },
 }
 
 impl Status {
-    ghost use Rattle.symnet_program.specs.Status.{number_of};
+    ghost use Rattle.exit_status.specs.Status.{number_of};
 
     /// The number with which the process ends.
     pub fn number(&self) -> u8
