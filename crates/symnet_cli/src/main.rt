@@ -1,28 +1,32 @@
 //! The program `symnet`: symbolic execution of SEFL network models.
 #![tactic(auto)]
 
+use exit_status::{Status, status_text};
+use fault_places::place_text;
 use sn_edge::{DirFolder, OutSink, RegexPatterns};
 use std::process::ExitCode;
 use std::rt::{Env, Files};
 use std::{env, io};
-use symnet_program::{Status, status_text, symnet};
+use symnet_program::symnet;
 
 /// The words after the program's name.
 fn given_words<R: Env + AllocGlobal>(rt: &R) -> io::Result<Vec<String>> {
     Ok(env::args(rt)?.skip(1).collect(rt.alloc())?)
 }
 
-fn run<R: Env + Files + Print + AllocGlobal>(rt: &R) -> Status {
-    let alloc = rt.alloc();
-    match given_words(rt) {
-        Ok(words) => {
-            let mut folder = DirFolder::new(rt);
-            let mut patterns = RegexPatterns::new();
-            let mut out = OutSink::new(rt);
-            symnet(alloc, &words, &mut folder, &mut patterns, &mut out)
-        }
-        Err(error) if error.kind() == io::ErrorKind::OutOfMemory => Status::NoMemory,
-        Err(_) => Status::Usage,
+fn run<R: Files + Print + AllocGlobal>(rt: &R, words: &[String]) -> Status {
+    let mut folder = DirFolder::new(rt);
+    let mut patterns = RegexPatterns::new();
+    let mut out = OutSink::new(rt);
+    symnet(rt.alloc(), words, &mut folder, &mut patterns, &mut out)
+}
+
+/// The status where there are no words.
+fn status_without_words(error: &io::Error) -> Status {
+    if error.kind() == io::ErrorKind::OutOfMemory {
+        Status::NoMemory
+    } else {
+        Status::Usage
     }
 }
 
@@ -35,9 +39,39 @@ fn show<R: Eprint + AllocGlobal>(rt: &R, status: &Status) -> io::Result<()> {
     rt.eprintln(text)
 }
 
+/// Shows the place that a status blames, below it.
+fn show_place<R: Files + Eprint + AllocGlobal>(
+    rt: &R,
+    words: &[String],
+    status: &Status,
+) -> io::Result<()> {
+    let mut folder = DirFolder::new(rt);
+    let Some(bytes) = place_text(rt.alloc(), words, status, &mut folder) else {
+        return Ok(());
+    };
+    match str::from_utf8(&bytes) {
+        Ok(text) => rt.eprintln(text),
+        Err(_) => Ok(()),
+    }
+}
+
+/// Runs the program, and shows how it ended. Nothing is left to do where standard error takes nothing.
+fn run_and_show<R: Env + Files + Print + Eprint + AllocGlobal>(rt: &R) -> Status {
+    match given_words(rt) {
+        Ok(words) => {
+            let status = run(rt, &words);
+            let _ = show(rt, &status);
+            let _ = show_place(rt, &words, &status);
+            status
+        }
+        Err(error) => {
+            let status = status_without_words(&error);
+            let _ = show(rt, &status);
+            status
+        }
+    }
+}
+
 fn main(rt: HostRuntime) -> ExitCode {
-    let status = run(&rt);
-    // Nothing is left to do where standard error takes nothing.
-    let _ = show(&rt, &status);
-    ExitCode::from(status.number())
+    ExitCode::from(run_and_show(&rt).number())
 }

@@ -1,0 +1,131 @@
+//! Which place a status blames, and what is shown of it.
+
+use command_words::{Command, reading};
+use exit_status::Status;
+use job_files::{load_file, load_job};
+use run_answers::FILE_LIMIT;
+use sefl_lex::tokens;
+use sefl_reader::{position, read_job};
+use sefl_syntax::is_filled;
+use sn_edge::Folder;
+use std::alloc::Global;
+use text_places::{Sought, fault_text, indent_of, line_of, own_number, statement_start};
+
+/// The file of the job that the words name, if they name one.
+fn job_name(alloc: Global, words: &[String]) -> Option<&str> {
+    match reading(alloc, words) {
+        Ok(Some(command)) => job_of(command),
+        _ => None,
+    }
+}
+
+fn job_of(command: Command<'_>) -> Option<&str> {
+    match command {
+        Command::Explore { job, .. } => Some(job),
+        Command::Walk { job, .. } => Some(job),
+        Command::Replay { job, .. } => Some(job),
+        Command::Ask { job, .. } => Some(job),
+        Command::Model { .. } => None,
+        Command::Click { .. } => None,
+        Command::Grow { .. } => None,
+    }
+}
+
+fn loaded<F: Folder>(alloc: Global, name: &str, folder: &mut F) -> Option<Vec<u8>> {
+    load_file(alloc, name, FILE_LIMIT, folder).ok()
+}
+
+/// The first byte of a statement of a job's text.
+fn statement_at(alloc: Global, bytes: &[u8], sought: Sought, number: u64) -> Option<u64> {
+    let text = str::from_utf8(bytes).ok()?;
+    let tokens = tokens(alloc, text).ok()?;
+    statement_start(text, &tokens, sought, number)
+}
+
+/// What is shown of the line in which a statement of a job begins.
+fn statement_text(
+    alloc: Global,
+    name: &str,
+    bytes: &[u8],
+    sought: Sought,
+    number: u64,
+) -> Option<Vec<u8>> {
+    let at = statement_at(alloc, bytes, sought, number)?;
+    let (line, column) = position(bytes, at);
+    fault_text(alloc, name, bytes, line, column).ok()?
+}
+
+/// The number in the text of the item that has this site in the job with code for its tables.
+fn item_number<F: Folder>(
+    alloc: Global,
+    name: &str,
+    bytes: &[u8],
+    site: u32,
+    folder: &mut F,
+) -> Option<u32> {
+    let job = read_job(alloc, bytes).ok()?;
+    if is_filled(&job) {
+        return Some(site);
+    }
+    let filled = load_job(alloc, name, folder).ok()?;
+    own_number(site, &job.net.nodes, &filled.net.nodes).ok()
+}
+
+/// What is shown of an item of a job.
+fn item_text<F: Folder>(alloc: Global, name: &str, site: u32, folder: &mut F) -> Option<Vec<u8>> {
+    let bytes = loaded(alloc, name, folder)?;
+    let number = item_number(alloc, name, &bytes, site, folder)?;
+    statement_text(alloc, name, &bytes, Sought::Items, number as u64)
+}
+
+/// What is shown of a question of a job.
+fn question_text<F: Folder>(
+    alloc: Global,
+    name: &str,
+    number: u64,
+    folder: &mut F,
+) -> Option<Vec<u8>> {
+    let bytes = loaded(alloc, name, folder)?;
+    statement_text(alloc, name, &bytes, Sought::Questions, number)
+}
+
+/// What is shown of a line of a table's file, or of a Click configuration.
+fn line_text<F: Folder>(alloc: Global, name: &str, line: u64, folder: &mut F) -> Option<Vec<u8>> {
+    let bytes = loaded(alloc, name, folder)?;
+    let column = indent_of(line_of(&bytes, line)?) as u64 + 1;
+    fault_text(alloc, name, &bytes, line, column).ok()?
+}
+
+/// What is shown of a place in a job.
+fn place_in_job<F: Folder>(
+    alloc: Global,
+    name: &str,
+    line: u64,
+    column: u64,
+    folder: &mut F,
+) -> Option<Vec<u8>> {
+    let bytes = loaded(alloc, name, folder)?;
+    fault_text(alloc, name, &bytes, line, column).ok()?
+}
+
+/// The place that a status blames: the file's name, the line and the column; the line; and a caret below it. None where the
+/// status blames no place of a text, where the file is no longer as it was, and for want of memory.
+pub fn place_text<F: Folder>(
+    alloc: Global,
+    words: &[String],
+    status: &Status,
+    folder: &mut F,
+) -> Option<Vec<u8>> {
+    match status {
+        Status::Syntax { line, column, .. } => {
+            place_in_job(alloc, job_name(alloc, words)?, *line, *column, folder)
+        }
+        Status::BadPattern { site } => item_text(alloc, job_name(alloc, words)?, site.0, folder),
+        Status::Refused { site, .. } => item_text(alloc, job_name(alloc, words)?, site.0, folder),
+        Status::BadTable { name, line, .. } => line_text(alloc, name.text(), *line, folder),
+        Status::BadAsk { number, .. } => {
+            question_text(alloc, job_name(alloc, words)?, *number, folder)
+        }
+        _ => None,
+    }
+}

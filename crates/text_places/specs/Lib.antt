@@ -1,0 +1,4 @@
+pub mod Statements
+pub mod Lines
+pub mod Excerpts
+pub mod Numbers
