@@ -28,8 +28,6 @@ pub(crate) enum Side {
 pub(crate) enum Atom {
     Truth(bool),
     Compare(Side, Rel, Side),
-    /// The side lies between two numbers, or is one of them.
-    Within(Side, Num, Num),
 }
 
 /// The width of so many bits.
@@ -62,7 +60,7 @@ fn plus(alloc: Global, width: Width, id: u64, other: &Term) -> Result<Term, NoMe
 }
 
 /// The term of a side.
-pub(crate) fn term(alloc: Global, width: Width, side: Side) -> Result<Term, NoMemory>
+fn term(alloc: Global, width: Width, side: Side) -> Result<Term, NoMemory>
     ensures { IfOk result (λ term. term.width ≡ width) }
 {
     match side {
@@ -80,18 +78,13 @@ pub(crate) fn term(alloc: Global, width: Width, side: Side) -> Result<Term, NoMe
 }
 
 /// The formula of an atom.
-pub(crate) fn formula(alloc: Global, width: Width, atom: Atom) -> Result<Formula, Fail> {
+pub(crate) fn formula(alloc: Global, width: Width, atom: Atom) -> Result<Formula, NoMemory> {
     match atom {
         Atom::Truth(truth) => Ok(Formula::Truth(truth)),
         Atom::Compare(left, rel, right) => {
             let left = term(alloc, width, left)?;
             let right = term(alloc, width, right)?;
             Ok(Formula::Compare { rel, left, right })
-        }
-        Atom::Within(side, first, last) => {
-            let value = term(alloc, width, side)?;
-            let ranges = Ranges::from_list(alloc, width, &[(first, last)])?;
-            Ok(Formula::member(alloc, value, ranges)?)
         }
     }
 }

@@ -48,17 +48,34 @@ fn check_domain<R: Abort + AllocGlobal>(
     Ok(())
 }
 
+/// Asserts the domains of both symbols.
+fn check_both<R: Abort + AllocGlobal>(
+    rt: &R,
+    cond: &PathCond,
+    first: &[(Num, Num)],
+    second: &[(Num, Num)],
+) -> Result<(), Fail> {
+    check_domain(rt, cond, 0, first)?;
+    check_domain(rt, cond, 1, second)
+}
+
 #[test]
 fn simple_formulas_narrow_a_domain(rt: HostRuntime) -> Result<(), Fail> {
     let cond = condition(rt.alloc(), bits(8), 2, &[NEXT_IS_LOW])?;
-    check_domain(&rt, &cond, 0, &[(0, 3), (255, 255)])?;
-    check_domain(&rt, &cond, 1, &[(0, 255)])
+    check_both(&rt, &cond, &[(0, 3), (255, 255)], &[(0, 255)])
+}
+
+/// Asserts at which values of symbol 0 the condition holds.
+fn check_holds<R: Abort>(rt: &R, cond: &PathCond) {
+    assert!(rt; cond.holds(&[2]));
+    assert!(rt; !cond.holds(&[4]));
+    assert!(rt; !cond.holds(&[1]));
 }
 
 #[test]
 fn formulas_may_be_to_be_false(rt: HostRuntime) -> Result<(), Fail> {
     let cond = narrowed(rt.alloc())?;
-    assert!(rt; cond.holds(&[2]) && !cond.holds(&[4]) && !cond.holds(&[1]));
+    check_holds(&rt, &cond);
     check_domain(&rt, &cond, 0, &[(2, 3), (255, 255)])
 }
 
@@ -77,14 +94,14 @@ fn is_simple_and_false(cond: &PathCond, pick: u32) -> bool {
 fn check_picks<R: Abort>(rt: &R, cond: &PathCond) {
     assert_eq!(rt; newest_pick(cond, 0), Some(1));
     assert!(rt; cond.simple_picks(SymId(1)).is_none());
+    assert!(rt; is_simple_and_false(cond, 1));
+    assert_eq!(rt; cond.len(), 2);
 }
 
 #[test]
 fn simple_picks_are_kept(rt: HostRuntime) -> Result<(), Fail> {
     let cond = narrowed(rt.alloc())?;
     check_picks(&rt, &cond);
-    assert!(rt; is_simple_and_false(&cond, 1));
-    assert_eq!(rt; cond.len(), 2);
     Ok(())
 }
 
@@ -94,11 +111,15 @@ fn broken(alloc: Global) -> Result<PathCond, Fail> {
     with(alloc, &held, bits(1), Truth(true), false)
 }
 
-/// The same, with a symbol of 128 bits.
-fn broken_with_symbol(alloc: Global) -> Result<PathCond, Fail> {
-    let cond = broken(alloc)?;
+/// A fork, with a symbol of 128 bits.
+fn with_symbol(alloc: Global, cond: &PathCond) -> Result<PathCond, Fail> {
     let fork = cond.fork()?;
     Ok(fork.with_symbol(alloc, bits(128))?)
+}
+
+fn broken_with_symbol(alloc: Global) -> Result<PathCond, Fail> {
+    let cond = broken(alloc)?;
+    with_symbol(alloc, &cond)
 }
 
 fn has_width(cond: &PathCond, id: u64, width: Width) -> bool {
@@ -108,12 +129,16 @@ fn has_width(cond: &PathCond, id: u64, width: Width) -> bool {
     }
 }
 
+fn check_broken<R: Abort>(rt: &R, cond: &PathCond) {
+    assert_eq!(rt; cond.first_broken(), Some(1));
+    assert!(rt; has_width(cond, 0, bits(128)));
+    assert!(rt; cond.width(SymId(1)).is_none());
+}
+
 #[test]
 fn the_first_broken_constant_is_kept(rt: HostRuntime) -> Result<(), Fail> {
     let cond = broken_with_symbol(rt.alloc())?;
-    assert_eq!(rt; cond.first_broken(), Some(1));
-    assert!(rt; has_width(&cond, 0, bits(128)));
-    assert!(rt; cond.width(SymId(1)).is_none());
+    check_broken(&rt, &cond);
     Ok(())
 }
 
@@ -138,10 +163,14 @@ fn fork_often(cond: &PathCond) -> Result<(), NoMemory> {
     Ok(())
 }
 
+fn check_forks<R: Abort + AllocGlobal>(rt: &R, cond: &PathCond) -> Result<(), Fail> {
+    fork_often(cond)?;
+    assert_eq!(rt; cond.len(), 100_000);
+    check_domain(rt, cond, 1, &[(0, 3), (255, 255)])
+}
+
 #[test]
 fn forks_of_a_large_condition_are_cheap(rt: HostRuntime) -> Result<(), Fail> {
     let cond = large(rt.alloc())?;
-    fork_often(&cond)?;
-    assert_eq!(rt; cond.len(), 100_000);
-    check_domain(&rt, &cond, 1, &[(0, 3), (255, 255)])
+    check_forks(&rt, &cond)
 }

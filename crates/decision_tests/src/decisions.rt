@@ -188,13 +188,13 @@ const OUTSIDE: &[Row] = &[
     },
 ];
 
-/// Asserts the decision of a condition.
+/// Asserts the decision of a condition, which ends here: so it is dropped in no test.
 pub(crate) fn check_decision<R: Abort + AllocGlobal>(
     rt: &R,
-    cond: &PathCond,
+    cond: PathCond,
     wanted: Wanted<'_>,
 ) -> Result<(), Fail> {
-    let is_right = is_decided(rt.alloc(), cond, wanted)?;
+    let is_right = is_decided(rt.alloc(), &cond, wanted)?;
     assert!(rt; is_right);
     Ok(())
 }
@@ -202,7 +202,7 @@ pub(crate) fn check_decision<R: Abort + AllocGlobal>(
 fn check_row<R: Abort + AllocGlobal>(rt: &R, row: &Row) -> Result<(), Fail> {
     assert!(rt; 1 <= row.bits && row.bits <= 128);
     let cond = condition(rt.alloc(), bits(row.bits), row.symbols, row.atoms)?;
-    check_decision(rt, &cond, row.decision)
+    check_decision(rt, cond, row.decision)
 }
 
 fn check_rows<R: Abort + AllocGlobal>(rt: &R, rows: &[Row]) -> Result<(), Fail> {
@@ -225,13 +225,13 @@ fn sums_of_two_and_wide_pairs_are_outside(rt: HostRuntime) -> Result<(), Fail> {
 #[test]
 fn too_many_choices(rt: HostRuntime) -> Result<(), Fail> {
     let pairs = thirteen_pairs(rt.alloc())?;
-    check_decision(&rt, &pairs, Cases(8192))
+    check_decision(&rt, pairs, Cases(8192))
 }
 
 #[test]
 fn too_many_coupled_symbols(rt: HostRuntime) -> Result<(), Fail> {
     let star = one_against_all(rt.alloc())?;
-    check_decision(&rt, &star, Coupled(65))
+    check_decision(&rt, star, Coupled(65))
 }
 
 fn with_next(alloc: Global, cond: &PathCond, step: u64, symbols: u64) -> Result<PathCond, Fail>
@@ -273,11 +273,11 @@ const ALTERNATING: Wanted<'static> = Met(&[0, 1, 0, 1, 0, 1, 0, 1, 0, 1]);
 #[test]
 fn choices_over_ten_symbols_by_the_thousand(rt: HostRuntime) -> Result<(), Fail> {
     let ten = circles(rt.alloc(), 10)?;
-    check_decision(&rt, &ten, ALTERNATING)
+    check_decision(&rt, ten, ALTERNATING)
 }
 
 #[test]
 fn choices_over_nine_bits_are_refuted(rt: HostRuntime) -> Result<(), Fail> {
     let nine = circles_of_bits(rt.alloc(), 9)?;
-    check_decision(&rt, &nine, Refuted)
+    check_decision(&rt, nine, Refuted)
 }

@@ -242,20 +242,31 @@ fn simple_formulas_are_decided(rt: HostRuntime) -> Result<(), Fail> {
 /// The domains of `x < 5`, at 8 bits, and of a symbol of 16 bits.
 const WIDER: &[&[(Num, Num)]] = &[&[(0, 4)], &[(0, 65535)]];
 
-/// Asserts that a symbol more leaves these domains of one symbol as they were.
-fn check_wider<R: Abort + AllocGlobal>(rt: &R, fork: &Domains) -> Result<(), Fail> {
-    let wider = fork.with_symbol(rt.alloc(), bits(16))?;
+/// Asserts the domains with a symbol more.
+fn check_wider<R: Abort + AllocGlobal>(rt: &R, domains: &Domains) -> Result<(), Fail> {
+    let wider = domains.with_symbol(rt.alloc(), bits(16))?;
     check_domains(rt, &wider, WIDER);
-    assert!(rt; fork.get(SymId(1)).is_none());
-    assert!(rt; fork.first_empty().is_none());
+    Ok(())
+}
+
+/// Asserts that there is one symbol, and that its domain is not empty.
+fn check_old<R: Abort>(rt: &R, domains: &Domains) {
+    assert!(rt; domains.get(SymId(1)).is_none());
+    assert!(rt; domains.first_empty().is_none());
+}
+
+/// Asserts that a symbol more leaves a fork of these domains of one symbol as it was.
+fn check_fork<R: Abort + AllocGlobal>(rt: &R, domains: &Domains) -> Result<(), Fail> {
+    let fork = domains.fork()?;
+    check_wider(rt, &fork)?;
+    check_old(rt, &fork);
     Ok(())
 }
 
 #[test]
 fn forks_and_new_symbols_leave_the_old_domains(rt: HostRuntime) -> Result<(), Fail> {
     let kept = met_one_by_one(rt.alloc(), bits(8), 1, &[LOW])?;
-    let fork = kept.domains.fork()?;
-    check_wider(&rt, &fork)
+    check_fork(&rt, &kept.domains)
 }
 
 #[test]
@@ -289,9 +300,13 @@ fn check_anew<R: Abort + AllocGlobal>(
     Ok(())
 }
 
+fn check_large<R: Abort + AllocGlobal>(rt: &R, kept: &Kept) -> Result<(), Fail> {
+    check_decision(rt, kept, LEAST)?;
+    check_anew(rt, &kept.cond, LARGE)
+}
+
 #[test]
 fn many_formulas_are_met_one_by_one(rt: HostRuntime) -> Result<(), Fail> {
     let kept = large(rt.alloc())?;
-    check_decision(&rt, &kept, LEAST)?;
-    check_anew(&rt, &kept.cond, LARGE)
+    check_large(&rt, &kept)
 }

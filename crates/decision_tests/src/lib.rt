@@ -1,18 +1,14 @@
-//! Tests of formulas, conditions and decisions.
+//! Tests of conditions and decisions.
 #![tactic(auto)]
 
 #[cfg(test)]
 mod build;
-#[cfg(test)]
-mod cases;
 #[cfg(test)]
 mod conditions;
 #[cfg(test)]
 mod counts;
 #[cfg(test)]
 mod decisions;
-#[cfg(test)]
-mod formulas;
 #[cfg(test)]
 mod intervals;
 #[cfg(test)]

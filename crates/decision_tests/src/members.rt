@@ -80,15 +80,16 @@ fn differ_and_false(alloc: Global) -> Result<Vec<Formula>, Fail> {
 
 #[test]
 fn forty_members_without_a_case_are_refuted(rt: HostRuntime) -> Result<(), Fail> {
-    let cond = condition_of(rt.alloc(), forty_and_false(rt.alloc())?, true)?;
-    check_decision(&rt, &cond, Refuted)
+    let parts = forty_and_false(rt.alloc())?;
+    let cond = condition_of(rt.alloc(), parts, true)?;
+    check_decision(&rt, cond, Refuted)
 }
 
 #[test]
 fn forty_members_before_a_formula_without_cases(rt: HostRuntime) -> Result<(), Fail> {
     let many = condition_of(rt.alloc(), forty(rt.alloc())?, true)?;
     let cond = with_all(rt.alloc(), &many, differ_and_false(rt.alloc())?, true)?;
-    check_decision(&rt, &cond, Refuted)
+    check_decision(&rt, cond, Refuted)
 }
 
 /// So many splits of the first formula.
@@ -122,7 +123,7 @@ fn accepts_splits(alloc: Global, cond: &PathCond, count: u32) -> Result<bool, No
 }
 
 /// Asserts which numbers of splits are accepted.
-fn check_splits<R: Abort + AllocGlobal>(
+fn check_counts<R: Abort + AllocGlobal>(
     rt: &R,
     cond: &PathCond,
     rows: &[(u32, bool)],
@@ -134,24 +135,35 @@ fn check_splits<R: Abort + AllocGlobal>(
     Ok(())
 }
 
+/// The same of a condition over two symbols of 8 bits, whose formulas together must have this truth.
+fn check_splits<R: Abort + AllocGlobal>(
+    rt: &R,
+    parts: Vec<Formula>,
+    holds: bool,
+    rows: &[(u32, bool)],
+) -> Result<(), Fail> {
+    let cond = condition_of(rt.alloc(), parts, holds)?;
+    check_counts(rt, &cond, rows)
+}
+
 #[test]
 fn a_split_is_refused_where_it_has_more_cases_than_steps_are_left(
     rt: HostRuntime,
 ) -> Result<(), Fail> {
-    let cond = condition_of(rt.alloc(), forty_and_false(rt.alloc())?, true)?;
-    check_splits(&rt, &cond, &[(1, true), (2, false)])
+    let parts = forty_and_false(rt.alloc())?;
+    check_splits(&rt, parts, true, &[(1, true), (2, false)])
 }
 
 #[test]
 fn splits_of_forty_members_are_refused(rt: HostRuntime) -> Result<(), Fail> {
-    let cond = condition_of(rt.alloc(), forty(rt.alloc())?, true)?;
-    check_splits(&rt, &cond, &[(1, false), (2, false), (1000, false)])
+    let parts = forty(rt.alloc())?;
+    check_splits(&rt, parts, true, &[(1, false), (2, false), (1000, false)])
 }
 
 #[test]
 fn a_split_of_the_other_truth_is_refused(rt: HostRuntime) -> Result<(), Fail> {
-    let cond = condition_of(rt.alloc(), forty_and_false(rt.alloc())?, false)?;
-    check_splits(&rt, &cond, &[(1, false)])
+    let parts = forty_and_false(rt.alloc())?;
+    check_splits(&rt, parts, false, &[(1, false)])
 }
 
 /// A set of so many ranges of one number each.
@@ -177,13 +189,18 @@ fn in_many_ranges(alloc: Global) -> Result<PathCond, Fail> {
     with_all(alloc, &cond, parts, true)
 }
 
+/// Whether so many divisions are accepted.
+fn accepts_divisions(alloc: Global, cond: &PathCond, count: u32) -> Result<bool, NoMemory> {
+    let steps = divisions(alloc, count)?;
+    check(alloc, &steps, cond)
+}
+
 #[test]
 fn a_long_row_of_divisions_is_refused(rt: HostRuntime) -> Result<(), Fail> {
-    let alloc = rt.alloc();
-    let cond = in_many_ranges(alloc)?;
+    let cond = in_many_ranges(rt.alloc())?;
     for count in [1, 20_000, 40_000] {
-        let steps = divisions(alloc, count)?;
-        assert!(rt; !check(alloc, &steps, &cond)?);
+        let accepts = accepts_divisions(rt.alloc(), &cond, count)?;
+        assert!(rt; !accepts);
     }
     Ok(())
 }

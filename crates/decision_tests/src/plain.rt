@@ -40,9 +40,5 @@ pub(crate) fn is_true(atom: Atom, values: &[Num], max: Num) -> bool {
             rel,
             value_of(right, values, max),
         ),
-        Atom::Within(side, first, last) => {
-            let value = value_of(side, values, max);
-            first <= value && value <= last
-        }
     }
 }

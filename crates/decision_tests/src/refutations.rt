@@ -169,6 +169,18 @@ fn cause_of(alloc: Global, why: Why<'_>) -> Result<Cause, NoMemory> {
     })
 }
 
+/// A copy of the cause.
+fn copied(alloc: Global, why: Why<'_>) -> Result<Cause, NoMemory> {
+    let cause = cause_of(alloc, why)?;
+    cause.copy(alloc)
+}
+
+/// Whether the cause may be given.
+fn may_be_given(alloc: Global, cond: &PathCond, why: Why<'_>) -> Result<bool, NoMemory> {
+    let cause = copied(alloc, why)?;
+    lawful(alloc, &cause, cond)
+}
+
 /// Asserts which causes may be given.
 fn check_causes<R: Abort + AllocGlobal>(
     rt: &R,
@@ -176,30 +188,34 @@ fn check_causes<R: Abort + AllocGlobal>(
     causes: &[(bool, Why<'_>)],
 ) -> Result<(), Fail> {
     for (is_lawful, why) in causes {
-        let cause = cause_of(rt.alloc(), *why)?.copy(rt.alloc())?;
-        assert_eq!(rt; lawful(rt.alloc(), &cause, cond)?, *is_lawful);
+        let found = may_be_given(rt.alloc(), cond, *why)?;
+        assert_eq!(rt; found, *is_lawful);
     }
     Ok(())
 }
 
+const CHOICES: &[(bool, Why<'static>)] = &[
+    (true, Cases(8192)),
+    (false, Cases(8191)),
+    (false, Coupled(26)),
+];
+
 #[test]
 fn a_cause_is_the_number_of_choices(rt: HostRuntime) -> Result<(), Fail> {
-    let causes = [
-        (true, Cases(8192)),
-        (false, Cases(8191)),
-        (false, Coupled(26)),
-    ];
-    check_causes(&rt, &thirteen_pairs(rt.alloc())?, &causes)
+    let cond = thirteen_pairs(rt.alloc())?;
+    check_causes(&rt, &cond, CHOICES)
 }
+
+const SYMBOLS: &[(bool, Why<'static>)] = &[
+    (true, Coupled(65)),
+    (false, Coupled(66)),
+    (true, Cases(u64::MAX)),
+];
 
 #[test]
 fn a_cause_is_the_number_of_coupled_symbols(rt: HostRuntime) -> Result<(), Fail> {
-    let causes = [
-        (true, Coupled(65)),
-        (false, Coupled(66)),
-        (true, Cases(u64::MAX)),
-    ];
-    check_causes(&rt, &one_against_all(rt.alloc())?, &causes)
+    let cond = one_against_all(rt.alloc())?;
+    check_causes(&rt, &cond, SYMBOLS)
 }
 
 /// Two symbols of 128 bits are equal, which is outside, and the first is more than 3.
@@ -241,22 +257,34 @@ fn long_circle(alloc: Global, count: u32) -> Result<PathCond, Fail> {
     with_atom(alloc, &cond, GREATER)
 }
 
-/// A split of each formula up to this pick, and a cycle of the first bound and the last.
-fn long_refutation(alloc: Global, last: u32) -> Result<Refutation, NoMemory> {
+/// A split of each formula up to this pick.
+fn splits(alloc: Global, last: u32) -> Result<Vec<Refute>, NoMemory> {
     let mut steps = Vec::new(alloc);
     for pick in 0..last {
         steps.push(Refute::Split { pick })?;
     }
     steps.push(Refute::Split { pick: last })?;
-    steps.push(step_of(alloc, Cycle(&[0, last]))?)?;
+    Ok(steps)
+}
+
+/// These splits, and a cycle of the first bound and the last.
+fn long_refutation(alloc: Global, last: u32) -> Result<Refutation, NoMemory> {
+    let cycle = step_of(alloc, Cycle(&[0, last]))?;
+    let mut steps = splits(alloc, last)?;
+    steps.push(cycle)?;
     Ok(Listed::from_vec(steps))
+}
+
+/// Whether such a refutation is accepted.
+fn accepts_long(alloc: Global, cond: &PathCond, last: u32) -> Result<bool, NoMemory> {
+    let refutation = long_refutation(alloc, last)?;
+    check(alloc, &refutation, cond)
 }
 
 #[test]
 fn a_long_refutation_is_checked_fast(rt: HostRuntime) -> Result<(), Fail> {
     let cond = long_circle(rt.alloc(), 20_000)?;
-    let refutation = long_refutation(rt.alloc(), 20_000)?;
-    let is_accepted = check(rt.alloc(), &refutation, &cond)?;
+    let is_accepted = accepts_long(rt.alloc(), &cond, 20_000)?;
     assert!(rt; is_accepted);
     Ok(())
 }

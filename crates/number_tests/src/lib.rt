@@ -1,5 +1,5 @@
-//! Tests of numbers, sets and terms, and of bounds between unknowns: whether integers meet them, and
-//! those of choices of them.
+//! Tests of numbers, sets and terms; of bounds between unknowns: whether integers meet them, and those
+//! of choices of them; and of formulas and their cases.
 #![tactic(auto)]
 
 #[cfg(test)]
@@ -7,9 +7,13 @@ mod bounds;
 #[cfg(test)]
 mod build;
 #[cfg(test)]
+mod cases;
+#[cfg(test)]
 mod choices;
 #[cfg(test)]
 mod differences;
+#[cfg(test)]
+mod formulas;
 #[cfg(test)]
 mod ranges;
 #[cfg(test)]

@@ -1,21 +1,12 @@
 //! Terms.
 
-ghost use Rattle.std.specs.Prelude.{◌≡◌, IfOk};
-
-use crate::build::bits;
-use Side::{Number, Symbol};
+use crate::build::Side::{Number, Symbol};
+use crate::build::{Side, bits, term};
 use lin_term::Term;
 use sn_width::{NoMemory, Num, SymId, Width};
 use std::alloc::Global;
 use std::process::Abort;
 use std::test::Fail;
-
-/// A side of a sum or a difference.
-#[derive(Clone, Copy)]
-enum Side {
-    Number(Num),
-    Symbol(u64),
-}
 
 /// What is done to the term so far.
 #[derive(Clone, Copy)]
@@ -140,24 +131,6 @@ const WIDEST: &[Row] = &[Row {
     same: false,
     values: &[(&[Num::MAX], 1), (&[1], Num::MAX)],
 }];
-
-/// The number, or the width's greatest value where that is less.
-#[tactic(auto, using(std::proofs::lemmas::Nat::pow_pos))]
-fn number(alloc: Global, width: Width, value: Num) -> Result<Term, NoMemory>
-    ensures { IfOk result (λ term. term.width ≡ width) }
-{
-    Term::of_const(alloc, width, value.min(width.max()))
-}
-
-/// The term of a side.
-fn term(alloc: Global, width: Width, side: Side) -> Result<Term, NoMemory>
-    ensures { IfOk result (λ term. term.width ≡ width) }
-{
-    match side {
-        Number(value) => number(alloc, width, value),
-        Symbol(id) => Term::of_symbol(alloc, width, SymId(id)),
-    }
-}
 
 /// The term after a step.
 fn after(alloc: Global, before: &Term, step: Step) -> Result<Term, NoMemory> {

@@ -30,10 +30,22 @@ fn arithmetic_wraps_at_each_width(rt: HostRuntime) {
     assert_eq!(rt; bits(128).sub(0, Num::MAX), 1);
 }
 
+/// Relations, and whether each holds where the left number is less, where both are the same, and where the left is greater.
+const RELATIONS: &[(Rel, (bool, bool, bool))] = &[
+    (Rel::Eq, (false, true, false)),
+    (Rel::Ne, (true, false, true)),
+    (Rel::Lt, (true, false, false)),
+    (Rel::Le, (true, true, false)),
+    (Rel::Gt, (false, false, true)),
+    (Rel::Ge, (false, true, true)),
+];
+
 #[test]
 fn relations_and_faults_have_their_meaning(rt: HostRuntime) {
-    assert!(rt; Rel::Ge.holds(5, 5));
-    assert!(rt; !Rel::Gt.holds(5, 5));
+    for (rel, wanted) in RELATIONS {
+        let found = (rel.holds(4, 5), rel.holds(5, 5), rel.holds(6, 5));
+        assert_eq!(rt; found, *wanted);
+    }
     assert_eq!(rt; LayoutFault::NoTag.number(), 1);
     assert_eq!(rt; LayoutFault::NoMeta.number(), 7);
     assert!(rt; StepFault::from(NoMemory) == StepFault::NoMemory);

@@ -139,14 +139,18 @@ const FIVE: &[(Side, Side)] = &[
     (Symbol(1), Number(2)),
 ];
 
-#[test]
-fn each_condition_of_up_to_three_of_thirty_atoms(rt: HostRuntime) -> Result<(), Fail> {
+fn check_thirty<R: Abort + AllocGlobal>(rt: &R, free: &PathCond) -> Result<(), Fail> {
     let atoms = atoms_of(rt.alloc(), FIVE)?;
-    let free = free(rt.alloc(), bits(2), 2)?;
     let mut tally = Tally { met: 0, refuted: 0 };
-    check_all(&rt, &free, atoms.as_slice(), &mut tally)?;
+    check_all(rt, free, atoms.as_slice(), &mut tally)?;
     assert_eq!(rt; (tally.met, tally.refuted), (3_632, 1_823));
     Ok(())
+}
+
+#[test]
+fn each_condition_of_up_to_three_of_thirty_atoms(rt: HostRuntime) -> Result<(), Fail> {
+    let free = free(rt.alloc(), bits(2), 2)?;
+    check_thirty(&rt, &free)
 }
 
 fn negated(alloc: Global, part: Formula) -> Result<Formula, NoMemory>
@@ -236,12 +240,16 @@ fn check_compounds<R: Abort + AllocGlobal>(
 
 const TWO: &[(Side, Side)] = &[(Plus(0, 3), Plus(1, 2)), (Plus(1, 2), Number(1))];
 
-#[test]
-fn or_and_not_of_three_of_twelve_atoms(rt: HostRuntime) -> Result<(), Fail> {
+fn check_twelve<R: Abort + AllocGlobal>(rt: &R, free: &PathCond) -> Result<(), Fail> {
     let atoms = atoms_of(rt.alloc(), TWO)?;
-    let free = free(rt.alloc(), bits(2), 2)?;
     let mut tally = Tally { met: 0, refuted: 0 };
-    check_compounds(&rt, &free, atoms.as_slice(), &mut tally)?;
+    check_compounds(rt, free, atoms.as_slice(), &mut tally)?;
     assert_eq!(rt; (tally.met, tally.refuted), (3_382, 74));
     Ok(())
+}
+
+#[test]
+fn or_and_not_of_three_of_twelve_atoms(rt: HostRuntime) -> Result<(), Fail> {
+    let free = free(rt.alloc(), bits(2), 2)?;
+    check_twelve(&rt, &free)
 }

@@ -2,7 +2,7 @@
 
 use crate::build::Atom::*;
 use crate::build::Side::*;
-use crate::build::{Atom, bits, differ, formula};
+use crate::build::{Atom, RELS, bits, formula};
 use Plain::{Less, Lower, Upper};
 use path_cases::{SymBound, can_split, case_count_of, cases, laws};
 use path_formula::Formula;
@@ -178,7 +178,7 @@ fn laws_are_there_to_cite() {
 
 /// Adds that two symbols differ.
 fn push_differ(alloc: Global, parts: &mut Vec<Formula>) -> Result<(), Fail> {
-    let part = formula(alloc, bits(8), differ(0, 1))?;
+    let part = formula(alloc, bits(8), Compare(Symbol(0), Rel::Ne, Symbol(1)))?;
     Ok(parts.push(part)?)
 }
 
@@ -275,15 +275,13 @@ fn check_relation<R: Abort + AllocGlobal>(rt: &R, atom: Atom) -> Result<(), Fail
     Ok(())
 }
 
-const RELS: &[Rel] = &[Rel::Eq, Rel::Ne, Rel::Lt, Rel::Le, Rel::Gt, Rel::Ge];
-
 #[test]
 fn cases_are_met_where_the_formula_is_true(rt: HostRuntime) -> Result<(), Fail> {
     for rel in RELS {
         for both in 0..16u8 {
             let left = Plus(0, Num::from(both / 4));
             let right = Plus(1, Num::from(both % 4));
-            check_relation(&rt, Compare(left, *rel, right))?;
+            check_relation(&rt, Compare(left, rel, right))?;
         }
     }
     Ok(())

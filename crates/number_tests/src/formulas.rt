@@ -2,8 +2,7 @@
 
 use crate::build::Atom::*;
 use crate::build::Side::*;
-use crate::build::{Atom, Side, bits, formula, shows, term};
-use crate::plain::is_true;
+use crate::build::{Atom, RELS, Side, bits, formula, shows, term};
 use path_formula::{AtomKind, Formula, Kind, Shape, laws};
 use sn_ranges::Ranges;
 use sn_width::{NoMemory, Num, Rel, SymId, Width};
@@ -164,15 +163,34 @@ fn solutions_wrap(rt: HostRuntime) -> Result<(), Fail> {
     Ok(())
 }
 
-const RELS: [Rel; 6] = [Rel::Eq, Rel::Ne, Rel::Lt, Rel::Le, Rel::Gt, Rel::Ge];
-
 /// An atom on a symbol of 3 bits, and its truth at each value.
 type Tabled = (Atom, [bool; 8]);
+
+/// The number that a side on the symbol is at a value of it.
+fn number_at(side: Side, value: Num) -> Num {
+    let number = match side {
+        Number(number) => number,
+        Symbol(_) => value,
+        Plus(_, number) => value.wrapping_add(number),
+        Both(_, _) => value.wrapping_add(value),
+    };
+    number & 7
+}
+
+fn is_true(atom: Atom, value: Num) -> bool {
+    match atom {
+        Compare(left, rel, right) => rel.holds(number_at(left, value), number_at(right, value)),
+        Within(side, first, last) => {
+            let number = number_at(side, value);
+            first <= number && number <= last
+        }
+    }
+}
 
 fn tabled(atom: Atom) -> Tabled {
     let mut truths = [false; 8];
     for value in 0..8usize {
-        truths[value] = is_true(atom, &[value as Num], 7);
+        truths[value] = is_true(atom, value as Num);
     }
     (atom, truths)
 }
