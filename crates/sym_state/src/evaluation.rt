@@ -16,6 +16,7 @@ ghost use Rattle.term_values.specs.TermValues.{terms};
 use crate::state::SymState;
 use instr_steps::{Scene, truth_of};
 use lin_term::Term;
+use metadata_scopes::laws::valuing_commutes as metadata_commute;
 use net_check::Net;
 use path_formula::Formula;
 use sefl_meaning::Turn;
@@ -81,7 +82,8 @@ impl SymState {
         truth_of(alloc, &o, at, &self.carried, test)
     }
 
-    /// What a For goes over at the port that was arrived at last: those of the names that are allocated, globals first. One step.
+    /// What a For goes over at the port that was arrived at last: those of the names that are allocated, globals first. It is the
+    /// same at all values of the symbols. One step.
     pub fn turns<L: Ledger>(
         &self,
         alloc: Global,
@@ -89,8 +91,10 @@ impl SymState {
         steps: &mut Steps<L>,
     ) -> Result<Vec<(Option<NodeId>, NameId)>, NoMemory>
         ensures keys { IfOk result (λ keys. keys.items ≡ snapshot (node_of self.now.places) names.now self.now.carried.scopes) }
+        ensures commutes { IfOk result (λ keys. (v : List ℕ) → keys.items ≡ snapshot (node_of self.now.places) names.now (numbers_in v self.now).scopes) }
         ensures counted { steps.new ≡ steps.old + 1 }
     {
+        metadata_commute::<Term, Num>();
         steps.tick();
         self.present(alloc, self.node(), names)
     }
