@@ -1,32 +1,32 @@
 -- Walks behind what has been walked.
 use Rattle.std.proofs.Common.{◌≡◌, ℕ, suc, ◌+◌, List, [], ◌∷◌, ◌++◌, map, Option, Some, None, refl, sym, ap, ◌∙◌, append_assoc, arith, ◌-◌, ◌≤◌, length, get_or, take, drop}
 use Rattle.std.proofs.lemmas.Grind.{common_steps}
-use Rattle.std.specs.Prelude.{option_map}
+use Rattle.std.proofs.lemmas.List.{append-nil}
 use Rattle.sn_width.specs.declared.ids.NodeId.{NodeId}
-use Rattle.net_tables.specs.Lookups.{port_of}
-use Rattle.net_tables.specs.Places.{Port}
 use Rattle.sefl_syntax.specs.declared.net.Side.{Side}
 use Rattle.sefl_syntax.specs.declared.net.Side.TheVariants.{Inward, Outward}
 use Rattle.sefl_meaning.specs.declared.walk.Decision.{Decision}
 use Rattle.sefl_meaning.specs.declared.walk.Decision.TheVariants.{Copy}
+use Rattle.sefl_meaning.specs.declared.walk.End.TheVariants.{Cut}
 use Rattle.sefl_meaning.specs.declared.walk.Place.{Place}
 use Rattle.sefl_meaning.specs.Carried.{Carried}
 use Rattle.sefl_meaning.specs.Injected.{unknown_count, walks_from}
-use Rattle.sefl_meaning.specs.Network.{Network, Entry, link_of, port_at}
+use Rattle.sefl_meaning.specs.Network.{Network, Entry, link_of}
 use Rattle.sefl_meaning.specs.View.{carried_of}
 use Rattle.sefl_meaning.specs.Runs.{Progress, Ran, noting, starting}
 use Rattle.sefl_meaning.specs.Walks.{Passage, Trail, shown, by_way_of, decided, place_at, run_port, crossed, passed, leave, copies, enter}
+use Rattle.port_moves.specs.Hops.{AreLeft}
 use Rattle.concrete_run.specs.declared.packet.Packet.{Packet}
 use Rattle.code_frames.specs.declared.frame.Exit.{Exit}
 use Rattle.code_frames.specs.declared.frame.Exit.TheVariants.{Off, Go, Forked, Failed}
 use Rattle.code_frames.specs.Frames.{exit_of, progress_at}
 use Rattle.concrete_run.specs.declared.pending.Pending.{Pending}
 use Rattle.concrete_run.specs.declared.pending.Stage.{Stage}
-use Rattle.concrete_run.specs.declared.pending.Stage.TheVariants.{Arriving, Leaving}
+use Rattle.concrete_run.specs.declared.pending.Stage.TheVariants.{Arriving, Leaving, Ended}
 use Rattle.concrete_run.specs.Packets.{Given, RunsAs, given_of, progress_of}
 use Rattle.concrete_run.specs.Answers.{IsAtStart}
 use Rattle.concrete_run.proofs.Alike.{led_alike, steps_alike}
-use Rattle.concrete_run.specs.Pending.{Steps, led, stage_passed, stage_crossed, steps_at, steps_by, steps_copied, steps_crossed, steps_entered, steps_left, steps_passed, walks_at, walks_by, walks_of}
+use Rattle.concrete_run.specs.Pending.{Steps, led, stage_before, stage_over, stage_passed, stage_crossed, steps_at, steps_by, steps_copied, steps_crossed, steps_entered, steps_left, steps_passed, walks_at, walks_by, walks_of}
 
 -- with decisions more
 pub led_decided : (ds rs : List Decision) (ps : List Place) (ts : List Passage) → map (led ds ps) (map (decided rs) ts) ≡ map (led (ds ++ rs) ps) ts
@@ -112,7 +112,7 @@ module _ (net : Network) where
       RunsAs new exit (noting old.decisions.items (run_port net old.numbers.numbers.now old.numbers.unknowns node side port (progress_of old)))
 
   -- over an input port, with a hop left
-  pub arrived : (hops rest : ℕ) (ps qs : List Place) (old new : Packet) (node : NodeId) (port : ℕ) (exit : Exit)
+  arrived : (hops rest : ℕ) (ps qs : List Place) (old new : Packet) (node : NodeId) (port : ℕ) (exit : Exit)
       → hops ≡ suc rest → qs ≡ ps ++ place_at node Inward port ∷ [] → given_of new ≡ given_of old
       → Runs old new node Inward port exit
       → walks_by net (stage_passed node exit) rest qs new ≡ walks_by net (Arriving node port) hops ps old
@@ -130,25 +130,25 @@ module _ (net : Network) where
       ∙ ap (λ n. map (led old.decisions.items ps) (onward net g n node port (progress_of old))) (sym h)
 
   -- over an output port
-  pub left : (hops : ℕ) (ps qs : List Place) (old new : Packet) (node : NodeId) (port : ℕ) (link : Option (NodeId × ℕ)) (exit : Exit)
-      → qs ≡ ps ++ place_at node Outward port ∷ [] → link ≡ link_of net node port → given_of new ≡ given_of old
+  left : (hops : ℕ) (ps qs : List Place) (old new : Packet) (node : NodeId) (port : ℕ) (exit : Exit)
+      → qs ≡ ps ++ place_at node Outward port ∷ [] → given_of new ≡ given_of old
       → Runs old new node Outward port exit
-      → walks_by net (stage_crossed link exit) hops qs new ≡ walks_by net (Leaving node port) hops ps old
-  left hops ps qs old new node port link exit q l same runs =
+      → walks_by net (stage_crossed (link_of net node port) exit) hops qs new ≡ walks_by net (Leaving node port) hops ps old
+  left hops ps qs old new node port exit q same runs =
       let place = place_at node Outward port in
+      let link = link_of net node port in
       let g = given_of old in
       let r = run_port net g.0 g.1 node Outward port (progress_of old) in
       let p = progress_at (carried_of new.state) new.choices.items runs.0 in
-      let next = λ (x : Ran). crossed net g.0 g.1 (onward net g hops) (link_of net node port) x.exit x.progress in
+      let next = λ (x : Ran). crossed net g.0 g.1 (onward net g hops) link x.exit x.progress in
       ap (λ x. walks_by net (stage_crossed link exit) hops x new) q
       ∙ walks_counted g (stage_crossed link exit) hops (ps ++ place ∷ []) new runs.0 same
       ∙ ap (map (led new.decisions.items (ps ++ place ∷ []))) (crossed_stage net g hops link exit p)
-      ∙ ap (λ x. map (led new.decisions.items (ps ++ place ∷ [])) (crossed net g.0 g.1 (onward net g hops) x (exit_of exit) p)) l
       ∙ ap (λ (x : Ran). map (led x.decisions (ps ++ place ∷ [])) (next x)) runs.1
       ∙ sym (led_on old.decisions.items r.decisions ps place (progress_of old) (next r))
 
   -- a step over an input port, with a hop left
-  pub arrived_steps : (hops rest : ℕ) (old new : Packet) (node : NodeId) (port : ℕ) (exit : Exit)
+  arrived_steps : (hops rest : ℕ) (old new : Packet) (node : NodeId) (port : ℕ) (exit : Exit)
       → hops ≡ suc rest → given_of new ≡ given_of old → Runs old new node Inward port exit
       → suc (steps_by net (stage_passed node exit) rest new) ≡ steps_by net (Arriving node port) hops old
   arrived_steps hops rest old new node port exit h same runs =
@@ -160,16 +160,55 @@ module _ (net : Network) where
       ∙ ap (λ n. onward_steps net g n node port (progress_of old)) (sym h)
 
   -- over an output port
-  pub left_steps : (hops : ℕ) (old new : Packet) (node : NodeId) (port : ℕ) (link : Option (NodeId × ℕ)) (exit : Exit)
-      → link ≡ link_of net node port → given_of new ≡ given_of old → Runs old new node Outward port exit
-      → suc (steps_by net (stage_crossed link exit) hops new) ≡ steps_by net (Leaving node port) hops old
-  left_steps hops old new node port link exit l same runs =
+  left_steps : (hops : ℕ) (old new : Packet) (node : NodeId) (port : ℕ) (exit : Exit)
+      → given_of new ≡ given_of old → Runs old new node Outward port exit
+      → suc (steps_by net (stage_crossed (link_of net node port) exit) hops new) ≡ steps_by net (Leaving node port) hops old
+  left_steps hops old new node port exit same runs =
       let g = given_of old in
+      let link = link_of net node port in
       let p = progress_at (carried_of new.state) new.choices.items runs.0 in
       ap suc (steps_counted g (stage_crossed link exit) hops new runs.0 same)
       ∙ ap suc (crossed_steps net g hops link exit p)
-      ∙ ap (λ x. suc (steps_crossed net g.0 g.1 (onward_steps net g hops) x (exit_of exit) p)) l
-      ∙ ap (λ (x : Ran). suc (steps_crossed net g.0 g.1 (onward_steps net g hops) (link_of net node port) x.exit x.progress)) runs.1
+      ∙ ap (λ (x : Ran). suc (steps_crossed net g.0 g.1 (onward_steps net g hops) link x.exit x.progress)) runs.1
+
+  -- over a port, with so many hops left behind its code
+  pub went : (side : Side) (hops rest : ℕ) (ps qs : List Place) (old new : Packet) (node : NodeId) (port : ℕ) (exit : Exit)
+      → AreLeft side hops (Some rest) → qs ≡ ps ++ place_at node side port ∷ [] → given_of new ≡ given_of old
+      → Runs old new node side port exit
+      → walks_by net (stage_over net node side port exit) rest qs new ≡ walks_by net (stage_before node side port) hops ps old
+  went Inward hops rest ps qs old new node port exit h q same runs = arrived hops rest ps qs old new node port exit h q same runs
+  went Outward hops rest ps qs old new node port exit h q same runs =
+      left rest ps qs old new node port exit q same runs ∙ ap (λ n. walks_by net (Leaving node port) n ps old) h
+
+  pub went_steps : (side : Side) (hops rest : ℕ) (old new : Packet) (node : NodeId) (port : ℕ) (exit : Exit)
+      → AreLeft side hops (Some rest) → given_of new ≡ given_of old → Runs old new node side port exit
+      → suc (steps_by net (stage_over net node side port exit) rest new) ≡ steps_by net (stage_before node side port) hops old
+  went_steps Inward hops rest old new node port exit h same runs = arrived_steps hops rest old new node port exit h same runs
+  went_steps Outward hops rest old new node port exit h same runs =
+      left_steps rest old new node port exit same runs ∙ ap (λ n. steps_by net (Leaving node port) n old) h
+
+  -- at a port whose code does not run
+  pub cut : (side : Side) (hops : ℕ) (ps qs : List Place) (packet : Packet) (node : NodeId) (port : ℕ)
+      → AreLeft side hops None → qs ≡ ps ++ place_at node side port ∷ []
+      → walks_by net (Ended Cut) hops qs packet ≡ walks_by net (stage_before node side port) hops ps packet
+  cut Inward hops ps qs packet node port h q =
+      let ds = packet.decisions.items in
+      let g = given_of packet in
+      let p = progress_of packet in
+      let place = place_at node Inward port in
+      let there : walks_by net (Ended Cut) hops (ps ++ place ∷ []) packet ≡ map (led ds ps) (onward net g 0 node port p) =
+      λ i. record { decisions = ds ++ []; places = append-nil (ps ++ place ∷ []) i; end' = Cut; state = p.state } ∷ [] in
+      ap (λ l. walks_by net (Ended Cut) hops l packet) q
+      ∙ there
+      ∙ ap (λ n. map (led ds ps) (onward net g n node port p)) (sym h)
+  cut Outward hops ps qs packet node port h q = absurd h
+
+  pub cut_steps : (side : Side) (hops : ℕ) (packet : Packet) (node : NodeId) (port : ℕ)
+      → AreLeft side hops None → suc (steps_by net (Ended Cut) hops packet) ≡ steps_by net (stage_before node side port) hops packet
+  cut_steps Inward hops packet node port h =
+      let g = given_of packet in
+      ap (λ n. onward_steps net g n node port (progress_of packet)) (sym h)
+  cut_steps Outward hops packet node port h = absurd h
 
   -- a copy, and then the others
   pub copied : (hops number behind port : ℕ) (ports rest : List ℕ) (ps qs : List Place) (old new : Packet) (node : NodeId)
@@ -207,14 +246,6 @@ module _ (net : Network) where
 pub led_none : (ts : List Passage) → map (led [] []) ts ≡ map shown ts
 led_none [] = refl
 led_none (t ∷ ts) = ap (λ l. shown t ∷ l) (led_none ts)
-
-known : (link : Option (NodeId × ℕ)) → link ≡ option_map port_at (option_map port_of link)
-known None = refl
-known (Some to) = refl
-
--- where a link leads, from what is told of it
-pub link_known : (link : Option (NodeId × ℕ)) (told : Option Port) → option_map port_of link ≡ told → link ≡ option_map port_at told
-link_known link told e = known link ∙ ap (option_map port_at) e
 
 -- the walks of the packet before the injection's port
 pub walks_at_start : (net : Network) (i : Entry) (v : List ℕ) (hops : ℕ) (s : Carried ℕ) (p : Pending) → IsAtStart i (v, unknown_count i) hops s p

@@ -5,6 +5,7 @@ use Rattle.sefl_meaning.specs.declared.walk.Decision.{Decision}
 use Rattle.sefl_meaning.specs.declared.walk.Place.{Place}
 use Rattle.sefl_meaning.specs.declared.walk.End.TheVariants as ends
 use Rattle.sefl_meaning.specs.declared.walk.Walk.{Walk}
+use Rattle.sefl_syntax.specs.declared.net.Side.{Side}
 use Rattle.sefl_syntax.specs.declared.net.Side.TheVariants.{Inward, Outward}
 use Rattle.sefl_meaning.specs.View.{trail_of}
 pub use Rattle.sefl_meaning.specs.Order.{BeginsWith}
@@ -28,6 +29,11 @@ abbrev pub led : List Decision → List Place → Passage → Trail
 led decisions places t =
     record (shown t) { decisions = decisions ++ t.decisions; places = places ++ (shown t).places }
 
+-- before a port
+abbrev pub stage_before : NodeId → Side → ℕ → Stage
+stage_before node Inward port = Arriving node port
+stage_before node Outward port = Leaving node port
+
 -- behind the code of an input port
 abbrev pub stage_passed : NodeId → Exit → Stage
 stage_passed node Off = Ended ends.Stopped
@@ -46,6 +52,11 @@ stage_crossed link Off = stage_behind link
 stage_crossed link (Failed failure site) = Ended (ends.Failed failure (record { 0 = site }))
 stage_crossed link (Go port) = Ended ends.Stopped
 stage_crossed link (Forked ports) = Ended ends.Stopped
+
+-- behind the code of a port
+abbrev pub stage_over : Network → NodeId → Side → ℕ → Exit → Stage
+stage_over net node Inward port exit = stage_passed node exit
+stage_over net node Outward port exit = stage_crossed (link_of net node port) exit
 
 -- how many steps are taken from an input port on: one to each port and over its code, one to each copy, and one at each end
 abbrev pub Steps : Type 0

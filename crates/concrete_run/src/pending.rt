@@ -1,24 +1,22 @@
 //! Walks that are still to come.
 
 ghost use Rattle.std.specs.Prelude.{◌≡◌, suc, [], ◌∷◌, ◌++◌, IfOk, OnOk};
-ghost use Rattle.sefl_syntax.specs.Views.{code_tree};
-ghost use Rattle.net_check.specs.Network.{Network, code_at, network};
-ghost use Rattle.sefl_meaning.specs.Network.{code_of};
+ghost use Rattle.net_check.specs.Network.{Network, network};
 ghost use Rattle.sefl_meaning.specs.Runs.{noting};
-ghost use Rattle.sefl_meaning.specs.declared.walk.End.TheVariants.{Failed as FailedAt};
 ghost use Rattle.sefl_meaning.specs.View.{carried_of, trail_of};
 ghost use Rattle.sefl_meaning.specs.Walks.{run_port};
 ghost use Rattle.concrete_run.specs.Packets.{RunsAs, given_of, progress_of};
-ghost use Rattle.concrete_run.specs.Pending.{stage_crossed, stage_passed, steps_by, steps_next, steps_of, walks_by, walks_next, walks_of};
-ghost use Rattle.concrete_run.specs.declared.pending.Stage.TheVariants.{Arriving as ArrivingAt, Leaving as LeavingBy, Copying as CopyingTo};
+ghost use Rattle.concrete_run.specs.Pending.{stage_before, stage_crossed, stage_over, stage_passed, steps_by, steps_next, steps_of, walks_by, walks_next, walks_of};
+ghost use Rattle.concrete_run.specs.declared.pending.Stage.TheVariants.{Copying as CopyingTo};
 
 use crate::packet::{Packet, run_code};
 use code_frames::Exit;
 use net_check::Net;
 use net_tables::behind_item;
-use sefl_meaning::{Decision, End, Failure, Place, State, Walk};
-use sefl_syntax::{Instr, Side};
-use sn_width::{NoMemory, NodeId, Site, Steps};
+use port_moves::{code_of, failed_at, first_site, hops_behind, link_of};
+use sefl_meaning::{Decision, End, Place, State, Walk};
+use sefl_syntax::Side;
+use sn_width::{NoMemory, NodeId, Steps};
 use std::alloc::Global;
 use std::sync::ledger::Ledger;
 
@@ -86,11 +84,13 @@ pub(crate) fn advance<'a, L: Ledger>(
     match stage {
         Stage::Ended(end) => Ok(Next::Ended(ended(places, packet, end))),
         Stage::Arriving { node, port } => {
-            let moved = arrive(alloc, net, hops, places, packet, node, port, steps)?;
+            let side = Side::Inward;
+            let moved = arrive(alloc, net, hops, places, packet, node, side, port, steps)?;
             Ok(Next::Moved(moved))
         }
         Stage::Leaving { node, port } => {
-            let moved = leave(alloc, net, hops, places, packet, node, port, steps)?;
+            let side = Side::Outward;
+            let moved = arrive(alloc, net, hops, places, packet, node, side, port, steps)?;
             Ok(Next::Moved(moved))
         }
         Stage::Copying {
@@ -119,7 +119,7 @@ fn ended(places: Vec<Place>, packet: Packet<'_>, end: End) -> Walk
     }
 }
 
-/// Enters an input port, where a hop is left.
+/// Arrives at a port and runs its code; where that does not run, the walk is cut.
 fn arrive<'a, L: Ledger>(
     alloc: Global,
     net: &'a Net,
@@ -127,17 +127,17 @@ fn arrive<'a, L: Ledger>(
     places: Vec<Place>,
     packet: Packet<'a>,
     node: NodeId,
+    side: Side,
     port: u32,
     steps: &mut Steps<L>,
 ) -> Result<Pending<'a>, NoMemory>
-    ensures walks { IfOk result (λ moved. walks_of (network net.now) moved ≡ walks_by (network net.now) (ArrivingAt node port) hops places.items packet.entry) }
-    ensures work { IfOk result (λ moved. suc (steps_of (network net.now) moved) ≡ steps_by (network net.now) (ArrivingAt node port) hops packet.entry) }
+    ensures walks { IfOk result (λ moved. walks_of (network net.now) moved ≡ walks_by (network net.now) (stage_before node side port) hops places.items packet.entry) }
+    ensures work { IfOk result (λ moved. suc (steps_of (network net.now) moved) ≡ steps_by (network net.now) (stage_before node side port) hops packet.entry) }
 {
     let mut places = places;
     let mut packet = packet;
-    let side = Side::Inward;
     places.push(Place { node, side, port })?;
-    if hops == 0 {
+    let Some(rest) = hops_behind(side, hops) else {
         let stage = Stage::Ended(End::Cut);
         return Ok(Pending {
             hops,
@@ -145,39 +145,11 @@ fn arrive<'a, L: Ledger>(
             packet,
             stage,
         });
-    }
+    };
     let exit = run_port(alloc, net, node, side, port, &mut packet, steps)?;
-    let stage = passed(node, exit);
+    let stage = behind(net, node, side, port, exit);
     Ok(Pending {
-        hops: hops - 1,
-        places,
-        packet,
-        stage,
-    })
-}
-
-/// Leaves by an output port.
-fn leave<'a, L: Ledger>(
-    alloc: Global,
-    net: &'a Net,
-    hops: u32,
-    places: Vec<Place>,
-    packet: Packet<'a>,
-    node: NodeId,
-    port: u32,
-    steps: &mut Steps<L>,
-) -> Result<Pending<'a>, NoMemory>
-    ensures walks { IfOk result (λ moved. walks_of (network net.now) moved ≡ walks_by (network net.now) (LeavingBy node port) hops places.items packet.entry) }
-    ensures work { IfOk result (λ moved. suc (steps_of (network net.now) moved) ≡ steps_by (network net.now) (LeavingBy node port) hops packet.entry) }
-{
-    let mut places = places;
-    let mut packet = packet;
-    let side = Side::Outward;
-    places.push(Place { node, side, port })?;
-    let exit = run_port(alloc, net, node, side, port, &mut packet, steps)?;
-    let stage = crossed(net.link(node, port), exit);
-    Ok(Pending {
-        hops,
+        hops: rest,
         places,
         packet,
         stage,
@@ -260,38 +232,18 @@ fn run_port<'a, L: Ledger>(
         (run_port (network net.now) packet.old.numbers.numbers.now packet.old.numbers.unknowns node side port (progress_of packet.old)))) }
     ensures given { OnOk result (given_of packet.new ≡ given_of packet.old) }
 {
-    let site = code_site(net, node, side, port);
-    let first = behind_item(site)?;
+    let site = first_site(net, node, side, port)?;
     let code = code_of(net, node, side, port);
-    run_code(alloc, net, node, first, code, packet, steps)
+    run_code(alloc, net, node, site, code, packet, steps)
 }
 
-/// The site of a port's code; 0 where it has none.
-fn code_site(net: &Net, node: NodeId, side: Side, port: u32) -> u32
-    ensures { result ≡ (code_of (network net.now) node side port).0 }
+/// Behind the code of a port.
+fn behind<'a>(net: &Net, node: NodeId, side: Side, port: u32, exit: Exit<'a>) -> Stage<'a>
+    ensures { result ≡ stage_over (network net.now) node side port exit.entry }
 {
-    match net.code_site(node, side, port) {
-        None => 0,
-        Some(site) => site.0,
-    }
-}
-
-/// The code of a port; none where there is no such node.
-fn code_of<'a>(net: &'a Net, node: NodeId, side: Side, port: u32) -> &'a [Instr]
-    ensures { code_tree result.now ≡ code_at (network net.now) node side port }
-{
-    if node.0 >= net.node_count() {
-        return &[];
-    }
-    net.code(node, side, port)
-}
-
-fn failed_at(failure: Failure, site: u32) -> End
-    ensures { result ≡ FailedAt failure (record { 0 = site }) }
-{
-    End::Failed {
-        failure,
-        site: Site(site),
+    match side {
+        Side::Inward => passed(node, exit),
+        Side::Outward => crossed(link_of(net, node, port), exit),
     }
 }
 
