@@ -219,17 +219,19 @@ module _ {P O N D T : Type 0} (x : Views P O N D T) where
   pub starts_at : (place : P) → spot_at 0 (x.place_at place) ≡ first_spot x.start → IsAt x.start (behind_last x.start (x.place_at place))
   starts_at place e = subst (IsAt x.start) (sym (first_placed x place e)) (at_start x.start)
 
-  -- with the arrivals on the way
-  pub record IsLedBy (arrivals : List (Place × Progress LinearTerm)) (ds : List Decision) (b : Spot) : Type 0 where
+  -- with the arrivals and the tests on the way
+  pub record IsLedBy (arrivals : List (Place × Progress LinearTerm)) (taken : List (FormulaTree × Bool)) (ds : List Decision) (b : Spot) : Type 0 where
     pub led : IsLed x.start ds b
     pub arrivals_are : led.way.arrivals ≡ arrivals
+    pub tests_are : led.way.tests ≡ taken
 
-  led_to : (a b : Spot) (count : ℕ) (at : IsAt x.start a) → ComesTo x.start count a b → IsLedBy (at.arrivals ++ arrivals_of a.tree) a.decisions b
+  led_to : (a b : Spot) (count : ℕ) (at : IsAt x.start a) → ComesTo x.start count a b → IsLedBy (at.arrivals ++ arrivals_of a.tree) a.tests a.decisions b
   led_to a b count at n =
       let st = next_stands x.start a b at n.arrives in
       let w : IsWaiting x.start b = record { at = st.at; node = subst (λ (t : SymTree). route t [] ≡ Some (waiting t)) (sym n.arrives.tree) (node_waits a.tree); widths = n.arrives.widths } in
       record {
         arrivals_are = st.same;
+        tests_are = n.arrives.tests;
         led = record {
           at = w.at;
           decisions = n.arrives.decisions;
@@ -248,12 +250,13 @@ module _ {P O N D T : Type 0} (x : Views P O N D T) where
       → ComesTo x.start count (behind_last x.start h) (spot_at count c) → count ≡ begun_at x.start.tree c.decisions
   come_there h c count raised at e n = sym (begun_next x.start (behind_last x.start h) (spot_at count c) count at n)
 
-  pub record ArrivesBy (arrivals : List (Place × Progress LinearTerm)) (ds : List Decision) (next : Next O N) : Type 0 where
+  pub record ArrivesBy (arrivals : List (Place × Progress LinearTerm)) (taken : List (FormulaTree × Bool)) (ds : List Decision) (next : Next O N) : Type 0 where
     pub leads : LeadsTo x ds next
     pub arrivals_are : leads.led.way.arrivals ≡ arrivals
+    pub tests_are : leads.led.way.tests ≡ taken
 
   pub arrived_by : (h : Here) (before after : ℕ) (next : Next O N) (at : IsAt x.start (behind_last x.start h)) → Advances x h before after next
-      → ArrivesBy (at.arrivals ++ arrivals_of (behind_last x.start h).tree) h.decisions next
+      → ArrivesBy (at.arrivals ++ arrivals_of (behind_last x.start h).tree) h.tests h.decisions next
   arrived_by h before after (AtEnd o) at adv =
       let b0 = at_last (begun_at x.start.tree) h.decisions in
       let n = adv.goes b0 in
@@ -263,6 +266,7 @@ module _ {P O N D T : Type 0} (x : Views P O N D T) where
       record {
         leads = record { led = l.led; kind = subst (λ (m : ℕ). IsOver ((x.over_at o).tree m)) same n.1 };
         arrivals_are = l.arrivals_are;
+        tests_are = l.tests_are;
       }
   arrived_by h before after (AtNode node offer) at adv =
       let b0 = at_last (begun_at x.start.tree) h.decisions in
@@ -273,6 +277,7 @@ module _ {P O N D T : Type 0} (x : Views P O N D T) where
       record {
         leads = record { led = l.led; kind = subst (λ (m : ℕ). IsNode offer ((x.node_at node).tree m)) same n.1 };
         arrivals_are = l.arrivals_are;
+        tests_are = l.tests_are;
       }
 
   pub arrived : (h : Here) (before after : ℕ) (next : Next O N) → IsAt x.start (behind_last x.start h) → Advances x h before after next → LeadsTo x h.decisions next

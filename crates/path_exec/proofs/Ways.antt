@@ -75,8 +75,8 @@ pub record IsOnWay (a c : Spot) : Type 0 where
 pub way_first : (a : Spot) → IsOnWay a a
 way_first a = record { decisions = refl; tests = refl; places = refl; node = refl; more = []; grown = sym (append_nil a.widths) }
 
-pub way_on : (a b c : Spot) (carried : Carried LinearTerm) → IsOnWay a b → Reaches b c carried → IsOnWay a c
-way_on a b c carried w h = record {
+pub way_on : (s : SymStart) (a b c : Spot) (carried : Carried LinearTerm) → IsOnWay a b → Reaches s b c carried → IsOnWay a c
+way_on s a b c carried w h = record {
   decisions = h.goes.decisions ∙ w.decisions;
   tests = h.goes.tests ∙ w.tests;
   places = ap (λ ps. ps ++ places_of c.tree) h.places
@@ -137,7 +137,7 @@ module _ {P O N D T : Type 0} (x : Views P O N D T) where
     way = λ begun.
         let same : (begun + w.raised) + h.raised ≡ begun + (w.raised + h.raised) = omega arith in
         subst (λ (m : ℕ). IsOnWay (spot_at begun first) (spot_at m (x.place_at place))) same
-        (way_on (spot_at begun first) (spot_at (begun + w.raised) now) (spot_at ((begun + w.raised) + h.raised) (x.place_at place)) (x.carried_at place) (w.way begun)
+        (way_on x.start (spot_at begun first) (spot_at (begun + w.raised) now) (spot_at ((begun + w.raised) + h.raised) (x.place_at place)) (x.carried_at place) (w.way begun)
         (subst (IsMove x (spot_at (begun + w.raised) now) ((begun + w.raised) + h.raised)) is (h.goes (begun + w.raised))));
   }
 

@@ -23,14 +23,15 @@ pub record GoesOn (a c : Spot) : Type 0 where
   pub more : List ℕ
   pub grown : c.widths ≡ a.widths ++ more
 
--- the next port on the way was arrived at, where this is carried
-pub record Reaches (a c : Spot) (carried : Carried LinearTerm) : Type 0 where
+-- the next port on the way was arrived at, where this is carried; the symbols are the unknown fields and the choices so far
+pub record Reaches (s : SymStart) (a c : Spot) (carried : Carried LinearTerm) : Type 0 where
   pub goes : GoesOn a c
   pub port : Place
   pub progress : Progress LinearTerm
   pub is : a.tree ≡ arrives port progress c.tree
   pub carries : progress.state ≡ carried
   pub places : c.places ≡ a.places ++ port ∷ []
+  pub widths : c.widths ≡ s.unknowns ++ progress.choices
 
 -- no port was arrived at, and then so many instructions have begun
 pub record StopsAt (s : SymStart) (count : ℕ) (a c : Spot) : Type 0 where
@@ -54,7 +55,7 @@ module _ {P O N D T : Type 0} (x : Views P O N D T) where
 
   -- the run came so far, and then so many instructions have begun
   abbrev pub IsMove : Spot → ℕ → Moved P O N → Type 0
-  IsMove a count (Arrived place) = Reaches a (spot_at count (x.place_at place)) (x.carried_at place)
+  IsMove a count (Arrived place) = Reaches x.start a (spot_at count (x.place_at place)) (x.carried_at place)
   IsMove a count (Stopped next) = IsStop a count next
 
   -- the counter rises by as many as begin, however many had begun before

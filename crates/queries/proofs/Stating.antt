@@ -1,5 +1,5 @@
 -- The states of a path that a question speaks of.
-use Rattle.std.proofs.Common.{◌≡◌, ℕ, inl, inr, Bool, true, false, true≢false, List, [], ◌∷◌, map, refl, sym, ap, subst, ◌∙◌, Some, None, if◌then◌else◌}
+use Rattle.std.proofs.Common.{◌≡◌, ℕ, inl, inr, Bool, true, false, true≢false, List, [], ◌∷◌, ◌++◌, map, refl, sym, ap, subst, ◌∙◌, Some, None, if◌then◌else◌}
 use Rattle.sefl_meaning.specs.declared.walk.Decision.{Decision}
 use Rattle.sefl_meaning.specs.declared.walk.End.{End}
 use Rattle.sefl_meaning.specs.declared.walk.End.TheVariants.{Stopped, Delivered, Failed, Cut}
@@ -10,9 +10,9 @@ use Rattle.sefl_meaning.specs.Carried.{Carried}
 use Rattle.sefl_meaning.specs.Courses.{Progress}
 use Rattle.sefl_meaning.specs.Routes.{IsFirstClosed, places_on, route}
 use Rattle.exact_records.specs.Records.{SymRoute, SymStart, SymTree}
-use Rattle.path_exec.specs.Visiting.{AreVisits}
+use Rattle.path_exec.specs.Visiting.{AreVisits, Arrival}
 use Rattle.sym_state.specs.Symbolic.{Symbolic}
-use Rattle.symbolic_engine.specs.Exploring.{ArrivesBy, FollowsTo}
+use Rattle.symbolic_engine.specs.Exploring.{ArrivesBy, ArrivesIn, FollowsTo}
 use Rattle.question_meaning.specs.Formulas.{asked_left, asked_on, explored}
 use Rattle.question_meaning.specs.Questions.{Field, Question, reach, invariant, visible, ends_at, if_delivered, same_place, states_at}
 use Rattle.queries.specs.declared.states.PathRun.{PathRun}
@@ -36,15 +36,15 @@ module _ (place : Place) where
   left_out true s more e = absurd (true≢false e)
   left_out false s more e = refl
 
-  pub visits_are : (arrivals : List (Place × Progress LinearTerm)) (states : List Symbolic)
-      → AreVisits (λ (x : Symbolic). x.carried) place arrivals states → map carried_of states ≡ states_at place arrivals
-  visits_are [] states h = ap (map carried_of) h
-  visits_are (a ∷ arrivals) states (inl v) =
+  pub visits_are : (Stands : List Arrival → Arrival → Symbolic → Type 0) (before arrivals : List Arrival) (states : List Symbolic)
+      → AreVisits (λ (x : Symbolic). x.carried) Stands place before arrivals states → map carried_of states ≡ states_at place arrivals
+  visits_are Stands before [] states h = ap (map carried_of) h
+  visits_are Stands before (a ∷ arrivals) states (inl v) =
       ap (map carried_of) v.is
-      ∙ ((λ j. v.carries j ∷ visits_are arrivals v.rest v.others j)
+      ∙ ((λ j. v.carries j ∷ visits_are Stands (before ++ a ∷ []) arrivals v.rest v.others j)
       ∙ sym (kept_at (same_place place a.0) a.1.state (states_at place arrivals) (is_same place a.0 (sym v.at))))
-  visits_are (a ∷ arrivals) states (inr v) =
-      visits_are arrivals states v.1
+  visits_are Stands before (a ∷ arrivals) states (inr v) =
+      visits_are Stands (before ++ a ∷ []) arrivals states v.1
       ∙ sym (left_out (same_place place a.0) a.1.state (states_at place arrivals)
       (not_true (same_place place a.0) (λ e. v.0 (sym (same_is place a.0 e)))))
 
@@ -85,8 +85,8 @@ module _ (net : Network) (i : Entry) (hops : ℕ) where
   arrive_at place ds states h = λ way leads.
       let there : ArrivesBy (explored net i hops) place ds states =
       subst (λ s. ArrivesBy s place ds states) (start_is net i hops h.start h.explored) h.holds in
-      visits_are place way.arrivals states
-      (subst (λ (w : SymRoute). AreVisits (λ (x : Symbolic). x.carried) place w.arrivals states) (same_way net i hops ds there.way way there.leads leads) there.visits)
+      visits_are place (ArrivesIn (explored net i hops) ds) [] way.arrivals states
+      (subst (λ (w : SymRoute). AreVisits (λ (x : Symbolic). x.carried) (ArrivesIn (explored net i hops) ds) place [] w.arrivals states) (same_way net i hops ds there.way way there.leads leads) there.visits)
 
   -- at the first of the stops at a port
   pub noted_there : (place : Place) (ds : List Decision) (stops : List Stop) (states : List Symbolic) → AreNoted net i hops ds stops

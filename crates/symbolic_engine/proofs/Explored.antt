@@ -1,19 +1,18 @@
 -- What explorations answer, for the net.
 use Rattle.std.proofs.Common.{◌≡◌, ℕ, ◌+◌, ◌≤◌, inl, inr, true, List, [], ◌∷◌, ◌++◌, length, map, Result, Ok, Err, IfOk, IsErrAnd, arith, refl, sym, ap, subst, ◌∙◌}
 use Rattle.std.specs.Global.{Vec}
+use Rattle.std.specs.List.{AllByRecursion}
 use Rattle.sefl_meaning.specs.declared.walk.Decision.{Decision}
 use Rattle.sefl_meaning.specs.declared.walk.Place.{Place}
-use Rattle.sefl_meaning.specs.Courses.{Progress}
 use Rattle.sefl_meaning.specs.Network.{Network, Entry}
 use Rattle.sefl_meaning.specs.Runs.{starting}
 use Rattle.sefl_meaning.specs.Start.{progress_of}
 use Rattle.sefl_meaning.specs.Trees.{enter}
 use Rattle.term_values.specs.TermValues.{terms}
-use Rattle.lin_term.specs.Terms.{LinearTerm}
 use Rattle.path_records.specs.declared.records.Record.{Record}
 use Rattle.exact_records.specs.Laws.{ExactRecordsShowWalks}
 use Rattle.exact_records.specs.Packets.{IsExplored}
-use Rattle.exact_records.specs.Records.{SymStart, SymTree, condition_on}
+use Rattle.exact_records.specs.Records.{SymStart, SymTree, condition_on, injection_tests}
 use Rattle.exact_records.specs.View.{record_tree, record_trees}
 use Rattle.exact_records.specs.Work.{work_of}
 use Rattle.sym_state.specs.Beginning.{Begins, start_in}
@@ -29,7 +28,7 @@ use Rattle.path_exec.specs.Here.{spot_at}
 use Rattle.path_exec.specs.Offers.{IsNode}
 use Rattle.path_exec.specs.Receiving.{Receiving}
 use Rattle.path_exec.specs.Views.{Views}
-use Rattle.path_exec.specs.Visiting.{ArrivedAs, AreVisits}
+use Rattle.path_exec.specs.Visiting.{AreVisits, Arrival, ArrivedAs, ArrivesAt}
 use Rattle.symbolic_engine.specs.declared.origin.Origin.{Ghosts}
 use Rattle.symbolic_engine.specs.declared.spots.Standing.{Standing}
 use Rattle.symbolic_engine.specs.declared.guiding.Led.{Led}
@@ -39,7 +38,7 @@ use Rattle.symbolic_engine.specs.declared.stage.Wait.TheVariants.{Asked, Forked}
 use Rattle.symbolic_engine.specs.Stages.{wait_tree}
 use Rattle.symbolic_engine.specs.Origins.{IsFirstState, IsRunOf, condition_seen, here_of}
 use Rattle.symbolic_engine.specs.Seeing.{views_of}
-use Rattle.symbolic_engine.specs.Exploring.{AreFound, ArrivedFor, ExploredFor, FollowedFor, LeadsThere, WaitsAs}
+use Rattle.symbolic_engine.specs.Exploring.{AreFound, ArrivedFor, ArrivesIn, ExploredFor, FollowedFor, LeadsThere, WaitsAs}
 use Rattle.symbolic_engine.proofs.Running.{all_tests}
 
 -- ---- the start
@@ -136,20 +135,39 @@ module _ {P O N D T : Type 0} (x : Views P O N D T) (net : Network) (i : Entry) 
   not_arrived port (Err e) fault same h =
       subst (λ (k : FollowFault). ArrivedFor net i hops port ds (Err k)) (sym same) (arrival_fault port fault h)
 
--- the states of places that were visited
-pub states_visit : {B : Type 0} (port : Place) (arrivals : List (Place × Progress LinearTerm)) (places : List (Standing B)) (states : List Symbolic)
-    → states ≡ map (λ (place : Standing B). place.run) places
-    → AreVisits (λ (place : Standing B). place.run.carried) port arrivals places → AreVisits (λ (x : Symbolic). x.carried) port arrivals states
-states_visit port [] places states is none = is ∙ ap (map (λ place. place.run)) none
-states_visit port (arrival ∷ arrivals) places states is (inl v) = inl (record {
-  first = v.first.run;
-  rest = map (λ place. place.run) v.rest;
-  is = is ∙ ap (map (λ place. place.run)) v.is;
-  at = v.at;
-  carries = v.carries;
-  others = states_visit port arrivals v.rest (map (λ place. place.run) v.rest) refl v.others;
-})
-states_visit port (arrival ∷ arrivals) places states is (inr v) = inr (v.0, states_visit port arrivals places states is v.1)
+-- the state of a place that stands at an arrival makes it
+arrives_in : {B : Type 0} (origin : Ghosts B) (s : SymStart) (net : Network) (ds : List Decision) (before : List Arrival) (arrival : Arrival) (place : Standing B)
+    → IsRunOf s place.run → ArrivesAt (views_of {B = B} {origin = origin} s net) ds before arrival place → ArrivesIn s ds before arrival place.run
+arrives_in origin s net ds before arrival place run h =
+    let entries = sym (all_tests s place.run run) ∙ ap (λ l. injection_tests s ++ l) h.tests in
+    record {
+      way = h.way;
+      leads = h.leads;
+      places = h.places;
+      condition = λ j. record { widths = h.widths j; entries = entries j };
+      unknowns = run.unknowns;
+    }
+
+-- the states of places that were visited, each of a run from the start
+pub states_visit : {B : Type 0} (origin : Ghosts B) (s : SymStart) (net : Network) (ds : List Decision) (port : Place) (before arrivals : List Arrival) (places : List (Standing B))
+    (states : List Symbolic) → states ≡ map (λ (place : Standing B). place.run) places → AllByRecursion (IsRunOf s) states
+    → AreVisits (λ (place : Standing B). place.run.carried) (ArrivesAt (views_of {B = B} {origin = origin} s net) ds) port before arrivals places
+    → AreVisits (λ (x : Symbolic). x.carried) (ArrivesIn s ds) port before arrivals states
+states_visit origin s net ds port before [] places states is own none = is ∙ ap (map (λ place. place.run)) none
+states_visit {B} origin s net ds port before (arrival ∷ arrivals) places states is own (inl v) =
+    let all : states ≡ v.first.run ∷ map (λ (place : Standing B). place.run) v.rest = is ∙ ap (map (λ place. place.run)) v.is in
+    let runs : AllByRecursion (IsRunOf s) (v.first.run ∷ map (λ (place : Standing B). place.run) v.rest) = subst (AllByRecursion (IsRunOf s)) all own in
+    inl (record {
+      first = v.first.run;
+      rest = map (λ (place : Standing B). place.run) v.rest;
+      is = all;
+      at = v.at;
+      carries = v.carries;
+      stands = arrives_in origin s net ds before arrival v.first runs.0 v.stands;
+      others = states_visit origin s net ds port (before ++ arrival ∷ []) arrivals v.rest (map (λ (place : Standing B). place.run) v.rest) refl runs.1 v.others;
+    })
+states_visit origin s net ds port before (arrival ∷ arrivals) places states is own (inr v) =
+    inr (v.0, states_visit origin s net ds port (before ++ arrival ∷ []) arrivals places states is own v.1)
 
 -- a node stays what it is
 pub at_wait : (offer : Offer) (t u : SymTree) → t ≡ u → IsNode offer u → IsNode offer t

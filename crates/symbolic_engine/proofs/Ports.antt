@@ -1,6 +1,5 @@
 -- Ports that a run arrives at, and what comes behind their code.
 use Rattle.std.proofs.Common.{◌≡◌, ℕ, suc, ◌+◌, List, [], ◌∷◌, ◌++◌, reverse, length, Option, None, Some, refl, sym, ap, subst, ◌∙◌, arith}
-use Rattle.std.specs.Prelude.{option_map}
 use Rattle.sn_width.specs.declared.ids.NodeId.{NodeId}
 use Rattle.lin_term.specs.Terms.{LinearTerm}
 use Rattle.path_formula.specs.Formulas.{FormulaTree}
@@ -9,17 +8,16 @@ use Rattle.path_formula.specs.View.{view}
 use Rattle.sefl_syntax.specs.declared.net.Side.{Side}
 use Rattle.sefl_syntax.specs.declared.net.Side.TheVariants.{Inward, Outward}
 use Rattle.net_check.specs.Network.{Network}
-use Rattle.net_tables.specs.Lookups.{port_of}
-use Rattle.net_tables.specs.Places.{Port}
 use Rattle.sefl_meaning.specs.declared.walk.End.TheVariants.{Stopped, Failed, Cut as CutShort}
 use Rattle.sefl_meaning.specs.declared.walk.Failure.{Failure}
-use Rattle.sefl_meaning.specs.Network.{link_of, port_at}
+use Rattle.sefl_meaning.specs.Network.{link_of}
 use Rattle.sefl_meaning.specs.Values.{Values}
 use Rattle.sefl_meaning.specs.Walks.{place_at}
 use Rattle.sefl_meaning.specs.Runs.{Progress, off, go, forked, failed}
 use Rattle.sefl_meaning.specs.Courses.{Course, ends, asks, after}
 use Rattle.sefl_meaning.specs.Trees.{arrives, copies, leave, over, passed, crossed, port_course, then_tree}
 use Rattle.term_values.specs.TermValues.{terms}
+use Rattle.port_moves.specs.Hops.{AreLeft}
 use Rattle.code_frames.specs.declared.frame.Frame.{Frame}
 use Rattle.code_frames.specs.declared.frame.Move.{Move}
 use Rattle.code_frames.specs.Frames as code
@@ -34,7 +32,7 @@ use Rattle.path_exec.specs.Views.{Views}
 use Rattle.symbolic_engine.specs.declared.stage.Gate.{Gate}
 use Rattle.symbolic_engine.specs.declared.stage.Stage.{Stage}
 use Rattle.symbolic_engine.specs.Origins.{IsRunOf, here_of, progress_in}
-use Rattle.symbolic_engine.specs.Stages.{behind_gate, behind_side, inside_tree, onward_of, stage_tree}
+use Rattle.symbolic_engine.specs.Stages.{behind_gate, behind_side, from_port, inside_tree, onward_of, stage_tree}
 use Rattle.symbolic_engine.specs.Seeing.{standing_at}
 use Rattle.symbolic_engine.proofs.Growing.{Grown, grown_at_move}
 use Rattle.symbolic_engine.proofs.Running.{move_from, reaches_here, tests_same, wider_by}
@@ -58,48 +56,36 @@ one_frame o net node old new frame p empty is =
 
 -- ---- arrivals
 
-module _ (net : Network) (u : ℕ) (frames : List Frame) (node : NodeId) (port : ℕ) where
-  -- over an input port, with a hop left
-  pub enters : (hops rest : ℕ) (p : Progress LinearTerm) → hops ≡ suc rest
-      → course_frames (terms u) net node frames p ≡ port_course (terms u) net node Inward port p
-      → onward_of net u hops node port p
-      ≡ arrives (place_at node Inward port) p (then_tree (course_left (terms u) net node None frames p) (behind_side net u node port rest Inward))
-  enters hops rest p h begins =
+module _ (net : Network) (u : ℕ) (node : NodeId) (port : ℕ) (p : Progress LinearTerm) where
+  -- over a port, with so many hops left behind its code
+  pub goes_in : (frames : List Frame) (side : Side) (hops rest : ℕ) → AreLeft side hops (Some rest)
+      → course_frames (terms u) net node frames p ≡ port_course (terms u) net node side port p
+      → from_port net u side hops node port p
+      ≡ arrives (place_at node side port) p (then_tree (course_left (terms u) net node None frames p) (behind_side net u node port rest side))
+  goes_in frames Inward hops rest h begins =
       ap (λ (n : ℕ). onward_of net u n node port p) h
       ∙ ap (λ (c : Course LinearTerm FormulaTree). arrives (place_at node Inward port) p (then_tree c (passed (terms u) net (onward_of net u rest) node))) (sym begins)
-
-  -- over an output port
-  pub leaves : (hops : ℕ) (p : Progress LinearTerm)
-      → course_frames (terms u) net node frames p ≡ port_course (terms u) net node Outward port p
-      → leave (terms u) net (onward_of net u hops) node port p
-      ≡ arrives (place_at node Outward port) p (then_tree (course_left (terms u) net node None frames p) (behind_side net u node port hops Outward))
-  leaves hops p begins =
-      ap (λ (c : Course LinearTerm FormulaTree). arrives (place_at node Outward port) p (then_tree c (crossed (terms u) net (onward_of net u hops) (link_of net node port))))
+  goes_in frames Outward hops rest h begins =
+      ap (λ (n : ℕ). leave (terms u) net (onward_of net u n) node port p) (sym h)
+      ∙ ap (λ (c : Course LinearTerm FormulaTree). arrives (place_at node Outward port) p (then_tree c (crossed (terms u) net (onward_of net u rest) (link_of net node port))))
       (sym begins)
 
--- no hop is left
-pub enters_cut : (net : Network) (u hops port : ℕ) (node : NodeId) (p : Progress LinearTerm) → hops ≡ 0
-    → onward_of net u hops node port p ≡ arrives (place_at node Inward port) p (over p CutShort)
-enters_cut net u hops port node p h = ap (λ (n : ℕ). onward_of net u n node port p) h
+  -- its code does not run
+  pub goes_no_further : (side : Side) (hops : ℕ) → AreLeft side hops None
+      → from_port net u side hops node port p ≡ arrives (place_at node side port) p (over p CutShort)
+  goes_no_further Inward hops h = ap (λ (n : ℕ). onward_of net u n node port p) h
+  goes_no_further Outward hops h = absurd h
 
 -- a state that arrived at one port more
 pub arrives_at : (s : SymStart) (net : Network) (x y : Symbolic) (node : NodeId) (side : Side) (port : ℕ) (tree : ℕ → SymTree) (stage : Stage)
-    → y ≡ with_place x (place_at node side port)
+    → IsRunOf s x → y ≡ with_place x (place_at node side port)
     → ((n : ℕ) → tree n ≡ arrives (place_at node side port) (progress_in x n) (stage_tree net stage (with_place x (place_at node side port)) n))
-    → (begun : ℕ) → Reaches (spot_at begun (here_of s x tree)) (spot_at begun (standing_at s net y stage)) y.carried
-arrives_at s net x y node side port tree stage is trees begun =
-    subst (λ (z : Symbolic). Reaches (spot_at begun (here_of s x tree)) (spot_at begun (standing_at s net z stage)) z.carried) (sym is)
-    (reaches_here s x (place_at node side port) tree (stage_tree net stage (with_place x (place_at node side port))) begun (trees begun))
+    → (begun : ℕ) → Reaches s (spot_at begun (here_of s x tree)) (spot_at begun (standing_at s net y stage)) y.carried
+arrives_at s net x y node side port tree stage run is trees begun =
+    subst (λ (z : Symbolic). Reaches s (spot_at begun (here_of s x tree)) (spot_at begun (standing_at s net z stage)) z.carried) (sym is)
+    (reaches_here s x (place_at node side port) tree (stage_tree net stage (with_place x (place_at node side port))) begun run (trees begun))
 
--- ---- links and copies
-
-known : (link : Option (NodeId × ℕ)) → link ≡ option_map port_at (option_map port_of link)
-known None = refl
-known (Some to) = refl
-
--- where a link leads, from what is told of it
-pub link_known : (link : Option (NodeId × ℕ)) (told : Option Port) → option_map port_of link ≡ told → link ≡ option_map port_at told
-link_known link told e = known link ∙ ap (option_map port_at) e
+-- ---- copies
 
 -- there is a copy for each port
 pub count_of_copies : (net : Network) (u hops : ℕ) (node : NodeId) (ports : List ℕ) (p : Progress LinearTerm)

@@ -163,6 +163,7 @@ module _ {P O N D T : Type 0} (x : Views P O N D T) where
     is = sym tree ∙ move.is;
     carries = move.carries;
     places = move.places ∙ ap (λ l. l ++ move.port ∷ []) ps;
+    widths = move.widths;
   }
   move_from a b count (Stopped (AtEnd over)) ds ts ps ws tree move = (stop_from a b (spot_at count (x.over_at over)) count ds ts ps ws tree move.0, move.1)
   move_from a b count (Stopped (AtNode node offer)) ds ts ps ws tree move = (stop_from a b (spot_at count (x.node_at node)) count ds ts ps ws tree move.0, move.1)
@@ -179,14 +180,15 @@ stops_here s x tree count run at = record {
 }
 
 -- arrived at one port more
-pub reaches_here : (s : SymStart) (x : Symbolic) (place : Place) (tree next : ℕ → SymTree) (count : ℕ)
+pub reaches_here : (s : SymStart) (x : Symbolic) (place : Place) (tree next : ℕ → SymTree) (count : ℕ) → IsRunOf s x
     → tree count ≡ arrives place (progress_in x count) (next count)
-    → Reaches (spot_at count (here_of s x tree)) (spot_at count (here_of s (with_place x place) next)) x.carried
-reaches_here s x place tree next count is = record {
+    → Reaches s (spot_at count (here_of s x tree)) (spot_at count (here_of s (with_place x place) next)) x.carried
+reaches_here s x place tree next count run is = record {
   goes = record { decisions = refl; tests = refl; more = []; grown = sym (append-nil x.condition.widths) };
   port = place;
   progress = progress_in x count;
   is = is;
   carries = refl;
   places = reverse-append (place ∷ []) x.places;
+  widths = all_widths s x run;
 }

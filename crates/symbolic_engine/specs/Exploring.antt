@@ -1,17 +1,17 @@
 -- What explorations of a net and an injection answer.
-use Rattle.std.specs.Prelude.{ℕ, ◌≡◌, ◌<◌, ◌≤◌, ◌+◌, List, [], ◌∷◌, ◌++◌, length, reverse, Result, Ok, Err, Some}
+use Rattle.std.specs.Prelude.{ℕ, ◌≡◌, ◌<◌, ◌≤◌, ◌+◌, List, [], ◌∷◌, ◌++◌, length, map, reverse, Result, Ok, Err, Some}
 use Rattle.std.specs.Global.{Vec}
 use Rattle.std.specs.List.{AllByRecursion}
 use Rattle.sefl_meaning.specs.declared.walk.Decision.{Decision}
 use Rattle.sefl_meaning.specs.declared.walk.Place.{Place}
 use Rattle.sefl_meaning.specs.Network.{Network, Entry}
 use Rattle.sefl_meaning.specs.Routes.{IsFirstClosed, places_on, route}
-use Rattle.sefl_meaning.specs.Start.{progress_of}
+use Rattle.sefl_meaning.specs.Start.{progress_of, tests_on}
 use Rattle.sefl_meaning.specs.Trees.{over}
 use Rattle.path_records.specs.declared.records.Record.{Record}
 use Rattle.exact_records.specs.Exact.{IsTried, IsUnexplored, SomeOne}
 use Rattle.exact_records.specs.Packets.{AreExactFor, AreExactSoFarFor, AreExactUpToFor, IsExplored}
-use Rattle.exact_records.specs.Records.{SymRoute, SymStart, SymTree, condition_on}
+use Rattle.exact_records.specs.Records.{SymCondition, SymRoute, SymStart, SymTree, condition_on}
 use Rattle.exact_records.specs.View.{record_tree, record_trees}
 use Rattle.exact_records.specs.Work.{work_of}
 use Rattle.sym_state.specs.Symbolic.{Symbolic}
@@ -21,7 +21,7 @@ use Rattle.path_exec.specs.declared.guided.FollowFault.{FollowFault}
 use Rattle.path_exec.specs.declared.guided.FollowFault.TheVariants.{Impossible, NoMemory}
 use Rattle.path_exec.specs.Offers.{IsNode}
 use Rattle.path_exec.specs.Receiving.{Receiving}
-use Rattle.path_exec.specs.Visiting.{AreVisits}
+use Rattle.path_exec.specs.Visiting.{AreVisits, Arrival, LeadsFirst}
 use Rattle.symbolic_engine.specs.declared.guiding.Led.{Led}
 use Rattle.symbolic_engine.specs.declared.guiding.Waits.{Waits}
 use Rattle.symbolic_engine.specs.declared.guiding.Waits.TheVariants.{Nothing, Decides}
@@ -87,11 +87,24 @@ pub record LeadsThere (start : SymStart) (ds : List Decision) (led : Led) : Type
   pub condition : condition_seen led.state ≡ condition_on start way
   pub unknowns : led.state.unknowns ≡ length start.unknowns
 
+-- the condition where a route makes this arrival: its tests with their truths, over the symbols that there are so far
+abbrev pub condition_up_to : SymStart → SymRoute → Arrival → SymCondition
+condition_up_to start way arrival = record { widths = start.unknowns ++ arrival.1.choices; entries = tests_on start way }
+
+-- the state makes the arrival behind those before it, on the way of the first of these decisions, which are its own, with its ports
+-- and its formulas; its first symbols are the unknown fields
+pub record ArrivesIn (start : SymStart) (ds : List Decision) (before : List Arrival) (arrival : Arrival) (x : Symbolic) : Type 0 where
+  pub way : SymRoute
+  pub leads : LeadsFirst start.tree ds before arrival (reverse x.decisions) way
+  pub places : reverse x.places ≡ map (λ (at : Arrival). at.0) (before ++ arrival ∷ [])
+  pub condition : condition_seen x ≡ condition_up_to start way arrival
+  pub unknowns : x.unknowns ≡ length start.unknowns
+
 -- by these states they arrive at the port
 pub record ArrivesBy (start : SymStart) (port : Place) (ds : List Decision) (states : List Symbolic) : Type 0 where
   pub way : SymRoute
   pub leads : route start.tree ds ≡ Some way
-  pub visits : AreVisits (λ (x : Symbolic). x.carried) port way.arrivals states
+  pub visits : AreVisits (λ (x : Symbolic). x.carried) (ArrivesIn start ds) port [] way.arrivals states
 
 module _ (net : Network) (i : Entry) (hops : ℕ) where
   -- where decisions lead, or the first that is not offered

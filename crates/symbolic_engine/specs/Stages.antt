@@ -40,6 +40,11 @@ module _ (net : Network) where
   abbrev pub onward_of : ℕ → ℕ → Onward LinearTerm FormulaTree
   onward_of unknowns hops = enter (terms unknowns) net hops
 
+  -- from a port, with so many hops left; at an output port those behind its link
+  abbrev pub from_port : ℕ → Side → ℕ → Onward LinearTerm FormulaTree
+  from_port unknowns Inward hops = onward_of unknowns hops
+  from_port unknowns Outward hops = leave (terms unknowns) net (onward_of unknowns hops)
+
   abbrev pub behind_side : ℕ → NodeId → ℕ → ℕ → Side → Exit → Progress LinearTerm → SymTree
   behind_side unknowns node port hops Inward exit p = passed (terms unknowns) net (onward_of unknowns hops) node exit p
   behind_side unknowns node port hops Outward exit p = crossed (terms unknowns) net (onward_of unknowns hops) (link_of net node port) exit p

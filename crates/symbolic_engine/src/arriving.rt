@@ -3,22 +3,18 @@
 ghost use Rattle.std.specs.Prelude.{◌≡◌, ℕ, reverse, IfOk};
 ghost use Rattle.lin_term.specs.Terms.{LinearTerm};
 ghost use Rattle.path_formula.specs.Formulas.{FormulaTree};
-ghost use Rattle.sefl_syntax.specs.Views.{code_tree};
 ghost use Rattle.sefl_syntax.specs.declared.net.Side.TheVariants.{Inward as AtInput, Outward as AtOutput};
-ghost use Rattle.net_check.specs.Network.{Network, code_at, network};
+ghost use Rattle.net_check.specs.Network.{Network, network};
 ghost use Rattle.sefl_meaning.specs.Courses.{Progress};
-ghost use Rattle.sefl_meaning.specs.Network.{code_of};
-ghost use Rattle.sefl_meaning.specs.Trees.{leave, over, port_course};
+ghost use Rattle.sefl_meaning.specs.Trees.{over, port_course};
 ghost use Rattle.sefl_meaning.specs.Values.{Values};
 ghost use Rattle.sefl_meaning.specs.Walks.{place_at};
 ghost use Rattle.sym_state.specs.Symbolic.{with_place};
-ghost use Rattle.sefl_meaning.specs.declared.walk.End.TheVariants.{Failed as FailedAt};
-ghost use Rattle.term_values.specs.TermValues.{terms};
 ghost use Rattle.code_frames.specs.Frames.{course_frames, exit_of};
 ghost use Rattle.path_exec.specs.Here.{spot_at};
 ghost use Rattle.path_exec.specs.Moves.{IsMove, Reaches};
 ghost use Rattle.symbolic_engine.specs.Origins.{here_of, progress_in};
-ghost use Rattle.symbolic_engine.specs.Stages.{behind_gate, behind_side, onward_of, wait_tree};
+ghost use Rattle.symbolic_engine.specs.Stages.{behind_gate, behind_side, from_port, wait_tree};
 ghost use Rattle.symbolic_engine.specs.declared.stage.Wait.TheVariants.{Forked as ForkedAt};
 ghost use Rattle.symbolic_engine.specs.Seeing.{standing_at, views_of};
 
@@ -27,33 +23,13 @@ use crate::spots::{Finished, Standing, Waiting};
 use crate::stage::{Gate, Stage, Wait};
 use code_frames::{Exit, Frame};
 use net_check::Net;
-use net_tables::behind_item;
 use path_exec::engine::{Moved, Next, Offer};
-use sefl_meaning::{End, Failure, Place};
-use sefl_syntax::{Instr, Side};
+use port_moves::{code_of, failed_at, first_site, hops_behind, link_of};
+use sefl_meaning::{End, Place};
+use sefl_syntax::Side;
 use sn_tree::Shared;
-use sn_width::{NoMemory, NodeId, Site};
+use sn_width::{NoMemory, NodeId};
 use std::alloc::Global;
-
-/// The site of a port's code; 0 where it has none.
-fn code_site(net: &Net, node: NodeId, side: Side, port: u32) -> u32
-    ensures { result ≡ (code_of (network net.now) node side port).0 }
-{
-    match net.code_site(node, side, port) {
-        None => 0,
-        Some(site) => site.0,
-    }
-}
-
-/// The code of a port; none where there is no such node.
-fn code_of<'a>(net: &'a Net, node: NodeId, side: Side, port: u32) -> &'a [Instr]
-    ensures { code_tree result.now ≡ code_at (network net.now) node side port }
-{
-    if node.0 >= net.node_count() {
-        return &[];
-    }
-    net.code(node, side, port)
-}
 
 /// The code of a port, as it is to run.
 fn port_frames<'a>(
@@ -66,7 +42,7 @@ fn port_frames<'a>(
     ensures { IfOk result (λ frames. (o : Values LinearTerm FormulaTree) (p : Progress LinearTerm)
         → course_frames o (network net.now) node (reverse frames.items) p ≡ port_course o (network net.now) node side port p) }
 {
-    let site = behind_item(code_site(net, node, side, port))?;
+    let site = first_site(net, node, side, port)?;
     let code = code_of(net, node, side, port);
     let turns = Shared::empty();
     let mut frames = Vec::new(alloc);
@@ -89,58 +65,32 @@ fn arrived<B: Origin>(
     Ok(Run::<B>::of(state))
 }
 
-/// Arrives at an input port, with so many hops left.
-pub(crate) fn enter<'a, B: Origin>(
+/// Arrives at a port, with so many hops left: before its code, or, where that does not run, where the run is cut.
+pub(crate) fn arrive<'a, B: Origin>(
     alloc: Global,
     net: &'a Net,
     run: Run<B>,
     node: NodeId,
+    side: Side,
     port: u32,
     hops: u32,
 ) -> Result<Standing<'a, B>, NoMemory>
-    ensures { IfOk result (λ there. (begun : ℕ) → Reaches
-        (spot_at begun (here_of B.start run (λ n. onward_of (network net.now) run.unknowns hops node port (progress_in run n))))
+    ensures { IfOk result (λ there. (begun : ℕ) → Reaches B.start
+        (spot_at begun (here_of B.start run (λ n. from_port (network net.now) run.unknowns side hops node port (progress_in run n))))
         (spot_at begun (standing_at B.start (network net.now) there.run there.stage)) there.run.carried) }
 {
-    let side = Side::Inward;
+    run.is_own();
     let run = arrived(alloc, run, node, side, port)?;
-    if hops == 0 {
+    let Some(rest) = hops_behind(side, hops) else {
         let stage = Stage::Cut;
         return Ok(Standing { run, stage });
-    }
-    let frames = port_frames(alloc, net, node, side, port)?;
-    let gate = Gate {
-        node,
-        side,
-        port,
-        hops: hops - 1,
     };
-    let left = None;
-    let stage = Stage::Inside { gate, left, frames };
-    Ok(Standing { run, stage })
-}
-
-/// Arrives at an output port, with so many hops left behind its link.
-pub(crate) fn leave<'a, B: Origin>(
-    alloc: Global,
-    net: &'a Net,
-    run: Run<B>,
-    node: NodeId,
-    port: u32,
-    hops: u32,
-) -> Result<Standing<'a, B>, NoMemory>
-    ensures { IfOk result (λ there. (begun : ℕ) → Reaches
-        (spot_at begun (here_of B.start run (λ n. leave (terms run.unknowns) (network net.now) (onward_of (network net.now) run.unknowns hops) node port (progress_in run n))))
-        (spot_at begun (standing_at B.start (network net.now) there.run there.stage)) there.run.carried) }
-{
-    let side = Side::Outward;
-    let run = arrived(alloc, run, node, side, port)?;
     let frames = port_frames(alloc, net, node, side, port)?;
     let gate = Gate {
         node,
         side,
         port,
-        hops,
+        hops: rest,
     };
     let left = None;
     let stage = Stage::Inside { gate, left, frames };
@@ -181,16 +131,6 @@ fn forked<'a, B: Origin>(
     Ok(Moved::Stopped { next })
 }
 
-/// The end of a run that failed at a site.
-fn failed_at(failure: Failure, site: u32) -> End
-    ensures { result ≡ FailedAt failure (record { 0 = site }) }
-{
-    End::Failed {
-        failure,
-        site: Site(site),
-    }
-}
-
 /// Goes on where the code of a port has come to its exit.
 pub(crate) fn behind<'a, B: Origin>(
     alloc: Global,
@@ -222,7 +162,7 @@ fn passed<'a, B: Origin>(
     match exit {
         Exit::Off => Ok(ended(run, End::Stopped)),
         Exit::Go(port) => {
-            let place = leave(alloc, net, run, gate.node, port, gate.hops)?;
+            let place = arrive(alloc, net, run, gate.node, Side::Outward, port, gate.hops)?;
             Ok(Moved::Arrived { place })
         }
         Exit::Forked(ports) => forked(run, gate.node, gate.hops, ports),
@@ -242,10 +182,10 @@ fn crossed<'a, B: Origin>(
         (spot_at begun (here_of B.start run (λ n. behind_side (network net.now) run.unknowns gate.node gate.port gate.hops AtOutput (exit_of exit.entry) (progress_in run n)))) begun moved) }
 {
     match exit {
-        Exit::Off => match net.link(gate.node, gate.port) {
+        Exit::Off => match link_of(net, gate.node, gate.port) {
             None => Ok(ended(run, End::Delivered)),
             Some((node, port)) => {
-                let place = enter(alloc, net, run, node, port, gate.hops)?;
+                let place = arrive(alloc, net, run, node, Side::Inward, port, gate.hops)?;
                 Ok(Moved::Arrived { place })
             }
         },

@@ -1,10 +1,11 @@
 //! The runs that decisions guide.
 
 ghost use Rattle.std.specs.Prelude.{◌≡◌, map, IfOk};
+ghost use Rattle.std.specs.List.{AllByRecursion};
 ghost use Rattle.net_check.specs.Network.{entry, network};
 ghost use Rattle.net_check.specs.Sound.{AreOfOneJob};
 ghost use Rattle.exact_records.specs.Packets.{IsExplored};
-ghost use Rattle.symbolic_engine.specs.Origins.{IsFirstState};
+ghost use Rattle.symbolic_engine.specs.Origins.{IsFirstState, IsRunOf};
 ghost use Rattle.symbolic_engine.specs.Exploring.{ArrivedFor, FollowedFor};
 
 use crate::engine::Explorer;
@@ -85,8 +86,8 @@ fn follow_from<B: Origin, L: Ledger>(
     }
 }
 
-/// The states in which the run of these decisions arrives at the port, before the port's code, in order; or the first decision
-/// that is not offered.
+/// The states in which the run of these decisions arrives at the port, before the port's code, in order, each with the decisions,
+/// ports and condition up to that arrival; or the first decision that is not offered.
 pub fn arrivals<L: Ledger>(
     alloc: Global,
     net: &Net,
@@ -130,7 +131,8 @@ fn states_of<B: Origin>(
     alloc: Global,
     places: Vec<Standing<'_, B>>,
 ) -> Result<Vec<SymState>, NoMemory>
-    ensures { IfOk result (λ states. states.items ≡ map (λ place. place.run) places.entry.items) }
+    ensures all { IfOk result (λ states. states.items ≡ map (λ place. place.run) places.entry.items) }
+    ensures own { IfOk result (λ states. AllByRecursion (IsRunOf B.start) states.items) }
 {
     let mut states = Vec::with_capacity(alloc, places.len())?;
     for place in places {

@@ -12,7 +12,7 @@ ghost use Rattle.symbolic_engine.specs.Stages.{inside_tree, wait_tree};
 ghost use Rattle.symbolic_engine.specs.Turning.{offer_of};
 ghost use Rattle.symbolic_engine.specs.Seeing.{standing_at, views_of};
 
-use crate::arriving::{behind, ended, enter, leave};
+use crate::arriving::{arrive, behind, ended};
 use crate::origin::{Origin, Run};
 use crate::spots::{Finished, Standing, Waiting};
 use crate::stage::{Gate, Stage, Wait};
@@ -22,6 +22,7 @@ use path_exec::engine::{Moved, Next, Offer};
 use path_formula::Formula;
 use path_formula::laws::the_tests_of_types;
 use sefl_meaning::End;
+use sefl_syntax::Side;
 use sn_width::{NoMemory, Steps};
 use std::alloc::Global;
 use std::sync::ledger::Ledger;
@@ -96,11 +97,11 @@ pub(crate) fn onward<'a, B: Origin, L: Ledger>(
     let Standing { run, stage } = place;
     match stage {
         Stage::Entering { node, port, hops } => {
-            let place = enter(alloc, net, run, node, port, hops)?;
+            let place = arrive(alloc, net, run, node, Side::Inward, port, hops)?;
             Ok(Moved::Arrived { place })
         }
         Stage::Leaving { node, port, hops } => {
-            let place = leave(alloc, net, run, node, port, hops)?;
+            let place = arrive(alloc, net, run, node, Side::Outward, port, hops)?;
             Ok(Moved::Arrived { place })
         }
         Stage::Inside { gate, left, frames } => match left {

@@ -1,4 +1,4 @@
-use Rattle.std.proofs.Common.{arith, refl, sym, ap, subst, ◌∙◌, ◌≡◌, ◌++◌, ◌∷◌, take, drop, get_or, suc, drop-cons}
+use Rattle.std.proofs.Common.{arith, refl, sym, ap, subst, ◌∙◌, ◌≡◌, ◌++◌, ◌∷◌, take, drop, get_or, suc, drop-cons, take_all}
 use Rattle.std.proofs.lemmas.List.{take-append-drop, length-take-le}
 use Rattle.sefl_meaning.specs.declared.walk.Decision.TheVariants.{Then}
 use Rattle.exact_records.specs.Spots.{Spot}
@@ -32,3 +32,9 @@ arrived-requires-in-loop-decision g c =
     let x = g.E.Engine.views c.args.engine.now in
     let t = subst (Turns x c.loop-decision.next (get_or c.args.decisions.now c.loop-decision.decision-index Then)) c.in-Some.is c.in_ok-place-2.ensures in
     (t.stands c.loop-decision.invariant.led.led.at).at
+
+pub returns : goal.returns
+returns g c =
+    let ds = c.args.decisions.now in
+    subst (λ es. LeadsTo (g.E.Engine.views c.args.engine.now) es c.loop-decision.next) (take_all c.loop-decision.decision-index ds c.loop-decision-test.false)
+    c.loop-decision.invariant.led

@@ -15,7 +15,7 @@ use Rattle.sefl_meaning.specs.declared.walk.End.{End}
 use Rattle.sefl_meaning.specs.Trees.{crossed, over}
 use Rattle.term_values.specs.TermValues.{terms}
 use Rattle.symbolic_engine.specs.Stages.{onward_of}
-use Rattle.symbolic_engine.proofs.Ports.{crossed_failed, crossed_forked, crossed_go, link_known, other_tree}
+use Rattle.symbolic_engine.proofs.Ports.{crossed_failed, crossed_forked, crossed_go, other_tree}
 use Rattle.symbolic_engine.proofs.arriving.crossed.Goals as goal
 
 pub returns-in-None : goal.returns-in-None
@@ -26,7 +26,7 @@ returns-in-None g c = λ begun.
     let gate = c.args.gate in
     other_tree (views_of {origin = g.B.Origin} s net) s x _ _ begun begun c.ended.result
     (ap (λ (e : Exit). behind_side net x.unknowns gate.node gate.port gate.hops Outward (exit_of e) (progress_in x begun)) c.in-Off.is
-    ∙ ap (λ (l : Option (NodeId × ℕ)). crossed (terms x.unknowns) net (onward_of net x.unknowns gate.hops) l off (progress_in x begun)) (sym (link_known c.link.result _ c.link.ensures) ∙ c.in-None.is))
+    ∙ ap (λ (l : Option (NodeId × ℕ)). crossed (terms x.unknowns) net (onward_of net x.unknowns gate.hops) l off (progress_in x begun)) (sym c.link_of.ensures ∙ c.in-None.is))
     (c.ended.ensures net begun)
 
 pub returns-in_ok-place-in-Some : goal.returns-in_ok-place-in-Some
@@ -37,7 +37,7 @@ returns-in_ok-place-in-Some g c = λ begun.
     let gate = c.args.gate in
     other_tree (views_of {origin = g.B.Origin} s net) s x _ _ begun begun (Arrived c.in_ok-place-in-Some.place)
     (ap (λ (e : Exit). behind_side net x.unknowns gate.node gate.port gate.hops Outward (exit_of e) (progress_in x begun)) c.in-Off.is
-    ∙ ap (λ (l : Option (NodeId × ℕ)). crossed (terms x.unknowns) net (onward_of net x.unknowns gate.hops) l off (progress_in x begun)) (sym (link_known c.link.result _ c.link.ensures) ∙ c.in-Some.is))
+    ∙ ap (λ (l : Option (NodeId × ℕ)). crossed (terms x.unknowns) net (onward_of net x.unknowns gate.hops) l off (progress_in x begun)) (sym c.link_of.ensures ∙ c.in-Some.is))
     (c.in_ok-place-in-Some.ensures begun)
 
 pub returns-in-Failed : goal.returns-in-Failed

@@ -1,7 +1,6 @@
-use Rattle.std.proofs.Common.{◌≡◌, suc, ◌∙◌, arith}
+use Rattle.std.proofs.Common.{◌∙◌}
 use Rattle.net_check.specs.Network.{network}
 use Rattle.sefl_meaning.specs.Courses.{course_code}
-use Rattle.sefl_meaning.specs.Network.{code_of}
 use Rattle.code_frames.specs.Frames.{scene_in}
 use Rattle.symbolic_engine.proofs.Ports.{one_frame}
 use Rattle.symbolic_engine.proofs.arriving.port_frames.Goals as goal
@@ -10,6 +9,5 @@ pub returns : goal.returns
 returns c = λ o p.
     let net = network c.args.net.now in
     let node = c.args.node in
-    let site : c.in_ok-site.site ≡ suc (code_of net node c.args.side c.args.port).0 = omega (arith, c.in_ok-site.ensures, c.code_site.ensures) in
     one_frame o net node c.new-frames.result.items c.push.new.self.items _ p c.new-frames.ensures.items c.in_ok-push.ensures.items
-    ∙ (λ i. course_code o (scene_in net node (c.empty-turns.ensures i)) (site i) (c.code_of-code.ensures i) p)
+    ∙ (λ i. course_code o (scene_in net node (c.empty-turns.ensures i)) (c.in_ok-site.ensures i) (c.code_of-code.ensures i) p)

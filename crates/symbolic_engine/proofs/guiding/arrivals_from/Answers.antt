@@ -1,4 +1,4 @@
-use Rattle.std.proofs.Common.{ℕ, sym, subst}
+use Rattle.std.proofs.Common.{ℕ, [], sym, subst}
 use Rattle.sn_width.specs.declared.ids.NodeId.{NodeId}
 use Rattle.symbolic_engine.specs.Origins.{IsFirstState}
 use Rattle.net_check.specs.Network.{entry, network}
@@ -16,7 +16,8 @@ returns g c =
       holds = record {
         way = arrived.way;
         leads = arrived.leads;
-        visits = states_visit c.args.port arrived.way.arrivals c.in_ok-places.places.items c.in_ok-states.states.items c.in_ok-states.ensures arrived.visits;
+        visits = states_visit g.B.Origin s g.B.Origin.net c.args.decisions.now c.args.port [] arrived.way.arrivals c.in_ok-places.places.items c.in_ok-states.states.items
+            c.in_ok-states.ensures.all c.in_ok-states.ensures.own arrived.visits;
       };
     }
 
