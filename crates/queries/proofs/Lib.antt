@@ -2,6 +2,7 @@ mod AskLemmas
 mod DecisionLemmas
 mod Every
 mod FieldLemmas
+mod FoundLemmas
 mod Going
 mod IdLemmas
 mod KeepLemmas

@@ -1,5 +1,5 @@
 -- What is kept of questions.
-use Rattle.std.specs.Prelude.{ℕ, zero, suc, ◌≡◌, Bool, false, List, [], ◌∷◌, length}
+use Rattle.std.specs.Prelude.{ℕ, zero, suc, ◌≡◌, Bool, false, true, List, [], ◌∷◌, length}
 use Rattle.std.specs.List.{AllByRecursion}
 use Rattle.net_check.specs.Network.{Network, Entry}
 use Rattle.net_check.specs.Sound.{AreOfOneJob}
@@ -20,6 +20,11 @@ use Rattle.queries.specs.declared.subject.Subject.{Subject}
 abbrev pub outcome_seen : Kept → Outcome
 outcome_seen (Found number values) = found number values
 outcome_seen (LeftOpen numbers) = left_open numbers.items
+
+-- the question has its hit
+abbrev pub is_found : Kept → Bool
+is_found (Found number values) = true
+is_found (LeftOpen numbers) = false
 
 abbrev pub IsNothing : Kept → Type 0
 IsNothing (Found number values) = ⊥

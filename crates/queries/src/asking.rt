@@ -7,7 +7,7 @@ ghost use Rattle.queries.specs.Deciding.{entry_of, net_of};
 ghost use Rattle.queries.specs.Holding.{AreKept, IsReady, IsSameAsking};
 
 use crate::keeping::keep_all;
-use crate::kept::Kept;
+use crate::kept::{Kept, are_found};
 use crate::question::Question;
 use crate::seen::see;
 use crate::subject::Subject;
@@ -62,7 +62,7 @@ pub struct Asking<'a, M: Mark> {
 }
 
 impl<M: Mark> Asking<'_, M> {
-    /// Takes one record more into account for each question.
+    /// Takes one record more into account for each question. Where each has its hit no path is followed any more.
     pub(crate) fn keep(&mut self, item: &Record) -> Result<(), NoMemory>
         requires { IsReady self.old.subject self.old.questions.items self.old.kept.items }
         ensures same { IsSameAsking self.old.subject self.new.subject self.old.questions.items self.new.questions.items self.old.failed self.new.failed }
@@ -75,6 +75,10 @@ impl<M: Mark> Asking<'_, M> {
         let Some(next) = self.count.checked_add(1) else {
             return Err(NoMemory);
         };
+        if are_found(&self.kept) {
+            self.count = next;
+            return Ok(());
+        }
         let seen = see(self.alloc, &self.subject, &self.questions, &self.kept, item)?;
         keep_all(
             self.alloc,

@@ -1,8 +1,8 @@
 //! What is known of a question while records come.
 
 ghost use Rattle.std.specs.Prelude.{◌≡◌, IfOk, length};
-ghost use Rattle.std.specs.List.{AllByRecursion};
-ghost use Rattle.queries.specs.Holding.{IsNothing};
+ghost use Rattle.std.specs.List.{AllByRecursion, list_all};
+ghost use Rattle.queries.specs.Holding.{IsNothing, is_found};
 
 use refutation_check::Listed;
 use sn_width::{NoMemory, Num};
@@ -15,6 +15,13 @@ pub enum Kept {
     Found { number: u64, values: Listed<Num> },
     /// No record shows one; the numbers of those that leave the question open.
     LeftOpen { numbers: Vec<u64> },
+}
+
+/// Whether each question has its hit.
+pub(crate) fn are_found(kept: &[Kept]) -> bool
+    ensures { result ≡ list_all is_found kept.now }
+{
+    kept.iter().all(|known| matches!(known, Kept::Found { .. }))
 }
 
 /// What is known of questions before the first record.
