@@ -9,6 +9,7 @@ use Rattle.exact_records.specs.Exact.{IsGood}
 use Rattle.exact_records.specs.Records.{HasMeaning, RecordTree, SymStart, path, pruned, unexplored}
 use Rattle.exact_records.specs.View.{record_trees}
 use Rattle.exact_records.specs.Whole.{WalksHaveOnePath}
+use Rattle.run_answers.specs.declared.ending.Ending.{Ending}
 use Rattle.run_answers.specs.declared.ending.Ending.TheVariants.{Done}
 use Rattle.path_records.specs.declared.records.Record.{Record}
 use Rattle.record_text.specs.Reports.{head_text, report_line, state_text, tail_text}
@@ -20,8 +21,8 @@ use Rattle.path_report.specs.declared.report.ReportFault.{ReportFault}
 use Rattle.record_lines.specs.Lines.{records_text, refuted_count, written_of}
 use Rattle.record_lines.specs.declared.lines.RefutedSides.{RefutedSides}
 use Rattle.record_lines.specs.declared.lines.RefutedSides.TheVariants.{Counted, Written}
-use Rattle.explore_command.specs.Explores.{IsReport, line_of}
-use Rattle.explore_command.specs.Headline.{IsHeadline, IsRefuted, MayBeShown}
+use Rattle.explore_command.specs.Explores.{IsReport, is_done, line_of}
+use Rattle.explore_command.specs.Headline.{IsHeadline, IsReadBack, IsRefuted, MayBeShown}
 use Rattle.explore_command.proofs.PutLemmas.{Joins}
 
 module _ (start : SymStart) where
@@ -67,19 +68,25 @@ ReadsBack = (net : Network) (hops limit : ℕ) (records : List Record) (refuted 
     → ReadsReport net (report_line net hops limit records refuted complete) answer
     → Shows (line_seen hops limit records refuted complete) answer
 
-read_so : (hops limit : ℕ) (sides : RefutedSides) (net : Network) (records : List Record) → Joins → ReadsBack → sides ≡ Written → MayBeShown hops limit
-    → refuted_count records < 2 ^ 64 → AllByRecursion (RecordFits net) records → IsUtf8 (records_text net (written_of sides records))
-    → (answer : Result Report ReportFault) → ReadsReport net (line_of hops limit sides net Done records) answer
-    → Shows (line_seen hops limit records (refuted_count records) true) answer
-read_so hops limit Counted net records joins back written shown few fit utf8 answer reads = cc
-read_so hops limit Written net records joins back written shown few fit utf8 answer reads =
+read_so : (hops limit : ℕ) (sides : RefutedSides) (net : Network) (ending : Ending) (records : List Record) → Joins → ReadsBack → sides ≡ Written
+    → MayBeShown hops limit → refuted_count records < 2 ^ 64 → AllByRecursion (RecordFits net) records → IsUtf8 (records_text net (written_of sides records))
+    → IsReadBack net hops limit records ending (line_of hops limit sides net ending records)
+read_so hops limit Counted net ending records joins back written shown few fit utf8 answer reads = cc
+read_so hops limit Written net ending records joins back written shown few fit utf8 answer reads =
     let refuted = refuted_count records in
-    back net hops limit records refuted true answer
+    let complete = is_done ending in
+    back net hops limit records refuted complete answer
     (record { least_hops = shown.0; most_hops = shown.1; least_limit = shown.2; most_limit = shown.3; all_records = fit; count = few })
-    (subst IsUtf8 (sym (joins net hops limit records refuted true))
-    (IsUtf8-append (head_text hops limit) (records_text net records ++ tail_text refuted true) (head_utf8 hops limit shown.1 shown.3)
-    (IsUtf8-append (records_text net records) (tail_text refuted true) utf8 (tail_utf8 refuted true few))))
+    (subst IsUtf8 (sym (joins net hops limit records refuted complete))
+    (IsUtf8-append (head_text hops limit) (records_text net records ++ tail_text refuted complete) (head_utf8 hops limit shown.1 shown.3)
+    (IsUtf8-append (records_text net records) (tail_text refuted complete) utf8 (tail_utf8 refuted complete few))))
     reads
+
+pub report_read : (hops limit : ℕ) (sides : RefutedSides) (net : Network) (i : Entry) (ending : Ending) (whole : List ℕ) → Joins → ReadsBack
+    → sides ≡ Written → MayBeShown hops limit → (report : IsReport hops limit sides net i ending whole) → IsReadBack net hops limit report.records ending whole
+report_read hops limit sides net i ending whole joins back written shown report answer reads =
+    read_so hops limit sides net ending report.records joins back written shown report.found.few report.found.fit report.found.utf8 answer
+    (subst (λ bytes. ReadsReport net bytes answer) report.line reads)
 
 pub headline_of : (hops limit : ℕ) (sides : RefutedSides) (net : Network) (i : Entry) (whole : List ℕ) → WalksHaveOnePath net i hops → Joins → ReadsBack
     → IsReport hops limit sides net i Done whole → IsHeadline net i hops limit sides whole
@@ -96,6 +103,5 @@ headline_of hops limit sides net i whole one joins back h =
         not_taken = exact.refuted;
         tried = h.found.ends;
       };
-      read_back = λ written shown answer reads. read_so hops limit sides net h.records joins back written shown h.found.few h.found.fit h.found.utf8 answer
-          (subst (λ bytes. ReadsReport net bytes answer) h.line reads);
+      read_back = λ written shown. report_read hops limit sides net i Done whole joins back written shown h;
     }

@@ -1,5 +1,5 @@
 -- What the report of a finished exploration tells of the packets of a job.
-use Rattle.std.specs.Prelude.{ℕ, ◌≡◌, ◌≤◌, true, List, Result}
+use Rattle.std.specs.Prelude.{ℕ, ◌≡◌, ◌≤◌, List, Result}
 use Rattle.std.specs.List.{AllByRecursion}
 use Rattle.net_check.specs.Network.{Network, Entry}
 use Rattle.sefl_meaning.specs.Walks.{Trail}
@@ -9,6 +9,7 @@ use Rattle.exact_records.specs.Packets.{HasPacket, IsExplored, IsNotTaken, IsWal
 use Rattle.exact_records.specs.Records.{IsPruned, RecordTree, SymStart, path, pruned, unexplored}
 use Rattle.exact_records.specs.View.{record_trees}
 use Rattle.exact_records.specs.Whole.{IsPathOf}
+use Rattle.run_answers.specs.declared.ending.Ending.{Ending}
 use Rattle.run_answers.specs.declared.ending.Ending.TheVariants.{Done}
 use Rattle.record_text.specs.declared.report.Report.{Report}
 use Rattle.record_lines.specs.Lines.{refuted_count}
@@ -17,7 +18,7 @@ use Rattle.record_lines.specs.declared.lines.RefutedSides.TheVariants.{Written}
 use Rattle.report_forms.specs.Seen.{line_seen}
 use Rattle.path_report.specs.Reading.{ReadsReport, Shows}
 use Rattle.path_report.specs.declared.report.ReportFault.{ReportFault}
-use Rattle.explore_command.specs.Explores.{line_of}
+use Rattle.explore_command.specs.Explores.{is_done, line_of}
 
 -- the checker accepts the refutation of a refuted side, for the condition of its decisions
 abbrev pub IsRefuted : SymStart → RecordTree → Type 0
@@ -28,6 +29,12 @@ IsRefuted start (unexplored ds) = Unit {0}
 -- the hops and the limits that the words of a command may say
 abbrev pub MayBeShown : ℕ → ℕ → Type 0
 MayBeShown hops limit = (1 ≤ hops) × (hops ≤ 256) × (1 ≤ limit) × (limit ≤ 100000)
+
+-- The text determines these records: whatever is read of it, by the names of the net, shows a report of them, with these hops, this
+-- limit and their number of refuted sides.
+abbrev pub IsReadBack : Network → ℕ → ℕ → List Record → Ending → List ℕ → Type 0
+IsReadBack net hops limit records ending whole = (answer : Result Report ReportFault) → ReadsReport net whole answer
+    → Shows (line_seen hops limit records (refuted_count records) (is_done ending)) answer
 
 module _ (net : Network) (i : Entry) (hops : ℕ) where
   -- Each packet that meets the injection walks, on every fork, exactly one of the paths: by the same ports, to the same end with
@@ -43,10 +50,9 @@ module _ (net : Network) (i : Entry) (hops : ℕ) where
     pub tried : AllByRecursion IsTried rs
 
   -- The text is the report of records that tell all this: of each of them, where refuted sides are written; else of the others and
-  -- of the number of these. Where they are written, the text determines the records: `read_report` reads it, and gives them back.
+  -- of the number of these. Where they are written, `read_report` reads the text, and gives the records back.
   pub record IsHeadline (limit : ℕ) (sides : RefutedSides) (whole : List ℕ) : Type 0 where
     pub records : List Record
     pub line : whole ≡ line_of hops limit sides net Done records
     pub tells : TellsAll (record_trees records)
-    pub read_back : sides ≡ Written → MayBeShown hops limit → (answer : Result Report ReportFault) → ReadsReport net whole answer
-        → Shows (line_seen hops limit records (refuted_count records) true) answer
+    pub read_back : sides ≡ Written → MayBeShown hops limit → IsReadBack net hops limit records Done whole

@@ -4,11 +4,12 @@ ghost use Rattle.std.specs.Prelude.{◌⊎◌, ℕ, List, ◌++◌};
 ghost use Rattle.sn_edge.specs.Pieces.{IsPrefix};
 ghost use Rattle.net_check.specs.Network.{Entry, Network};
 ghost use Rattle.record_lines.specs.declared.lines.RefutedSides.{RefutedSides as SidesOf};
+ghost use Rattle.record_lines.specs.declared.lines.RefutedSides.TheVariants.{Written};
 ghost use Rattle.record_text.specs.Reports.{head_text};
 ghost use Rattle.run_answers.specs.declared.ending.Ending.{Ending as EndingOf};
 ghost use Rattle.run_answers.specs.declared.ending.Ending.TheVariants.{Done};
 ghost use Rattle.explore_command.specs.Explores.{BehindHead, IsCut, IsReport, IsSoFar};
-ghost use Rattle.explore_command.specs.Headline.{IsHeadline};
+ghost use Rattle.explore_command.specs.Headline.{IsHeadline, IsReadBack, MayBeShown};
 
 use exact_records::laws::whole_records_have_one_path_a_walk;
 use path_report::laws::lines_are_read_back;
@@ -21,6 +22,15 @@ pub fn finished_reports_tell_all()
     ensures { (hops limit : ℕ) (sides : SidesOf) (net : Network) (i : Entry) (whole : List ℕ) → IsReport hops limit sides net i Done whole → IsHeadline net i hops limit sides whole }
 {
     whole_records_have_one_path_a_walk();
+    lines_join();
+    lines_are_read_back();
+}
+
+/// What is read of a report with its refuted sides is a report of just its records, also where some decisions were not tried.
+pub fn reports_are_read_back()
+    ensures { (hops limit : ℕ) (net : Network) (i : Entry) (ending : EndingOf) (whole : List ℕ) → MayBeShown hops limit
+        → (report : IsReport hops limit Written net i ending whole) → IsReadBack net hops limit report.records ending whole }
+{
     lines_join();
     lines_are_read_back();
 }
