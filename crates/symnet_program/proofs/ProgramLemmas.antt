@@ -1,6 +1,7 @@
 -- What a status says of a run, once for all commands.
 use Rattle.std.proofs.Common.{◌≡◌, ◌⊎◌, inl, inr, ◌∙◌, ap, sym, subst, refl, List, [], ◌∷◌, ℕ, Option, Some, None, Bool, Result, Ok, Err}
 use Rattle.std.proofs.lemmas.List.{append-nil}
+use Rattle.std.proofs.lemmas.Option.{same_Some}
 use Rattle.std.specs.Io.KnownBytes.{append_known}
 use Rattle.sn_edge.specs.declared.patterns.Found.{Found}
 use Rattle.run_answers.specs.Outside.{Outside, World, Tells, outside, world}
@@ -19,9 +20,9 @@ use Rattle.symnet_program.proofs.ToldLemmas.{first_told, all_told}
 use Rattle.exit_status.specs.Status.{MayBeUnread, input_status, own_status, status_of}
 use Rattle.symnet_program.specs.Commands.{inputs, sides_of, work}
 use Rattle.explore_command.specs.Explores.{IsReport}
-use Rattle.explore_command.specs.Headline.{IsHeadline}
+use Rattle.explore_command.specs.Headline.{IsHeadline, MayBeShown}
 use Rattle.symnet_program.specs.Headline.{TellsJob}
-use Rattle.command_words.specs.Commands.{Command, explore}
+use Rattle.command_words.specs.Commands.{Command, HasRanges, explore}
 use Rattle.command_words.specs.declared.command.Pruned.{Pruned}
 use Rattle.symnet_program.specs.Program.{Cause, Comes, IsAnswered, IsCaused, MayWrite, RefusesInput, Shown, Stops, Writes}
 use Rattle.exit_status.specs.declared.status.Status.{Status}
@@ -195,18 +196,24 @@ module _ (is : List Input) (w : OwnWork) (p : World) (decides : Decides p) (faul
 
 -- ---- what a finished exploration tells
 
-module _ {S : Type 0} (o : Outside S) (u v : S) (hops limit : ℕ) (pruned : Pruned)
+-- the hops and the limit of a command in its ranges may be shown
+shown_of : (c : Command) (job : List ℕ) (hops limit : ℕ) (pruned : Pruned) → c ≡ explore job hops limit pruned → HasRanges c → MayBeShown hops limit
+shown_of c job hops limit pruned is ranged = subst HasRanges is ranged
+
+module _ {S : Type 0} (o : Outside S) (u v : S) (hops limit : ℕ) (pruned : Pruned) (shown : MayBeShown hops limit)
     (law : (net : Network) (i : Entry) (whole : List ℕ) → IsReport hops limit (sides_of pruned) net i ending.Done whole → IsHeadline net i hops limit (sides_of pruned) whole) where
   pub job_told : (job whole : List ℕ) → MayWrite o u v (Some (explore job hops limit pruned)) Done whole → TellsJob o u v job hops limit (sides_of pruned) whole
-  job_told job whole (given, (g, m, (j, has, net, i, taken, is), rest, (none, last), all), comes) = record {
-    job = j;
-    in_file = has;
-    net = net;
-    injection = i;
-    accepted = subst (λ s. o.takes u j net i s) (sym last) taken;
-    headline = law net i whole
-        (subst (λ gs. (work (explore job hops limit pruned)).comes gs (text ending.Done whole)) (all ∙ (ap (λ x. x ∷ rest) is ∙ ap (λ r. a_net net i j.asks ∷ r) none)) comes);
-  }
+  job_told job whole (given, (g, m, (j, has, net, i, taken, is), rest, (none, last), all), comes) =
+      let told = law net i whole
+      (subst (λ gs. (work (explore job hops limit pruned)).comes gs (text ending.Done whole)) (all ∙ (ap (λ x. x ∷ rest) is ∙ ap (λ r. a_net net i j.asks ∷ r) none)) comes) in record {
+        job = j;
+        in_file = has;
+        net = net;
+        injection = i;
+        accepted = subst (λ s. o.takes u j net i s) (sym last) taken;
+        headline = told;
+        read_back = λ written. told.read_back written shown;
+      }
 
 -- ---- memory ended while the words were read
 
@@ -241,14 +248,15 @@ module _ {S : Type 0} (files : Option (List ℕ → Option (List ℕ))) (matches
         gained,
       )
 
-  pub headline_said : (job : List ℕ) (hops limit : ℕ) (pruned : Pruned)
+  pub headline_said : HasRanges c → (job : List ℕ) (hops limit : ℕ) (pruned : Pruned)
       → ((net : Network) (i : Entry) (whole : List ℕ) → IsReport hops limit (sides_of pruned) net i ending.Done whole → IsHeadline net i hops limit (sides_of pruned) whole)
       → said ≡ Some (explore job hops limit pruned) → status ≡ Done
       → (whole : List ℕ) × TellsJob (outside files matches bad refusals gives) u v job hops limit (sides_of pruned) whole × (now ≡ append_known known whole)
-  headline_said job hops limit pruned law is done =
+  headline_said ranged job hops limit pruned law is done =
       let (part, writes, gained) = written_said in (
         part,
-        job_told (outside files matches bad refusals gives) u v hops limit pruned law job part
+        job_told (outside files matches bad refusals gives) u v hops limit pruned
+            (shown_of c job hops limit pruned (same_Some c (explore job hops limit pruned) (named ∙ is)) ranged) law job part
             (subst (λ r. MayWrite (outside files matches bad refusals gives) u v r Done part) is
             (subst (λ s. MayWrite (outside files matches bad refusals gives) u v said s part) done writes)),
         gained,

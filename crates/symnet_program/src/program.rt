@@ -194,7 +194,7 @@ pub fn symnet<F: Folder, P: Patterns, K: Sink>(
         × (K.taken out.new ≡ append_known (K.taken out.old) part) }
 
     // The headline: with Done `explore` wrote the report of the job in the file, and this tells all walks of all packets that
-    // meet the injection.
+    // meet the injection; and with refuted sides written, what is read of it is a report of just its records.
     ensures headline { (job : List ℕ) (hops limit : ℕ) (pruned : PrunedOf) → reading words.now ≡ Some (explore job hops limit pruned) → result ≡ Done
         → (whole : List ℕ)
         × TellsJob (outside (F.files folder.old) P.matches P.bad_patterns P.refusals P.find_gives) patterns.old patterns.new job hops limit (sides_of pruned) whole

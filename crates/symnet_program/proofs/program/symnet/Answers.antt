@@ -19,7 +19,7 @@ pub returns-in-Ok-Some-clause-headline : goal.returns-in-Ok-Some-clause-headline
 returns-in-Ok-Some-clause-headline g c job hops limit pruned named done =
     headline_said (g.F.Folder.files c.args.folder.now) g.P.Patterns.matches g.P.Patterns.bad_patterns g.P.Patterns.refusals g.P.Patterns.find_gives c.args.patterns.now c.run_command.new.patterns
     (g.K.Sink.taken c.args.out.now) (g.K.Sink.taken c.run_command.new.out) _ (command_of c.in-Ok-Some.command) (rw c.in-Ok-Some.field-0-is at c.in-Ok-Some.ensures.command) c.run_command.result c.status_of.result c.status_of.ensures c.run_command.ensures.ran
-    job hops limit pruned (c.finished_reports_tell_all.ensures hops limit (sides_of pruned)) named done
+    (rw c.in-Ok-Some.field-0-is at c.in-Ok-Some.ensures.ranges) job hops limit pruned (c.finished_reports_tell_all.ensures hops limit (sides_of pruned)) named done
 
 pub returns-in-Ok-Some-clause-told : goal.returns-in-Ok-Some-clause-told
 returns-in-Ok-Some-clause-told g c w told =
