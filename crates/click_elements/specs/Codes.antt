@@ -89,10 +89,14 @@ tee_code outputs = to_all outputs
 
 -- ---- Strip and EtherEncap
 
+-- the tag of Ethernet is removed
+abbrev pub untagging : InstrTree
+untagging = destroy_tag (codes "L2")
+
 abbrev pub strip_code : CodeTree
 strip_code =
     instr_and (deallocate (cell FrameDestination)) (instr_and (deallocate (cell FrameSource)) (instr_and (deallocate (cell FrameType))
-    (instr_and (destroy_tag (codes "L2")) (forward_code 0))))
+    (instr_and untagging (forward_code 0))))
 
 -- where an Ethernet header before that of IP begins
 abbrev pub frame_start : Addr

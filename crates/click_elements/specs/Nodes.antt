@@ -1,5 +1,5 @@
 -- The nodes of elements.
-use Rattle.std.specs.Prelude.{ℕ, Bool, nat_eq, if◌then◌else◌, [], ◌∷◌, length, Option, None, Some}
+use Rattle.std.specs.Prelude.{ℕ, nat_eq, if◌then◌else◌, [], ◌∷◌, length, Option, None, Some}
 use Rattle.sefl_syntax.specs.Trees.{CodeTree, NodeTree}
 use Rattle.table_nodes.specs.TableNodes.{in_code, node_with}
 use Rattle.click_elements.specs.declared.node.Leads.{Leads}

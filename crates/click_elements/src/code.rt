@@ -1,11 +1,11 @@
 //! The code of the input of elements, but of mirrors and filters.
 
-ghost use Rattle.std.specs.Prelude.{◌≡◌, ◌++◌, map, IfOk, OnOk};
-ghost use Rattle.sefl_syntax.specs.Trees.{allocate, assign, constant, forward};
+ghost use Rattle.std.specs.Prelude.{◌≡◌, ◌++◌, [], ◌∷◌, map, IfOk, OnOk};
+ghost use Rattle.sefl_syntax.specs.Trees.{allocate, assign, constant, deallocate, forward};
 ghost use Rattle.sefl_syntax.specs.Views.{code_tree, instr_tree, expr_tree, cond_tree};
 ghost use Rattle.table_nodes.specs.TableNodes.{alone};
 ghost use Rattle.click_elements.specs.Fields.{cell};
-ghost use Rattle.click_elements.specs.Codes.{drop_instr, drop_code, forward_code, tee_code, is_expired, one_less, lowered_code, expired_code, dec_ip_ttl_code, strip_code, frame_tag, new_cell, ether_encap_code};
+ghost use Rattle.click_elements.specs.Codes.{drop_instr, drop_code, forward_code, tee_code, is_expired, one_less, lowered_code, expired_code, dec_ip_ttl_code, untagging, strip_code, frame_tag, new_cell, ether_encap_code};
 
 use crate::field::{Field, cell, named};
 use sefl_syntax::{Addr, Cond, Expr, Instr, Sign, Text};
@@ -19,10 +19,20 @@ pub(crate) fn one_instr(alloc: Global, instr: Instr) -> Result<Vec<Instr>, NoMem
     Ok(vec![in alloc; instr]?)
 }
 
-pub(crate) fn forward(port: u32) -> Instr
-    ensures { instr_tree result ≡ forward port }
+/// Adds an instruction. Functions that write code hold none themselves: it would have to be dropped where a later call fails.
+pub(crate) fn add(code: &mut Vec<Instr>, instr: Instr) -> Result<(), NoMemory>
+    ensures { OnOk result (map instr_tree code.new.items ≡ map instr_tree code.old.items ++ instr_tree instr ∷ []) }
 {
-    Instr::Forward(port)
+    code.push(instr)?;
+    Ok(())
+}
+
+/// Adds that packets leave by an output.
+pub(crate) fn add_forward(code: &mut Vec<Instr>, port: u32) -> Result<(), NoMemory>
+    ensures { OnOk result (map instr_tree code.new.items ≡ map instr_tree code.old.items ++ forward port ∷ []) }
+{
+    code.push(Instr::Forward(port))?;
+    Ok(())
 }
 
 pub(crate) fn dropped(alloc: Global) -> Result<Instr, NoMemory>
@@ -106,20 +116,30 @@ pub(crate) fn dec_ip_ttl_code(alloc: Global, connected: bool) -> Result<Vec<Inst
     one_instr(alloc, Instr::If { test, first, other })
 }
 
+/// Adds that the cell of a field is removed.
+fn add_removal(code: &mut Vec<Instr>, alloc: Global, field: Field) -> Result<(), NoMemory>
+    ensures { OnOk result (map instr_tree code.new.items ≡ map instr_tree code.old.items ++ deallocate (cell field) ∷ []) }
+{
+    add(code, Instr::Deallocate(cell(alloc, field)?))
+}
+
+/// Adds that the tag of Ethernet is removed.
+fn add_untagging(code: &mut Vec<Instr>, alloc: Global) -> Result<(), NoMemory>
+    ensures { OnOk result (map instr_tree code.new.items ≡ map instr_tree code.old.items ++ untagging ∷ []) }
+{
+    add(code, Instr::DestroyTag(named(alloc, "L2")?))
+}
+
 /// Removes the cells of an Ethernet header, and its tag.
 pub(crate) fn strip_code(alloc: Global) -> Result<Vec<Instr>, NoMemory>
     ensures { IfOk result (λ code. code_tree code.items ≡ strip_code) }
 {
-    let destination = cell(alloc, Field::FrameDestination)?;
-    let source = cell(alloc, Field::FrameSource)?;
-    let kind = cell(alloc, Field::FrameType)?;
-    let tag = named(alloc, "L2")?;
     let mut code = Vec::new(alloc);
-    code.push(Instr::Deallocate(destination))?;
-    code.push(Instr::Deallocate(source))?;
-    code.push(Instr::Deallocate(kind))?;
-    code.push(Instr::DestroyTag(tag))?;
-    code.push(Instr::Forward(0))?;
+    add_removal(&mut code, alloc, Field::FrameDestination)?;
+    add_removal(&mut code, alloc, Field::FrameSource)?;
+    add_removal(&mut code, alloc, Field::FrameType)?;
+    add_untagging(&mut code, alloc)?;
+    add_forward(&mut code, 0)?;
     Ok(code)
 }
 
@@ -154,10 +174,8 @@ fn set(alloc: Global, field: Field, number: Num) -> Result<Instr, NoMemory>
 fn add_cell(code: &mut Vec<Instr>, alloc: Global, field: Field, number: Num) -> Result<(), NoMemory>
     ensures { OnOk result (map instr_tree code.new.items ≡ map instr_tree code.old.items ++ new_cell field number) }
 {
-    let place = room(alloc, field)?;
-    let value = set(alloc, field, number)?;
-    code.push(place)?;
-    code.push(value)?;
+    add(code, room(alloc, field)?)?;
+    add(code, set(alloc, field, number)?)?;
     Ok(())
 }
 
@@ -170,12 +188,11 @@ pub(crate) fn ether_encap_code(
 ) -> Result<Vec<Instr>, NoMemory>
     ensures { IfOk result (λ code. code_tree code.items ≡ ether_encap_code kind source destination) }
 {
-    let last = forward(0);
     let mut code = Vec::new(alloc);
-    code.push(frame_tag(alloc)?)?;
+    add(&mut code, frame_tag(alloc)?)?;
     add_cell(&mut code, alloc, Field::FrameDestination, destination)?;
     add_cell(&mut code, alloc, Field::FrameSource, source)?;
     add_cell(&mut code, alloc, Field::FrameType, kind)?;
-    code.push(last)?;
+    add_forward(&mut code, 0)?;
     Ok(code)
 }

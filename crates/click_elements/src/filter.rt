@@ -8,7 +8,7 @@ ghost use Rattle.click_elements.specs.Patterns.{pattern_test};
 ghost use Rattle.click_elements.specs.Codes.{rule_code, rule_instr, ip_filter_code, pattern_instrs, ip_classifier_code};
 
 use crate::class::{Pattern, Rule};
-use crate::code::{drop_code, dropped, forward_code};
+use crate::code::{add, drop_code, dropped, forward_code};
 use crate::pattern::pattern_test;
 use sefl_syntax::Instr;
 use sn_width::NoMemory;
@@ -48,9 +48,8 @@ fn rule_instrs(alloc: Global, rules: &[Rule]) -> Result<Vec<Instr>, NoMemory>
 pub(crate) fn ip_filter_code(alloc: Global, rules: &[Rule]) -> Result<Vec<Instr>, NoMemory>
     ensures { IfOk result (λ code. code_tree code.items ≡ ip_filter_code (map seen_rule rules.now)) }
 {
-    let last = dropped(alloc)?;
     let mut code = rule_instrs(alloc, rules)?;
-    code.push(last)?;
+    add(&mut code, dropped(alloc)?)?;
     Ok(code)
 }
 
@@ -80,8 +79,7 @@ pub(crate) fn ip_classifier_code(
     requires { length patterns.now ≡ ports }
     ensures { IfOk result (λ code. code_tree code.items ≡ ip_classifier_code (map seen_pattern patterns.now)) }
 {
-    let last = dropped(alloc)?;
     let mut code = pattern_instrs(alloc, ports, patterns)?;
-    code.push(last)?;
+    add(&mut code, dropped(alloc)?)?;
     Ok(code)
 }

@@ -6,7 +6,7 @@ ghost use Rattle.sefl_syntax.specs.Trees.{assign, reading, no_code};
 ghost use Rattle.sefl_syntax.specs.Views.{code_tree, instr_tree};
 ghost use Rattle.click_elements.specs.Codes.{first_field, second_field, between, swap_list, swap_code, ether_mirror_code, mirrored_ports, ip_mirror_code};
 
-use crate::code::forward;
+use crate::code::{add, add_forward};
 use crate::field::{Field, cell, named, width_of};
 use crate::pattern::is_ported;
 use sefl_syntax::{Expr, Instr, Scope, Target};
@@ -98,9 +98,8 @@ fn swap_list(alloc: Global, swap: Swap) -> Result<Vec<Instr>, NoMemory>
 pub(crate) fn ether_mirror_code(alloc: Global) -> Result<Vec<Instr>, NoMemory>
     ensures { IfOk result (λ code. code_tree code.items ≡ ether_mirror_code) }
 {
-    let last = forward(0);
     let mut code = swap_list(alloc, Swap::FrameAddresses)?;
-    code.push(last)?;
+    add_forward(&mut code, 0)?;
     Ok(code)
 }
 
@@ -114,22 +113,12 @@ fn mirrored_ports(alloc: Global) -> Result<Instr, NoMemory>
     Ok(Instr::If { test, first, other })
 }
 
-/// The code with one instruction more.
-fn with_last(code: Vec<Instr>, instr: Instr) -> Result<Vec<Instr>, NoMemory>
-    ensures { IfOk result (λ all. map instr_tree all.items ≡ map instr_tree code.items ++ instr_tree instr ∷ []) }
-{
-    let mut code = code;
-    code.push(instr)?;
-    Ok(code)
-}
-
 /// Exchanges the addresses of the IP header, and the ports where the protocol has ports.
 pub(crate) fn ip_mirror_code(alloc: Global) -> Result<Vec<Instr>, NoMemory>
     ensures { IfOk result (λ code. code_tree code.items ≡ ip_mirror_code) }
 {
-    let ports = mirrored_ports(alloc)?;
-    let swapped = swap_list(alloc, Swap::Addresses)?;
-    let both = with_last(swapped, ports)?;
-    let all = with_last(both, forward(0))?;
-    Ok(all)
+    let mut code = swap_list(alloc, Swap::Addresses)?;
+    add(&mut code, mirrored_ports(alloc)?)?;
+    add_forward(&mut code, 0)?;
+    Ok(code)
 }

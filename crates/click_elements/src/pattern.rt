@@ -71,11 +71,8 @@ fn add_port(
 ) -> Result<(), NoMemory>
     ensures { OnOk result (map cond_tree tests.new.items ≡ (map cond_tree tests.old.items ++ is_ported ∷ []) ++ equals (port_field direction) port ∷ []) }
 {
-    let ported = is_ported(alloc)?;
-    let equal = equals(alloc, port_field(direction), port)?;
-    tests.push(ported)?;
-    tests.push(equal)?;
-    Ok(())
+    add_test(tests, is_ported(alloc)?)?;
+    add_test(tests, equals(alloc, port_field(direction), port)?)
 }
 
 fn add_test(tests: &mut Vec<Cond>, test: Cond) -> Result<(), NoMemory>

@@ -1,9 +1,11 @@
-use Rattle.std.proofs.Common.{◌∙◌, ◌++◌, ◌∷◌, [], ap}
-use Rattle.sefl_syntax.specs.Views.{code_of}
+use Rattle.std.proofs.Common.{◌∙◌, ◌++◌, ◌∷◌, []}
+use Rattle.sefl_syntax.specs.Trees.{forward}
+use Rattle.click_elements.specs.Codes.{mirrored_ports, swap_list}
+use Rattle.click_elements.specs.declared.mirror.Swap.TheVariants.{Addresses}
+use Rattle.click_elements.proofs.Codes.{ended}
 use Rattle.click_elements.proofs.mirror.ip_mirror_code.Goals as goal
 
 pub returns : goal.returns
 returns c =
-    ap code_of
-    (c.in_ok-all.ensures
-    ∙ (λ i. (c.in_ok-both.ensures ∙ (λ j. c.in_ok-swapped.ensures j ++ c.in_ok-ports.ensures j ∷ [])) i ++ c.forward.ensures i ∷ []))
+    ended _ _ (swap_list Addresses ++ mirrored_ports ∷ []) (forward 0) (forward 0) c.in_ok-add_forward.ensures
+    (c.in_ok-add.ensures ∙ (λ i. c.in_ok-code.ensures i ++ c.in_ok-mirrored_ports.ensures i ∷ [])) (λ i. forward 0)
