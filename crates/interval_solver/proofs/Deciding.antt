@@ -7,7 +7,6 @@ use Rattle.std.proofs.lemmas.Option.{slice_get_within, slice_get-get_or}
 use Rattle.std.proofs.Math.ListN.{get_or-append}
 use Rattle.std.proofs.Math.Seq.{get_or-append_seam}
 use Rattle.sn_ranges.specs.Ranges.{Range, RangeSet, IsCanonical, IsLeast, in_range, is_member, fits_width}
-use Rattle.sn_width.specs.Width.{FitsWidth}
 use Rattle.sn_width.specs.declared.ids.SymId.{SymId}
 use Rattle.path_formula.specs.Formulas.{FormulaTree, truth_at}
 use Rattle.path_formula.specs.Kinds.{kind_of}
@@ -18,7 +17,7 @@ use Rattle.path_formula.specs.declared.kinds.Kind.TheVariants.{Constant, Simple,
 use Rattle.path_cond.specs.Conditions.{Condition, Entry, meets, entry_holds, is_entry_on, is_simple_on, is_broken, is_broken_kind, first_broken, holds_at, in_domain, is_possible}
 use Rattle.interval_solver.specs.Domains.{IsDomainOf, AreDomainsOf, first_empty}
 use Rattle.path_formula.specs.Typed.{AreValues}
-use Rattle.interval_solver.specs.Verdicts.{IsPossible, IsLeastPossible, AreLeastOfFirst, AreLeastValues, IsFirstWithoutValue, IsWithoutValue, IsVerdictOn, is_refuting, is_false, is_empty_verdict, is_settled, holds_if_settled}
+use Rattle.interval_solver.specs.Verdicts.{IsLeastPossible, AreLeastOfFirst, AreLeastValues, IsFirstWithoutValue, IsWithoutValue, IsVerdictOn, is_refuting, is_false, is_empty_verdict, is_settled, holds_if_settled}
 use Rattle.interval_solver.specs.declared.decide.SimpleVerdict.{SimpleVerdict}
 use Rattle.interval_solver.specs.declared.decide.SimpleVerdict.TheVariants.{Values, False, Empty}
 use Rattle.interval_solver.proofs.Firsts.{IsFirstAt, filled}
@@ -41,15 +40,11 @@ not_true true h = absurd (h refl)
 not_true false h = refl
 
 -- members of a domain are the possible values
-possible : (path : Condition) (s : SymId) (set : RangeSet) (x : ℕ) → IsDomainOf path s set → is_member set.pairs x ≡ true → IsPossible path s x
-possible path s set x d m = record {
-  fits = subst (λ w. FitsWidth w x) d.same_width (d.canonical.fits x m);
-  meets = and_second (fits_width (slice_index path.widths s.0) x) (in_domain s path x) (sym (d.members x) ∙ m);
-}
+possible : (path : Condition) (s : SymId) (set : RangeSet) (x : ℕ) → IsDomainOf path s set → is_member set.pairs x ≡ true → is_possible path s x ≡ true
+possible path s set x d m = sym (d.members x) ∙ m
 
-member : (path : Condition) (s : SymId) (set : RangeSet) (x : ℕ) → IsDomainOf path s set → IsPossible path s x → is_member set.pairs x ≡ true
-member path s set x d p =
-    d.members x ∙ both_true (fits_width (slice_index path.widths s.0) x) (in_domain s path x) (lt-ltb x (2 ^ slice_index path.widths s.0) p.fits) p.meets
+member : (path : Condition) (s : SymId) (set : RangeSet) (x : ℕ) → IsDomainOf path s set → is_possible path s x ≡ true → is_member set.pairs x ≡ true
+member path s set x d p = d.members x ∙ p
 
 least_possible : (path : Condition) (s : SymId) (set : RangeSet) (x : ℕ) → IsDomainOf path s set → IsLeast set.pairs x → IsLeastPossible path s x
 least_possible path s set x d h = record {
@@ -84,7 +79,7 @@ module _ (path : Condition) (sets : List RangeSet) (d : AreDomainsOf path sets) 
       let count = d.count in
       let here = held sets s.0 (omega arith) in
       let one = has_member s here.0 none here.1 in
-      (one.0, sym ((d.domains s here.0 here.1).members one.0) ∙ one.1)
+      (one.0, possible path s here.0 one.0 (d.domains s here.0 here.1) one.1)
 
   pub first_without : (s : SymId) → IsFirstAt sets s.0 → IsFirstWithoutValue path s
   first_without s h =
@@ -92,7 +87,7 @@ module _ (path : Condition) (sets : List RangeSet) (d : AreDomainsOf path sets) 
       let count = d.count in
       record {
         known = omega arith;
-        no_value = λ x p. let m = member path s h.found x (d.domains s h.found h.at) p in let n = no_members h.found.pairs h.empty x in cc;
+        no_value = λ x. sym ((d.domains s h.found h.at).members x) ∙ no_members h.found.pairs h.empty x;
         earlier = λ r lt.
             let here = held sets r.0 (omega arith) in
             let domain = d.domains r here.0 here.1 in
@@ -175,11 +170,12 @@ refutes constant simple path (Values least) values is refuting fits = cc
 refutes constant simple path (False pick) values is refuting fits = broken_false constant values 0 pick path.entries is
 refutes constant simple path (Empty s picks) values is refuting fits =
     let first = is.1 in
+    let value = slice_index values s.0 in
+    let width = slice_index path.widths s.0 in
     not_true (holds_at path values) (λ holds.
-    first.no_value (slice_index values s.0) (record {
-      fits = fits s.0 (slice_index path.widths s.0) (slice_get-get_or path.widths s.0 0 first.known);
-      meets = simple_meet simple s values path.entries holds;
-    }))
+    let fitting = lt-ltb value (2 ^ width) (fits s.0 width (slice_get-get_or path.widths s.0 0 first.known)) in
+    let some = both_true (fits_width width value) (in_domain s path value) fitting (simple_meet simple s values path.entries holds) in
+    let none = first.no_value value in cc)
 
 -- the least values give each settled formula the truth that it must have
 not_false : (b : Bool) → not b ≡ false → b ≡ true
@@ -227,7 +223,8 @@ pub least_settle : ((f : FormulaTree) (truth : Bool) (values : List ℕ) → kin
     → ((f : FormulaTree) (s : SymId) (values : List ℕ) → kind_of f ≡ Simple s → truth_at f values ≡ truth_at f (alone s (slice_index values s.0)))
     → (path : Condition) (values : List ℕ) → first_broken path ≡ None → AreLeastValues path values → list_all (holds_if_settled path values) path.entries ≡ true
 least_settle constant simple path values none least =
-    settled_all constant simple path values 0 path.entries none (λ s lt. (least.each s lt).possible.meets)
+    settled_all constant simple path values 0 path.entries none (λ s lt.
+    and_second (fits_width (slice_index path.widths s.0) (slice_index values s.0)) (in_domain s path (slice_index values s.0)) (least.each s lt).possible)
 
 -- which verdict it is
 pub false_exactly : (path : Condition) (verdict : SimpleVerdict) → IsVerdictOn path verdict → (is_false verdict ≡ true) ↔ ((pick : ℕ) × (first_broken path ≡ Some pick))
@@ -236,6 +233,10 @@ false_exactly path (False pick) is = ((λ e. (pick, is)), (λ found. refl))
 false_exactly path (Empty s picks) is = ((λ e. cc), (λ found. let some = found.1 in let none = is.0 in cc))
 
 pub empty_exactly : (path : Condition) (verdict : SimpleVerdict) → IsVerdictOn path verdict → (is_empty_verdict verdict ≡ true) ↔ ((s : SymId) × IsWithoutValue path s)
-empty_exactly path (Values values) is = ((λ e. cc), (λ found. absurd (found.1.no_value (slice_index values.items found.0.0) (is.1.each found.0 found.1.known).possible)))
+empty_exactly path (Values values) is = (
+  (λ e. cc),
+  (λ found.
+      let none = found.1.no_value (slice_index values.items found.0.0) in let some = (is.1.each found.0 found.1.known).possible in cc),
+)
 empty_exactly path (False pick) is = ((λ e. cc), (λ found. let some : first_broken path ≡ Some pick = is in let none = found.1.unbroken in cc))
 empty_exactly path (Empty s picks) is = ((λ e. (s, record { unbroken = is.0; known = is.1.known; no_value = is.1.no_value })), (λ found. refl))

@@ -1,24 +1,18 @@
 -- What the simple formulas of a condition decide.
 use Rattle.std.specs.Prelude.{◌≡◌, ℕ, ◌<◌, ◌≤◌, nat_lt, Bool, true, false, if◌then◌else◌, List, Some, None, length, slice_index}
-use Rattle.sn_width.specs.Width.{FitsWidth}
 use Rattle.sn_width.specs.declared.ids.SymId.{SymId}
 use Rattle.path_formula.specs.Kinds.{kind_of}
 use Rattle.path_formula.specs.View.{view}
 use Rattle.path_formula.specs.declared.kinds.Kind.{Kind}
 use Rattle.path_formula.specs.declared.kinds.Kind.TheVariants.{Constant, Simple, Inside, Outside}
-use Rattle.path_cond.specs.Conditions.{Condition, Entry, entry_holds, in_domain, first_broken, simple_picks}
+use Rattle.path_cond.specs.Conditions.{Condition, Entry, entry_holds, first_broken, is_possible, simple_picks}
 use Rattle.interval_solver.specs.declared.decide.SimpleVerdict.{SimpleVerdict}
 use Rattle.interval_solver.specs.declared.decide.SimpleVerdict.TheVariants.{Values, False, Empty}
 
--- the number is a value of the symbol's width, and meets each formula that is simple on the symbol
-pub record IsPossible (cond : Condition) (s : SymId) (value : ℕ) : Type 0 where
-  pub fits : FitsWidth (slice_index cond.widths s.0) value
-  pub meets : in_domain s cond value ≡ true
-
 -- the number is the least possible value of the symbol
 pub record IsLeastPossible (cond : Condition) (s : SymId) (value : ℕ) : Type 0 where
-  pub possible : IsPossible cond s value
-  pub least : (other : ℕ) → IsPossible cond s other → value ≤ other
+  pub possible : is_possible cond s value ≡ true
+  pub least : (other : ℕ) → is_possible cond s other ≡ true → value ≤ other
 
 -- one number for each of the first symbols, so many, each the least possible value of its symbol
 pub record AreLeastOfFirst (cond : Condition) (count : ℕ) (values : List ℕ) : Type 0 where
@@ -32,8 +26,8 @@ AreLeastValues cond values = AreLeastOfFirst cond (length cond.widths) values
 -- the symbol is the first that has no possible value
 pub record IsFirstWithoutValue (cond : Condition) (s : SymId) : Type 0 where
   pub known : s.0 < length cond.widths
-  pub no_value : (value : ℕ) → IsPossible cond s value → ⊥
-  pub earlier : (r : SymId) → r.0 < s.0 → (value : ℕ) × IsPossible cond r value
+  pub no_value : (value : ℕ) → is_possible cond s value ≡ false
+  pub earlier : (r : SymId) → r.0 < s.0 → (value : ℕ) × (is_possible cond r value ≡ true)
 
 -- the verdict on the condition: False with the first broken pick; where none is broken, Empty with the first symbol
 -- that has no possible value and all its simple picks; where there is no such symbol, the least values
@@ -52,7 +46,7 @@ is_refuting (Empty s picks) = true
 pub record IsWithoutValue (cond : Condition) (s : SymId) : Type 0 where
   pub unbroken : first_broken cond ≡ None
   pub known : s.0 < length cond.widths
-  pub no_value : (value : ℕ) → IsPossible cond s value → ⊥
+  pub no_value : (value : ℕ) → is_possible cond s value ≡ false
 
 abbrev pub is_false : SimpleVerdict → Bool
 is_false (Values values) = false

@@ -2,11 +2,11 @@
 use Rattle.std.proofs.Common.{◌≡◌, ℕ, zero, suc, ◌+◌, ◌^◌, ◌<◌, pos, Bool, true, false, cond, ◌&&◌, ◌||◌, nat_eq, List, [], ◌∷◌, map, length, Option, Some, None, refl, sym, ap, subst, ◌∙◌, arith, inl, inr}
 use Rattle.std.specs.Prelude.{slice_get, slice_index, ◌-ℤ◌, neg_ℤ, int_le}
 use Rattle.std.specs.List.{position_from}
-use Rattle.std.proofs.lemmas.Bool.{eqb-true, eq-eqb}
+use Rattle.std.proofs.lemmas.Bool.{eqb-true, eq-eqb, lt-ltb, ltb-true}
 use Rattle.std.proofs.lemmas.Int.{ints}
 use Rattle.sn_width.specs.Width.{FitsWidth}
 use Rattle.sn_width.specs.declared.ids.SymId.{SymId}
-use Rattle.sn_ranges.specs.Ranges.{Range}
+use Rattle.sn_ranges.specs.Ranges.{Range, fits_width}
 use Rattle.path_formula.specs.Formulas.{FormulaTree}
 use Rattle.path_formula.specs.Kinds.{kind_of}
 use Rattle.path_formula.specs.Solutions.{agrees, alone}
@@ -15,7 +15,7 @@ use Rattle.path_formula.specs.declared.kinds.Kind.{Kind}
 use Rattle.path_formula.specs.declared.kinds.Kind.TheVariants.{Constant, Simple, Inside, Outside}
 use Rattle.path_cond.specs.Seen as seen
 use Rattle.path_cond.specs.Seen.{ConditionOf}
-use Rattle.path_cond.specs.Conditions.{Condition, Entry, AllTyped, entry_holds, in_domain, is_simple_on, is_entry_on, meets, is_broken, is_broken_kind, first_broken}
+use Rattle.path_cond.specs.Conditions.{Condition, Entry, AllTyped, entry_holds, in_domain, is_simple_on, is_entry_on, meets, is_broken, is_broken_kind, first_broken, is_possible}
 use Rattle.path_cases.specs.Bounds.{AreValues, is_one_met, is_case_met}
 use Rattle.path_cases.specs.Cases.{range_case}
 use Rattle.sn_ranges.specs.Sets.{ranges_where}
@@ -29,9 +29,9 @@ use Rattle.path_solver.specs.declared.origin.Origin.TheVariants.{Ranges, Cases}
 use Rattle.path_solver.proofs.Atoms.{or_cases}
 use Rattle.path_solver.proofs.Bridge.{IsOrigin, MeetCases, inside_case_met}
 use Rattle.path_solver.specs.Laws.{Facts}
-use Rattle.path_solver.proofs.Entries.{at_all, all_at, typed_at, entry_splits, listed_narrow, index_at, known_at}
+use Rattle.path_solver.proofs.Entries.{at_all, all_at, typed_at, entry_splits, listed_narrow, get_at, index_at, known_at}
 use Rattle.path_solver.proofs.Goodness.{AreUnder, ranges_under}
-use Rattle.path_solver.proofs.Numbering.{and_left, and_right}
+use Rattle.path_solver.proofs.Numbering.{and_both, and_left, and_right}
 
 simple_kind : (s : SymId) (k : Kind) → is_simple_on s k ≡ true → k ≡ Simple s
 simple_kind s (Constant truth) h = absurd (cc)
@@ -104,18 +104,15 @@ value_under x s (r ∷ ranges) limit under h =
     lt_moved : (v n limit : ℕ) → int_le (pos v -ℤ pos 0) (pos n) ≡ true → n < limit → v < limit
     lt_moved v n limit h lt = grind (arith, ints)
 
--- a value of the width that meets the simple formulas of the symbol
-pub record IsPossibleFor (cond : Condition) (s : SymId) (value : ℕ) : Type 0 where
-  pub fits : FitsWidth (slice_index cond.widths s.0) value
-  pub meets : in_domain s cond value ≡ true
-
 pub met_is_possible : Facts → (cond : Condition) (x : List ℕ) (s : SymId) → is_one_met x (domain_cases cond s) ≡ true
-    → IsPossibleFor cond s (slice_index x s.0)
+    → is_possible cond s (slice_index x s.0) ≡ true
 met_is_possible facts cond x s h =
     let fits : FitsWidth (slice_index cond.widths s.0) (slice_index x s.0) =
     value_under x s (ranges_where (slice_index cond.widths s.0) (in_domain s cond)) (2 ^ slice_index cond.widths s.0)
     (ranges_under (slice_index cond.widths s.0) (in_domain s cond)) h in
-    record { fits = fits; meets = sym (facts.ranges_are_test s (slice_index cond.widths s.0) (in_domain s cond) x fits) ∙ h }
+    and_both (fits_width (slice_index cond.widths s.0) (slice_index x s.0)) (in_domain s cond (slice_index x s.0))
+    (lt-ltb (slice_index x s.0) (2 ^ slice_index cond.widths s.0) fits)
+    (sym (facts.ranges_are_test s (slice_index cond.widths s.0) (in_domain s cond) x fits) ∙ h)
 
 -- no formula is a broken constant one
 pub unbroken_at : (i : ℕ) (entries : List Entry) (k : ℕ) (e : Entry) → position_from is_broken i entries ≡ None
@@ -149,14 +146,25 @@ or_true : (a b : Bool) → b ≡ true → (a || b) ≡ true
 or_true true b h = refl
 or_true false b h = h
 
+-- the value of a candidate is possible
+pub candidate_possible : Facts → (c : Condition) (values : List ℕ) (s : SymId) → AreCandidates c values → s.0 < length c.widths
+    → is_possible c s (slice_index values s.0) ≡ true
+candidate_possible facts c values s h known =
+    let value = slice_index values s.0 in
+    let width = slice_index c.widths s.0 in
+    and_both (fits_width width value) (in_domain s c value) (lt-ltb value (2 ^ width) (h.fitting.fit s.0 width (get_at c.widths s.0 known)))
+    (candidate_in_domain view facts c values s h)
+
 -- each symbol has a possible value
 abbrev pub ArePossible : Condition → List ℕ → Type 0
-ArePossible cond x = (s : SymId) → s.0 < length cond.widths → IsPossibleFor cond s (slice_index x s.0)
+ArePossible cond x = (s : SymId) → s.0 < length cond.widths → is_possible cond s (slice_index x s.0) ≡ true
 
 pub possible_fit : (cond : Condition) (x : List ℕ) → ArePossible cond x → AreValues cond.widths x
 possible_fit cond x h = λ symbol width is.
     subst (λ (w : ℕ). FitsWidth w (slice_index x symbol)) (index_at cond.widths symbol width is)
-    (h (record { 0 = symbol }) (known_at cond.widths symbol width is)).fits
+    (ltb-true (slice_index x symbol) (2 ^ slice_index cond.widths symbol)
+    (and_left (fits_width (slice_index cond.widths symbol) (slice_index x symbol)) (in_domain (record { 0 = symbol }) cond (slice_index x symbol))
+    (h (record { 0 = symbol }) (known_at cond.widths symbol width is))))
 
 entry_satisfied : Facts → (cond : Condition) (x : List ℕ) (pick : ℕ) (e : Entry) (k : Kind)
     → AllTyped cond.widths cond.entries → first_broken cond ≡ None → ArePossible cond x
@@ -169,8 +177,9 @@ entry_satisfied facts cond x pick e (Constant truth) typed none possible met is 
     (ap (agrees e.1) (facts.constant_truth (view e.0) truth x kind) ∙ constant_holds e.1 truth unbroken)
 entry_satisfied facts cond x pick e (Simple s) typed none possible met is kind =
     let known = facts.simple_known (view e.0) s cond.widths kind (typed_at cond.widths cond.entries pick e typed is) in
-    let p = possible s (known_at cond.widths s.0 known.0 known.1) in
-    let met' = at_all (λ (d : Entry). meets s (alone s (slice_index x s.0)) d) cond.entries pick e p.meets is in
+    let value = slice_index x s.0 in
+    let meets_all = and_right (fits_width (slice_index cond.widths s.0) value) (in_domain s cond value) (possible s (known_at cond.widths s.0 known.0 known.1)) in
+    let met' = at_all (λ (d : Entry). meets s (alone s value) d) cond.entries pick e meets_all is in
     let on : is_entry_on s e ≡ true = ap (is_simple_on s) kind ∙ on_itself s.0 in
     or_true (is_outside e) (entry_holds x e)
     (ap (agrees e.1) (facts.simple_alone (view e.0) s x kind)

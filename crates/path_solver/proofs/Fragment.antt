@@ -6,7 +6,7 @@ use Rattle.std.proofs.lemmas.Bool.{eqb-true}
 use Rattle.std.proofs.lemmas.List.{length-set, get_or-set_same}
 use Rattle.sn_width.specs.declared.ids.SymId.{SymId}
 use Rattle.path_formula.specs.View.{view}
-use Rattle.path_cond.specs.Conditions.{Condition, Entry, AllTyped, first_broken}
+use Rattle.path_cond.specs.Conditions.{Condition, Entry, AllTyped, first_broken, is_possible}
 use Rattle.path_cases.specs.Cases.{cases_of}
 use Rattle.path_cases.specs.Counts.{capped}
 use Rattle.interval_solver.specs.Verdicts.{IsLeastPossible, AreLeastValues}
@@ -26,8 +26,8 @@ use Rattle.path_solver.specs.declared.origin.Origin.{Origin}
 use Rattle.path_solver.specs.declared.origin.Origin.TheVariants.{Ranges, Cases as OfCases}
 use Rattle.path_solver.proofs.Ascending.{or_no_left, or_no_right, other_place}
 use Rattle.path_solver.proofs.Bridge.{IsOrigin, origins_are, meet_all}
-use Rattle.path_solver.proofs.Candidates.{IsPossibleFor, candidate_in_domain, met_candidate}
-use Rattle.path_solver.proofs.Entries.{any_at, get_at}
+use Rattle.path_solver.proofs.Candidates.{candidate_possible, met_candidate}
+use Rattle.path_solver.proofs.Entries.{any_at}
 use Rattle.path_solver.proofs.Exact.{licensed, refuted_none}
 use Rattle.path_solver.proofs.Words.{at_most_set}
 
@@ -121,30 +121,22 @@ no_origin c (Ranges s) none h =
 no_origin c (OfCases pick) none h =
     let some : list_any is_inside c.entries ≡ true = any_at is_inside c.entries pick h.entry h.at h.inside in cc
 
-candidate_possible : Facts → (c : Condition) (values : List ℕ) (s : SymId) → AreCandidates c values → s.0 < length c.widths
-    → IsPossibleFor c s (slice_index values s.0)
-candidate_possible facts c values s h known =
-    record {
-      fits = h.fitting.fit s.0 (slice_index c.widths s.0) (get_at c.widths s.0 known);
-      meets = candidate_in_domain view facts c values s h;
-    }
-
 possible_with : Facts → (c : Condition) (values : List ℕ) (s : SymId) (value : ℕ) (r : SymId) (b : Bool)
     → nat_eq s.0 r.0 ≡ b → AreCandidates c values
-    → s.0 < length c.widths → IsPossibleFor c s value → r.0 < length c.widths
-    → IsPossibleFor c r (slice_index (slice_set values s.0 value) r.0)
+    → s.0 < length c.widths → is_possible c s value ≡ true → r.0 < length c.widths
+    → is_possible c r (slice_index (slice_set values s.0 value) r.0) ≡ true
 possible_with facts c values s value r true e h known p there =
     let same : s.0 ≡ r.0 = eqb-true s.0 r.0 e in
-    subst (λ (n : ℕ). IsPossibleFor c (record { 0 = n }) (slice_index (slice_set values s.0 value) n)) same
-    (subst (λ (v : ℕ). IsPossibleFor c s v) (sym (get_or-set_same values s.0 value 0 (omega (arith, h.fitting.one_each)))) p)
+    subst (λ (n : ℕ). is_possible c (record { 0 = n }) (slice_index (slice_set values s.0 value) n) ≡ true) same
+    (subst (λ (v : ℕ). is_possible c s v ≡ true) (sym (get_or-set_same values s.0 value 0 (omega (arith, h.fitting.one_each)))) p)
 possible_with facts c values s value r false e h known p there =
-    subst (λ (v : ℕ). IsPossibleFor c r v) (sym (other_place values s.0 r.0 value e))
+    subst (λ (v : ℕ). is_possible c r v ≡ true) (sym (other_place values s.0 r.0 value e))
     (candidate_possible facts c values r h there)
 
 -- where no formula is inside, one value of a candidate may be any possible value
 candidate_with : Facts → (c : Condition) (values : List ℕ) (s : SymId) (value : ℕ) → AllTyped c.widths c.entries
     → HasNoInside c → AreCandidates c values
-    → s.0 < length c.widths → IsPossibleFor c s value → AreCandidates c (slice_set values s.0 value)
+    → s.0 < length c.widths → is_possible c s value ≡ true → AreCandidates c (slice_set values s.0 value)
 candidate_with facts c values s value typed none h known p =
     met_candidate facts c (slice_set values s.0 value) typed (unbroken facts c values h)
     (length-set values s.0 value ∙ h.fitting.one_each)
@@ -155,13 +147,12 @@ least_at : Facts → (c : Condition) (values : List ℕ) (s : SymId) → AllType
     → AreLeast c values → s.0 < length c.widths
     → IsLeastPossible c s (slice_index values s.0)
 least_at facts c values s typed none h known =
-    let here = candidate_possible facts c values s h.candidates known in
     record {
-      possible = record { fits = here.fits; meets = here.meets };
+      possible = candidate_possible facts c values s h.candidates known;
       least = λ other p.
           at_most_set values s.0 other (omega (arith, h.candidates.fitting.one_each))
           (h.first (slice_set values s.0 other)
-          (candidate_with facts c values s other typed none h.candidates known (record { fits = p.fits; meets = p.meets })));
+          (candidate_with facts c values s other typed none h.candidates known p));
     }
 
 simple_least : Facts → (c : Condition) (values : List ℕ) → AllTyped c.widths c.entries → HasNoInside c

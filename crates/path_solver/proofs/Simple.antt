@@ -1,8 +1,7 @@
 -- What the constant and the simple formulas of a condition decide.
-use Rattle.std.proofs.Common.{◌≡◌, ℕ, suc, ◌+◌, ◌^◌, ◌<◌, Bool, true, false, cond, not, ◌&&◌, ◌||◌, List, [], ◌∷◌, Option, Some, None, refl, sym, ap, ap₂, ◌∙◌, arith, inl, inr}
-use Rattle.std.specs.Prelude.{slice_get, slice_index, nat_lt}
+use Rattle.std.proofs.Common.{◌≡◌, ℕ, suc, ◌+◌, Bool, true, false, cond, not, ◌&&◌, ◌||◌, List, [], ◌∷◌, Option, Some, None, refl, sym, ap, ap₂, ◌∙◌, arith, inl, inr}
+use Rattle.std.specs.Prelude.{slice_get, slice_index}
 use Rattle.std.specs.List.{list_all, list_any, position_from}
-use Rattle.std.proofs.lemmas.Bool.Decides.{nat_tests}
 use Rattle.std.proofs.lemmas.List.Folds.{list_all-append}
 use Rattle.std.proofs.Math.Pow.{pow_mono}
 use Rattle.sn_width.specs.declared.ids.SymId.{SymId}
@@ -15,9 +14,8 @@ use Rattle.path_formula.specs.View.{view}
 use Rattle.path_formula.specs.declared.atom.AtomKind.{AtomKind}
 use Rattle.path_formula.specs.declared.atom.AtomKind.TheVariants.{Constant as OneTruth, Single, Pair, Outside as Hard}
 use Rattle.path_formula.specs.declared.kinds.Kind.TheVariants.{Constant}
-use Rattle.path_cond.specs.Conditions.{Condition, Entry, AllTyped, in_domain, first_broken, is_broken, is_broken_kind}
-use Rattle.interval_solver.specs.Verdicts.{IsPossible, AreLeastValues}
-use Rattle.interval_solver.specs.Verdicts.{IsFirstWithoutValue}
+use Rattle.path_cond.specs.Conditions.{Condition, Entry, AllTyped, first_broken, is_broken, is_broken_kind}
+use Rattle.interval_solver.specs.Verdicts.{AreLeastValues, IsFirstWithoutValue}
 use Rattle.path_formula.specs.Typed.{IsTyped}
 use Rattle.path_cond.specs.Conditions.{entry_holds, is_entry_on, meets, picks_from, simple_picks}
 use Rattle.path_cases.specs.Bounds.{Case, AreValues, is_one_met, is_case_met}
@@ -41,8 +39,8 @@ pub leasts_of : (cond : Condition) (leasts : List ℕ) → AreLeastValues cond l
 leasts_of cond leasts h =
     record {
       one_each = h.count_is;
-      possible = λ s known. let p = (h.each s known).possible in record { fits = p.fits; meets = p.meets };
-      least = λ s value known p. (h.each s known).least value record { fits = p.fits; meets = p.meets };
+      possible = λ s known. (h.each s known).possible;
+      least = λ s value known p. (h.each s known).least value p;
     }
 
 -- An entry at a place
@@ -231,26 +229,6 @@ meets_from c s v n (e ∷ es) h =
     meets_by c s v n e es (is_entry_on s e) (ap (slice_get c.entries) (none_added n) ∙ h 0)
     (meets_from c s v (suc n) es (λ i. ap (slice_get c.entries) (shift n i) ∙ h (suc i)))
 
-never_both : (b : Bool) → (b ≡ true → ⊥) → b ≡ false
-never_both true h = absurd (h refl)
-never_both false h = refl
-
-possible_of : (cond : Condition) (s : SymId) (v : ℕ)
-    → (fits_width (slice_index cond.widths s.0) v && in_domain s cond v) ≡ true → IsPossible cond s v
-possible_of cond s v h =
-    record {
-      fits = fits (and_left (fits_width (slice_index cond.widths s.0) v) (in_domain s cond v) h);
-      meets = and_right (fits_width (slice_index cond.widths s.0) v) (in_domain s cond v) h;
-    }
-  where
-    fits : nat_lt v (2 ^ slice_index cond.widths s.0) ≡ true → v < 2 ^ slice_index cond.widths s.0
-    fits h = grind (arith, nat_tests)
-
-no_possible : (cond : Condition) (s : SymId) → ((v : ℕ) → IsPossible cond s v → ⊥) → (v : ℕ)
-    → (fits_width (slice_index cond.widths s.0) v && in_domain s cond v) ≡ false
-no_possible cond s h v =
-    never_both (fits_width (slice_index cond.widths s.0) v && in_domain s cond v) (λ e. h v (possible_of cond s v e))
-
 -- the step that refutes a condition with a symbol that has no possible value
 pub empty_accepted : (cond : Condition) (s : SymId) → IsFirstWithoutValue cond s
     → IsAccepted cond (Empty s (simple_picks s cond) ∷ [])
@@ -263,7 +241,7 @@ empty_accepted cond s h = (
       no_value =
           λ v. ap (λ (b : Bool). fits_width (slice_index cond.widths s.0) v && b)
           (meets_from cond s v 0 cond.entries (λ i. ap (slice_get cond.entries) (zero_first i)))
-          ∙ no_possible cond s h.no_value v;
+          ∙ h.no_value v;
     },
     refl,
   ),
@@ -277,20 +255,12 @@ pub broken_refuted : (cond : Condition) (pick : ℕ) → first_broken cond ≡ S
 broken_refuted cond pick h = inl (inl record { pick = pick; first = h })
 
 pub empty_refuted : (cond : Condition) (s : SymId) → IsFirstWithoutValue cond s → IsRefuted cond
-empty_refuted cond s h = inl (inr record { symbol = s; known = h.known; no_value = no_possible cond s h.no_value })
+empty_refuted cond s h = inl (inr record { symbol = s; known = h.known; no_value = h.no_value })
 
 -- each symbol has a possible value
 pub simply_open : (cond : Condition) (leasts : List ℕ) → first_broken cond ≡ None → AreLeastValues cond leasts → IsSimplyOpen cond
 simply_open cond leasts none h =
     record {
       unbroken = none;
-      possible =
-          λ s known. let p = (h.each s known).possible in (
-            slice_index leasts s.0,
-            and_both (fits_width (slice_index cond.widths s.0) (slice_index leasts s.0))
-                (in_domain s cond (slice_index leasts s.0)) (fits s (slice_index leasts s.0) p.fits) p.meets,
-          );
+      possible = λ s known. (slice_index leasts s.0, (h.each s known).possible);
     }
-  where
-    fits : (s : SymId) (v : ℕ) → v < 2 ^ slice_index cond.widths s.0 → nat_lt v (2 ^ slice_index cond.widths s.0) ≡ true
-    fits s v h = grind (arith, nat_tests)

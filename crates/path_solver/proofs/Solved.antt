@@ -7,8 +7,7 @@ use Rattle.std.proofs.lemmas.List.Elements.{All-cons, All-head, All-nil}
 use Rattle.sn_width.specs.declared.ids.SymId.{SymId}
 use Rattle.sn_ranges.specs.Ranges.{Range}
 use Rattle.difference_solver.specs.Bound.{number, Meets, IsInRange}
-use Rattle.path_formula.specs.View.{view}
-use Rattle.path_cond.specs.Conditions.{Condition, AllTyped, in_domain, first_broken}
+use Rattle.path_cond.specs.Conditions.{Condition, AllTyped, in_domain, first_broken, is_possible}
 use Rattle.path_cases.specs.Bounds.{Case}
 use Rattle.path_cases.specs.Cases.{range_case}
 use Rattle.sn_ranges.specs.Sets.{ranges_where}
@@ -25,9 +24,8 @@ use Rattle.path_solver.specs.declared.origin.Origin.{Origin}
 use Rattle.path_solver.specs.declared.origin.Origin.TheVariants.{Ranges}
 use Rattle.path_solver.proofs.Ascending.{AreNatural, integers_back, with_integers-length, with_integers-other, ordered, listed_is_from}
 use Rattle.path_solver.proofs.Bridge.{AreOrigins, MeetCases, origins_are, origin_between, each_from, each_to, meet_all, coupled_range_met}
-use Rattle.path_solver.proofs.Candidates.{IsPossibleFor, ArePossible, candidate_in_domain, candidate_meets, met_is_possible, met_candidate}
+use Rattle.path_solver.proofs.Candidates.{ArePossible, candidate_possible, candidate_meets, met_is_possible, met_candidate}
 use Rattle.path_solver.specs.Laws.{Facts}
-use Rattle.path_solver.proofs.Entries.{get_at}
 use Rattle.path_solver.proofs.Numbering.{unknown_high}
 use Rattle.path_solver.proofs.Places.{unknown_at, place_of}
 
@@ -101,17 +99,17 @@ are_values cond leasts (z0 ∷ vs) one_each h =
 pub record AreLeasts (cond : Condition) (leasts : List ℕ) : Type 0 where
   pub one_each : length leasts ≡ length cond.widths
   pub possible : ArePossible cond leasts
-  pub least : (s : SymId) (value : ℕ) → s.0 < length cond.widths → IsPossibleFor cond s value → slice_index leasts s.0 ≤ value
+  pub least : (s : SymId) (value : ℕ) → s.0 < length cond.widths → is_possible cond s value ≡ true → slice_index leasts s.0 ≤ value
 
 possible_by : Facts → (cond : Condition) (leasts : List ℕ) (zs : List ℤ) (s : SymId) (b : Bool)
     → is_listed (coupled_symbols cond) s ≡ b → s.0 < length cond.widths → AreLeasts cond leasts
     → MeetCases cond (with_integers leasts (coupled_symbols cond) zs) (origins_of cond)
-    → IsPossibleFor cond s (slice_index (with_integers leasts (coupled_symbols cond) zs) s.0)
+    → is_possible cond s (slice_index (with_integers leasts (coupled_symbols cond) zs) s.0) ≡ true
 possible_by facts cond leasts zs s true is known h met =
     met_is_possible facts cond (with_integers leasts (coupled_symbols cond) zs) s
     (coupled_range_met cond (with_integers leasts (coupled_symbols cond) zs) s met is)
 possible_by facts cond leasts zs s false is known h met =
-    subst (λ (n : ℕ). IsPossibleFor cond s n) (sym (with_integers-other leasts (coupled_symbols cond) zs s.0 is))
+    subst (λ (n : ℕ). is_possible cond s n ≡ true) (sym (with_integers-other leasts (coupled_symbols cond) zs s.0 is))
     (h.possible s known)
 
 uncoupled : (cond : Condition) (s : SymId) (b : Bool) → is_listed (coupled_symbols cond) s ≡ b
@@ -161,10 +159,7 @@ solved_least facts cond leasts v typed none h is =
           subst (λ (n : ℕ). n ≤ slice_index x s.0)
           (sym (with_integers-other leasts (coupled_symbols cond) (drop 1 v) s.0 (uncoupled_listed cond s not)))
           (h.least s (slice_index x s.0) known
-          (record {
-            fits = candidate.fitting.fit s.0 (slice_index cond.widths s.0) (get_at cond.widths s.0 known);
-            meets = candidate_in_domain view facts cond x s candidate;
-          })));
+          (candidate_possible facts cond x s candidate known)));
     }
   where
     uncoupled_listed : (cond : Condition) (s : SymId) → is_coupled cond s ≡ false → is_listed (coupled_symbols cond) s ≡ false

@@ -42,8 +42,9 @@ pub enum Decided {
     Undecided { cause: Cause },
 }
 
-/// The decision of a condition that has these domains, where a base is known or none. The constant formulas come first, then the domains, the number of
-/// coupled symbols, the number of choices of cases, the cases, and last the formulas that are outside.
+/// The decision of a condition that has these domains. What an earlier decision found of its first symbols and formulas may be given as a
+/// base. The constant formulas come first, then the domains, the number of coupled symbols, the number of choices of cases, the cases, and last
+/// the formulas that are outside.
 ///
 /// It is Sat or Unsat where each formula is constant or simple, and where each is constant, simple or inside, at most
 /// `MOST_COUPLED` symbols are coupled and there are at most `MOST_CHOICES` choices of cases.
