@@ -1,7 +1,7 @@
 //! The symbols that occur in the inside formulas of a condition.
 
 ghost use Rattle.std.specs.Prelude.{◌≡◌, IfOk, length};
-ghost use Rattle.case_counts.specs.Coupled.{coupled_symbols, coupled_count};
+ghost use Rattle.case_counts.specs.Coupled.{coupled_symbols};
 
 use path_cond::PathCond;
 use sn_width::{NoMemory, SymId};
@@ -23,11 +23,4 @@ pub fn coupled_symbols(alloc: Global, cond: &PathCond) -> Result<Vec<SymId>, NoM
     ensures { IfOk result (λ symbols. symbols.items ≡ coupled_symbols cond.now) }
 {
     cond.coupled_symbols(alloc)
-}
-
-/// The number of these symbols.
-pub fn coupled_count(_alloc: Global, cond: &PathCond) -> Result<u64, NoMemory>
-    ensures { IfOk result (λ count. count ≡ coupled_count cond.now) }
-{
-    Ok(cond.coupled_count())
 }

@@ -7,5 +7,5 @@ pub mod laws;
 mod picks;
 
 pub use count::{case_count, case_count_with};
-pub use coupled::{coupled_count, coupled_symbols, formula_count};
+pub use coupled::{coupled_symbols, formula_count};
 pub use picks::{domain_of, inside_picks, outside_picks, values_meeting};

@@ -1,6 +1,6 @@
 //! What the tests build of plain rows: widths, terms, formulas and conditions.
 
-ghost use Rattle.std.specs.Prelude.{◌≡◌, ◌≤◌, IfOk, IsTrue};
+ghost use Rattle.std.specs.Prelude.{◌≡◌, ◌≤◌, IsTrue};
 ghost use Rattle.path_formula.specs.Typed.{IsTyped, TermIsTyped};
 ghost use Rattle.path_formula.specs.View.{view as tree_of};
 
@@ -8,9 +8,9 @@ use lin_term::Term;
 use path_cond::PathCond;
 use path_formula::Formula;
 use sn_ranges::Ranges;
-use sn_width::{NoMemory, Num, Rel, SymId, Width};
+use sn_width::{Num, Rel, SymId, Width};
 use std::alloc::Global;
-use std::test::Fail;
+use std::process::Abort;
 
 /// A side of a comparison.
 #[derive(Clone, Copy)]
@@ -44,47 +44,53 @@ pub(crate) fn bits(count: u8) -> Width
 
 /// The number, or the width's greatest value where that is less.
 #[tactic(auto, using(std::proofs::lemmas::Nat::pow_pos))]
-fn number(alloc: Global, width: Width, value: Num) -> Result<Term, NoMemory>
-    ensures { IfOk result (λ term. term.width ≡ width) }
+fn number(rt: &impl Abort, alloc: Global, width: Width, value: Num) -> Term
+    ensures { result.width ≡ width }
 {
-    Term::of_const(alloc, width, value.min(width.max()))
+    Term::of_const(alloc, width, value.min(width.max())).expect(rt, "memory")
+}
+
+fn symbol(rt: &impl Abort, alloc: Global, width: Width, id: u64) -> Term
+    ensures { result.width ≡ width }
+{
+    Term::of_symbol(alloc, width, SymId(id)).expect(rt, "memory")
 }
 
 /// The symbol plus a term.
-fn plus(alloc: Global, width: Width, id: u64, other: &Term) -> Result<Term, NoMemory>
-    requires { other.now.width ≡ width }
-    ensures { IfOk result (λ term. term.width ≡ width) }
+fn plus(rt: &impl Abort, alloc: Global, width: Width, id: u64, other: Term) -> Term
+    requires { other.width ≡ width }
+    ensures { result.width ≡ width }
 {
-    let symbol = Term::of_symbol(alloc, width, SymId(id))?;
-    symbol.plus(alloc, other)
+    let symbol = symbol(rt, alloc, width, id);
+    symbol.plus(alloc, &other).expect(rt, "memory")
 }
 
 /// The term of a side.
-fn term(alloc: Global, width: Width, side: Side) -> Result<Term, NoMemory>
-    ensures { IfOk result (λ term. term.width ≡ width) }
+fn term(rt: &impl Abort, alloc: Global, width: Width, side: Side) -> Term
+    ensures { result.width ≡ width }
 {
     match side {
-        Side::Number(value) => number(alloc, width, value),
-        Side::Symbol(id) => Term::of_symbol(alloc, width, SymId(id)),
+        Side::Number(value) => number(rt, alloc, width, value),
+        Side::Symbol(id) => symbol(rt, alloc, width, id),
         Side::Plus(id, value) => {
-            let other = number(alloc, width, value)?;
-            plus(alloc, width, id, &other)
+            let other = number(rt, alloc, width, value);
+            plus(rt, alloc, width, id, other)
         }
         Side::Both(first, second) => {
-            let other = Term::of_symbol(alloc, width, SymId(second))?;
-            plus(alloc, width, first, &other)
+            let other = symbol(rt, alloc, width, second);
+            plus(rt, alloc, width, first, other)
         }
     }
 }
 
 /// The formula of an atom.
-pub(crate) fn formula(alloc: Global, width: Width, atom: Atom) -> Result<Formula, NoMemory> {
+pub(crate) fn formula(rt: &impl Abort, alloc: Global, width: Width, atom: Atom) -> Formula {
     match atom {
-        Atom::Truth(truth) => Ok(Formula::Truth(truth)),
+        Atom::Truth(truth) => Formula::Truth(truth),
         Atom::Compare(left, rel, right) => {
-            let left = term(alloc, width, left)?;
-            let right = term(alloc, width, right)?;
-            Ok(Formula::Compare { rel, left, right })
+            let left = term(rt, alloc, width, left);
+            let right = term(rt, alloc, width, right);
+            Formula::Compare { rel, left, right }
         }
     }
 }
@@ -146,61 +152,69 @@ pub(crate) fn is_formula_of(cond: &PathCond, formula: &Formula) -> bool
 
 /// The formula of an atom over the condition's symbols, which have this width.
 pub(crate) fn formula_of(
+    rt: &impl Abort,
     alloc: Global,
     cond: &PathCond,
     width: Width,
     atom: Atom,
-) -> Result<Formula, Fail>
-    ensures { IfOk result (λ f. IsTyped cond.now.widths (tree_of f)) }
+) -> Formula
+    ensures { IsTyped cond.now.widths (tree_of result) }
 {
-    let formula = formula(alloc, width, atom)?;
-    if !is_formula_of(cond, &formula) {
-        return Err(Fail::from("no formula of the condition"));
-    }
-    Ok(formula)
+    let formula = formula(rt, alloc, width, atom);
+    assert!(rt; is_formula_of(cond, &formula));
+    formula
 }
+
+/// Drops the condition, which is proved once here and not in each caller.
+pub(crate) fn let_go(_cond: PathCond) {}
 
 /// The condition with the formula, which must have this truth.
 pub(crate) fn with_formula(
+    rt: &impl Abort,
     alloc: Global,
     cond: &PathCond,
     formula: Formula,
     holds: bool,
-) -> Result<PathCond, Fail>
+) -> PathCond
     requires { IsTyped cond.now.widths (tree_of formula) }
 {
-    Ok(cond.with(alloc, formula, holds)?)
+    cond.with(alloc, formula, holds).expect(rt, "memory")
 }
 
 /// The condition with the atom, which must have this truth.
 pub(crate) fn with(
+    rt: &impl Abort,
     alloc: Global,
-    cond: &PathCond,
+    cond: PathCond,
     width: Width,
     atom: Atom,
     holds: bool,
-) -> Result<PathCond, Fail> {
-    let formula = formula_of(alloc, cond, width, atom)?;
-    with_formula(alloc, cond, formula, holds)
+) -> PathCond {
+    let formula = formula_of(rt, alloc, &cond, width, atom);
+    let next = with_formula(rt, alloc, &cond, formula, holds);
+    let_go(cond);
+    next
 }
 
 /// So many symbols of this width.
-pub(crate) fn free(alloc: Global, width: Width, symbols: usize) -> Result<PathCond, Fail> {
-    Ok(PathCond::new(alloc, vec![in alloc; width; symbols]?)?)
+pub(crate) fn free(rt: &impl Abort, alloc: Global, width: Width, symbols: usize) -> PathCond {
+    let widths = vec![in alloc; width; symbols].expect(rt, "memory");
+    PathCond::new(alloc, widths).expect(rt, "memory")
 }
 
 /// So many symbols of this width, and the atoms.
 pub(crate) fn condition(
+    rt: &impl Abort,
     alloc: Global,
     width: Width,
     symbols: usize,
     atoms: &[Atom],
-) -> Result<PathCond, Fail> {
-    let mut cond = free(alloc, width, symbols)?;
+) -> PathCond {
+    let mut cond = free(rt, alloc, width, symbols);
     for atom in atoms {
-        cond = with(alloc, &cond, width, *atom, true)?;
+        cond = with(rt, alloc, cond, width, *atom, true);
     }
-    Ok(cond)
+    cond
 }
 
 /// That the two symbols differ.
@@ -209,22 +223,22 @@ pub(crate) fn differ(first: u64, second: u64) -> Atom {
 }
 
 /// Thirteen pairs of symbols of 8 bits that differ.
-pub(crate) fn thirteen_pairs(alloc: Global) -> Result<PathCond, Fail> {
-    let mut cond = free(alloc, bits(8), 26)?;
+pub(crate) fn thirteen_pairs(rt: &impl Abort, alloc: Global) -> PathCond {
+    let mut cond = free(rt, alloc, bits(8), 26);
     for pair in 0..13u64 {
         let atom = differ(2 * pair, 2 * pair + 1);
-        cond = with(alloc, &cond, bits(8), atom, true)?;
+        cond = with(rt, alloc, cond, bits(8), atom, true);
     }
-    Ok(cond)
+    cond
 }
 
 /// A symbol of 8 bits that differs from each of 64 others.
-pub(crate) fn one_against_all(alloc: Global) -> Result<PathCond, Fail> {
-    let mut cond = free(alloc, bits(8), 65)?;
+pub(crate) fn one_against_all(rt: &impl Abort, alloc: Global) -> PathCond {
+    let mut cond = free(rt, alloc, bits(8), 65);
     for other in 1..65u64 {
-        cond = with(alloc, &cond, bits(8), differ(0, other), true)?;
+        cond = with(rt, alloc, cond, bits(8), differ(0, other), true);
     }
-    Ok(cond)
+    cond
 }
 
 /// Whether the set's ranges are these.

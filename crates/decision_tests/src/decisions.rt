@@ -6,16 +6,17 @@ mod small;
 
 use crate::build::Atom::*;
 use crate::build::Side::*;
-use crate::build::{Atom, bits, condition, differ, free, one_against_all, thirteen_pairs, with};
+use crate::build::{
+    Atom, bits, condition, differ, free, let_go, one_against_all, thirteen_pairs, with,
+};
 use Wanted::{Cases, Coupled, Met, Outside, Refuted};
 use interval_solver::Domains;
 use path_cond::PathCond;
 use path_solver::{Decided, decide};
-use refutation_check::{Cause, check};
+use refutation_check::{Cause, Refutation, check};
 use sn_width::{NoMemory, Num, Rel};
 use std::alloc::Global;
 use std::process::Abort;
-use std::test::Fail;
 
 /// What a decision is to be.
 #[derive(Clone, Copy)]
@@ -35,6 +36,16 @@ pub(crate) enum Wanted<'a> {
 fn decided(alloc: Global, cond: &PathCond) -> Result<Decided, NoMemory> {
     let domains = Domains::of(alloc, cond)?;
     decide(alloc, cond, &domains)
+}
+
+/// Whether the steps are accepted.
+pub(crate) fn is_accepted(
+    rt: &impl Abort,
+    alloc: Global,
+    refutation: &Refutation,
+    cond: &PathCond,
+) -> bool {
+    check(alloc, refutation, cond).expect(rt, "memory")
 }
 
 fn is_cause(cause: &Cause, wanted: Wanted<'_>) -> bool {
@@ -62,18 +73,27 @@ fn is_refuted(wanted: Wanted<'_>) -> bool {
     }
 }
 
-/// Whether the condition is decided so.
-fn is_decided(alloc: Global, cond: &PathCond, wanted: Wanted<'_>) -> Result<bool, NoMemory> {
-    match decided(alloc, cond)? {
-        Decided::Sat { values } => Ok(is_met(values.as_slice(), wanted)),
+/// Whether this is the decision, and where it is a refutation, whether its steps are accepted.
+fn is_wanted(
+    rt: &impl Abort,
+    alloc: Global,
+    cond: &PathCond,
+    found: &Decided,
+    wanted: Wanted<'_>,
+) -> bool {
+    match found {
+        Decided::Sat { values } => is_met(values.as_slice(), wanted),
         Decided::Unsat { refutation } => {
-            if !is_refuted(wanted) {
-                return Ok(false);
-            }
-            check(alloc, &refutation, cond)
+            is_refuted(wanted) && is_accepted(rt, alloc, refutation, cond)
         }
-        Decided::Undecided { cause } => Ok(is_cause(&cause, wanted)),
+        Decided::Undecided { cause } => is_cause(cause, wanted),
     }
+}
+
+/// Whether the condition is decided so.
+fn is_decided(rt: &impl Abort, alloc: Global, cond: &PathCond, wanted: Wanted<'_>) -> bool {
+    let found = decided(alloc, cond).expect(rt, "memory");
+    is_wanted(rt, alloc, cond, &found, wanted)
 }
 
 /// A condition over symbols of a width, and what is decided of it.
@@ -188,96 +208,90 @@ const OUTSIDE: &[Row] = &[
     },
 ];
 
-/// Asserts the decision of a condition, which ends here: so it is dropped in no test.
-pub(crate) fn check_decision<R: Abort + AllocGlobal>(
-    rt: &R,
-    cond: PathCond,
-    wanted: Wanted<'_>,
-) -> Result<(), Fail> {
-    let is_right = is_decided(rt.alloc(), &cond, wanted)?;
-    assert!(rt; is_right);
-    Ok(())
+/// Asserts the decision of a condition, which ends here.
+pub(crate) fn check_decision(rt: &impl Abort, alloc: Global, cond: PathCond, wanted: Wanted<'_>) {
+    assert!(rt; is_decided(rt, alloc, &cond, wanted));
+    let_go(cond);
 }
 
-fn check_row<R: Abort + AllocGlobal>(rt: &R, row: &Row) -> Result<(), Fail> {
+fn check_row(rt: &impl Abort, alloc: Global, row: &Row) {
     assert!(rt; 1 <= row.bits && row.bits <= 128);
-    let cond = condition(rt.alloc(), bits(row.bits), row.symbols, row.atoms)?;
-    check_decision(rt, cond, row.decision)
+    let cond = condition(rt, alloc, bits(row.bits), row.symbols, row.atoms);
+    check_decision(rt, alloc, cond, row.decision);
 }
 
-fn check_rows<R: Abort + AllocGlobal>(rt: &R, rows: &[Row]) -> Result<(), Fail> {
+fn check_rows(rt: &impl Abort, alloc: Global, rows: &[Row]) {
     for row in rows {
-        check_row(rt, row)?;
+        check_row(rt, alloc, row);
     }
-    Ok(())
 }
 
 #[test]
-fn orders_are_met_or_refuted(rt: HostRuntime) -> Result<(), Fail> {
-    check_rows(&rt, ORDERS)
+fn orders_are_met_or_refuted(rt: HostRuntime) {
+    check_rows(&rt, rt.alloc(), ORDERS);
 }
 
 #[test]
-fn sums_of_two_and_wide_pairs_are_outside(rt: HostRuntime) -> Result<(), Fail> {
-    check_rows(&rt, OUTSIDE)
+fn sums_of_two_and_wide_pairs_are_outside(rt: HostRuntime) {
+    check_rows(&rt, rt.alloc(), OUTSIDE);
 }
 
 #[test]
-fn too_many_choices(rt: HostRuntime) -> Result<(), Fail> {
-    let pairs = thirteen_pairs(rt.alloc())?;
-    check_decision(&rt, pairs, Cases(8192))
+fn too_many_choices(rt: HostRuntime) {
+    let pairs = thirteen_pairs(&rt, rt.alloc());
+    check_decision(&rt, rt.alloc(), pairs, Cases(8192));
 }
 
 #[test]
-fn too_many_coupled_symbols(rt: HostRuntime) -> Result<(), Fail> {
-    let star = one_against_all(rt.alloc())?;
-    check_decision(&rt, star, Coupled(65))
+fn too_many_coupled_symbols(rt: HostRuntime) {
+    let star = one_against_all(&rt, rt.alloc());
+    check_decision(&rt, rt.alloc(), star, Coupled(65));
 }
 
-fn with_next(alloc: Global, cond: &PathCond, step: u64, symbols: u64) -> Result<PathCond, Fail>
+fn with_next(rt: &impl Abort, alloc: Global, cond: PathCond, step: u64, symbols: u64) -> PathCond
     requires { 0 < symbols }
 {
     let atom = differ(step % symbols, step.wrapping_add(1) % symbols);
-    with(alloc, cond, bits(8), atom, true)
+    with(rt, alloc, cond, bits(8), atom, true)
 }
 
 /// Twelve formulas that two of so many symbols of 8 bits are unequal, the first of them in a circle.
-fn circles(alloc: Global, symbols: u64) -> Result<PathCond, Fail>
+fn circles(rt: &impl Abort, alloc: Global, symbols: u64) -> PathCond
     requires { 0 < symbols }
 {
-    let mut cond = free(alloc, bits(8), symbols as usize)?;
+    let mut cond = free(rt, alloc, bits(8), symbols as usize);
     for step in 0..12u64 {
-        cond = with_next(alloc, &cond, step, symbols)?;
+        cond = with_next(rt, alloc, cond, step, symbols);
     }
-    Ok(cond)
+    cond
 }
 
-fn with_bit(alloc: Global, cond: &PathCond, id: u64) -> Result<PathCond, Fail> {
+fn with_bit(rt: &impl Abort, alloc: Global, cond: PathCond, id: u64) -> PathCond {
     let low = Compare(Symbol(id), Rel::Le, Number(1));
-    with(alloc, cond, bits(8), low, true)
+    with(rt, alloc, cond, bits(8), low, true)
 }
 
 /// The same, with each symbol at most 1.
-fn circles_of_bits(alloc: Global, symbols: u64) -> Result<PathCond, Fail>
+fn circles_of_bits(rt: &impl Abort, alloc: Global, symbols: u64) -> PathCond
     requires { 0 < symbols }
 {
-    let mut cond = circles(alloc, symbols)?;
+    let mut cond = circles(rt, alloc, symbols);
     for id in 0..symbols {
-        cond = with_bit(alloc, &cond, id)?;
+        cond = with_bit(rt, alloc, cond, id);
     }
-    Ok(cond)
+    cond
 }
 
 const ALTERNATING: Wanted<'static> = Met(&[0, 1, 0, 1, 0, 1, 0, 1, 0, 1]);
 
 #[test]
-fn choices_over_ten_symbols_by_the_thousand(rt: HostRuntime) -> Result<(), Fail> {
-    let ten = circles(rt.alloc(), 10)?;
-    check_decision(&rt, ten, ALTERNATING)
+fn choices_over_ten_symbols_by_the_thousand(rt: HostRuntime) {
+    let ten = circles(&rt, rt.alloc(), 10);
+    check_decision(&rt, rt.alloc(), ten, ALTERNATING);
 }
 
 #[test]
-fn choices_over_nine_bits_are_refuted(rt: HostRuntime) -> Result<(), Fail> {
-    let nine = circles_of_bits(rt.alloc(), 9)?;
-    check_decision(&rt, nine, Refuted)
+fn choices_over_nine_bits_are_refuted(rt: HostRuntime) {
+    let nine = circles_of_bits(&rt, rt.alloc(), 9);
+    check_decision(&rt, rt.alloc(), nine, Refuted);
 }

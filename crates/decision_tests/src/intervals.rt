@@ -15,7 +15,6 @@ use sn_width::{NoMemory, Num, Rel, SymId, Width};
 use std::alloc::Global;
 use std::marker::Model;
 use std::process::Abort;
-use std::test::Fail;
 
 /// A condition with its domains.
 #[derive(Drop)]
@@ -55,6 +54,9 @@ fn extended(
     })
 }
 
+/// Drops the condition and its domains, which is proved once here and not in each caller.
+fn let_go(_kept: Kept) {}
+
 /// What a simple decision is to be.
 enum Wanted {
     Values(&'static [Num]),
@@ -69,9 +71,9 @@ impl Kept {
     }
 
     /// With an atom, which must have this truth.
-    fn with(&self, alloc: Global, width: Width, atom: Atom, holds: bool) -> Result<Kept, Fail> {
-        let formula = formula_of(alloc, &self.cond, width, atom)?;
-        Ok(extended(alloc, &self.cond, &self.domains, formula, holds)?)
+    fn with(&self, rt: &impl Abort, alloc: Global, width: Width, atom: Atom, holds: bool) -> Kept {
+        let formula = formula_of(rt, alloc, &self.cond, width, atom);
+        extended(alloc, &self.cond, &self.domains, formula, holds).expect(rt, "memory")
     }
 
     /// Whether this is the decision.
@@ -79,6 +81,13 @@ impl Kept {
         let verdict = decide_simple(alloc, &self.cond, &self.domains)?;
         Ok(is_wanted(&verdict, wanted))
     }
+}
+
+/// With an atom, of a condition that ends here.
+fn next(rt: &impl Abort, alloc: Global, kept: Kept, width: Width, atom: Atom, holds: bool) -> Kept {
+    let next = kept.with(rt, alloc, width, atom, holds);
+    let_go(kept);
+    next
 }
 
 fn is_wanted(verdict: &SimpleVerdict, wanted: &Wanted) -> bool {
@@ -189,84 +198,78 @@ fn leaves(domains: &Domains, id: u64, ranges: &[(Num, Num)]) -> bool {
     }
 }
 
-fn fresh(alloc: Global, width: Width, symbols: usize) -> Result<Kept, Fail> {
-    let cond = free(alloc, width, symbols)?;
-    Ok(Kept::new(alloc, cond)?)
+fn fresh(rt: &impl Abort, alloc: Global, width: Width, symbols: usize) -> Kept {
+    let cond = free(rt, alloc, width, symbols);
+    Kept::new(alloc, cond).expect(rt, "memory")
 }
 
 /// Symbols of this width, and the atoms, whose domains are met one by one.
 fn met_one_by_one(
+    rt: &impl Abort,
     alloc: Global,
     width: Width,
     symbols: usize,
     atoms: &[(Atom, bool)],
-) -> Result<Kept, Fail> {
-    let mut kept = fresh(alloc, width, symbols)?;
+) -> Kept {
+    let mut kept = fresh(rt, alloc, width, symbols);
     for (atom, holds) in atoms {
-        kept = kept.with(alloc, width, *atom, *holds)?;
+        kept = next(rt, alloc, kept, width, *atom, *holds);
     }
-    Ok(kept)
+    kept
 }
 
-fn check_domains<R: Abort>(rt: &R, domains: &Domains, wanted: &[&[(Num, Num)]]) {
+fn check_domains(rt: &impl Abort, domains: &Domains, wanted: &[&[(Num, Num)]]) {
     for (id, ranges) in wanted.iter().enumerate() {
         assert!(rt; leaves(domains, id as u64, ranges));
     }
 }
 
-fn check_decision<R: Abort + AllocGlobal>(
-    rt: &R,
-    kept: &Kept,
-    wanted: &Wanted,
-) -> Result<(), Fail> {
-    let is_right = kept.is_decided(rt.alloc(), wanted)?;
-    assert!(rt; is_right);
-    Ok(())
+fn check_decision(rt: &impl Abort, alloc: Global, kept: &Kept, wanted: &Wanted) {
+    assert!(rt; kept.is_decided(alloc, wanted).expect(rt, "memory"));
 }
 
-fn check_row<R: Abort + AllocGlobal>(rt: &R, row: &Row) -> Result<(), Fail> {
+fn check_row(rt: &impl Abort, alloc: Global, row: &Row) {
     assert!(rt; 1 <= row.bits && row.bits <= 128);
-    let kept = met_one_by_one(rt.alloc(), bits(row.bits), row.symbols, row.atoms)?;
+    let kept = met_one_by_one(rt, alloc, bits(row.bits), row.symbols, row.atoms);
     check_domains(rt, &kept.domains, row.domains);
-    check_decision(rt, &kept, &row.decision)
+    check_decision(rt, alloc, &kept, &row.decision);
+    let_go(kept);
 }
 
 #[test]
-fn simple_formulas_are_decided(rt: HostRuntime) -> Result<(), Fail> {
+fn simple_formulas_are_decided(rt: HostRuntime) {
     for row in ROWS {
-        check_row(&rt, row)?;
+        check_row(&rt, rt.alloc(), row);
     }
-    Ok(())
 }
 
 /// The domains of `x < 5`, at 8 bits, and of a symbol of 16 bits.
 const WIDER: &[&[(Num, Num)]] = &[&[(0, 4)], &[(0, 65535)]];
 
 /// Asserts the domains with a symbol more.
-fn check_wider<R: Abort + AllocGlobal>(rt: &R, domains: &Domains) -> Result<(), Fail> {
-    let wider = domains.with_symbol(rt.alloc(), bits(16))?;
+fn check_wider(rt: &impl Abort, alloc: Global, domains: &Domains) {
+    let wider = domains.with_symbol(alloc, bits(16)).expect(rt, "memory");
     check_domains(rt, &wider, WIDER);
-    Ok(())
 }
 
 /// Asserts that there is one symbol, and that its domain is not empty.
-fn check_old<R: Abort>(rt: &R, domains: &Domains) {
+fn check_old(rt: &impl Abort, domains: &Domains) {
     assert!(rt; domains.get(SymId(1)).is_none());
     assert!(rt; domains.first_empty().is_none());
 }
 
 /// Asserts that a symbol more leaves a fork of these domains of one symbol as it was.
-fn check_fork<R: Abort + AllocGlobal>(rt: &R, domains: &Domains) -> Result<(), Fail> {
-    let fork = domains.fork()?;
-    check_wider(rt, &fork)?;
+fn check_fork(rt: &impl Abort, alloc: Global, domains: &Domains) {
+    let fork = domains.fork().expect(rt, "a copy");
+    check_wider(rt, alloc, &fork);
     check_old(rt, &fork);
-    Ok(())
 }
 
 #[test]
-fn forks_and_new_symbols_leave_the_old_domains(rt: HostRuntime) -> Result<(), Fail> {
-    let kept = met_one_by_one(rt.alloc(), bits(8), 1, &[LOW])?;
-    check_fork(&rt, &kept.domains)
+fn forks_and_new_symbols_leave_the_old_domains(rt: HostRuntime) {
+    let kept = met_one_by_one(&rt, rt.alloc(), bits(8), 1, &[LOW]);
+    check_fork(&rt, rt.alloc(), &kept.domains);
+    let_go(kept);
 }
 
 #[test]
@@ -274,15 +277,20 @@ fn laws_are_there_to_cite() {
     laws::domains_are_unique();
 }
 
+/// With the formula that the symbol of the pick, of two, is at least its number.
+fn with_at_least(rt: &impl Abort, alloc: Global, kept: Kept, pick: u16) -> Kept {
+    let side = Symbol(u64::from(pick % 2));
+    let atom = Compare(side, Rel::Ge, Number(Num::from(pick)));
+    next(rt, alloc, kept, bits(16), atom, true)
+}
+
 /// Two symbols of 16 bits, with 2,000 formulas that are met one by one.
-fn large(alloc: Global) -> Result<Kept, Fail> {
-    let mut kept = met_one_by_one(alloc, bits(16), 2, &[])?;
+fn large(rt: &impl Abort, alloc: Global) -> Kept {
+    let mut kept = fresh(rt, alloc, bits(16), 2);
     for pick in 0..2000u16 {
-        let side = Symbol(u64::from(pick % 2));
-        let atom = Compare(side, Rel::Ge, Number(Num::from(pick)));
-        kept = kept.with(alloc, bits(16), atom, true)?;
+        kept = with_at_least(rt, alloc, kept, pick);
     }
-    Ok(kept)
+    kept
 }
 
 const LARGE: &[&[(Num, Num)]] = &[&[(1998, 65535)], &[(1999, 65535)]];
@@ -290,23 +298,15 @@ const LARGE: &[&[(Num, Num)]] = &[&[(1998, 65535)], &[(1999, 65535)]];
 const LEAST: &Wanted = &Wanted::Values(&[1998, 1999]);
 
 /// Asserts that the domains are found anew.
-fn check_anew<R: Abort + AllocGlobal>(
-    rt: &R,
-    cond: &PathCond,
-    domains: &[&[(Num, Num)]],
-) -> Result<(), Fail> {
-    let anew = Domains::of(rt.alloc(), cond)?;
-    check_domains(rt, &anew, domains);
-    Ok(())
-}
-
-fn check_large<R: Abort + AllocGlobal>(rt: &R, kept: &Kept) -> Result<(), Fail> {
-    check_decision(rt, kept, LEAST)?;
-    check_anew(rt, &kept.cond, LARGE)
+fn check_anew(rt: &impl Abort, alloc: Global, cond: &PathCond, wanted: &[&[(Num, Num)]]) {
+    let anew = Domains::of(alloc, cond).expect(rt, "memory");
+    check_domains(rt, &anew, wanted);
 }
 
 #[test]
-fn many_formulas_are_met_one_by_one(rt: HostRuntime) -> Result<(), Fail> {
-    let kept = large(rt.alloc())?;
-    check_large(&rt, &kept)
+fn many_formulas_are_met_one_by_one(rt: HostRuntime) {
+    let kept = large(&rt, rt.alloc());
+    check_decision(&rt, rt.alloc(), &kept, LEAST);
+    check_anew(&rt, rt.alloc(), &kept.cond, LARGE);
+    let_go(kept);
 }

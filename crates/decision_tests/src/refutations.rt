@@ -2,15 +2,15 @@
 
 use crate::build::Atom::*;
 use crate::build::Side::*;
-use crate::build::{Atom, bits, condition, free, one_against_all, thirteen_pairs, with};
+use crate::build::{Atom, bits, condition, free, let_go, one_against_all, thirteen_pairs, with};
+use crate::decisions::is_accepted;
 use Plain::{Cycle, Domain, Empty, Split};
 use Why::{Cases, Coupled, Outside};
 use path_cond::PathCond;
-use refutation_check::{Cause, Listed, Refutation, Refute, check, copy_of, lawful};
-use sn_width::{NoMemory, Num, Rel, SymId};
+use refutation_check::{Cause, Listed, Refutation, Refute, copy_of, lawful};
+use sn_width::{Num, Rel, SymId};
 use std::alloc::Global;
 use std::process::Abort;
-use std::test::Fail;
 
 /// A step of a refutation.
 #[derive(Clone, Copy)]
@@ -21,26 +21,34 @@ enum Plain<'a> {
     Domain(u64),
 }
 
-fn step_of(alloc: Global, plain: Plain<'_>) -> Result<Refute, NoMemory> {
-    Ok(match plain {
+fn listed(rt: &impl Abort, alloc: Global, numbers: &[u32]) -> Listed<u32> {
+    Listed::from_vec(Vec::from_slice(alloc, numbers).expect(rt, "memory"))
+}
+
+fn step_of(rt: &impl Abort, alloc: Global, plain: Plain<'_>) -> Refute {
+    match plain {
         Split(pick) => Refute::Split { pick },
         Cycle(numbers) => Refute::Cycle {
-            bounds: Listed::from_vec(Vec::from_slice(alloc, numbers)?),
+            bounds: listed(rt, alloc, numbers),
         },
         Empty(id, numbers) => Refute::Empty {
             symbol: SymId(id),
-            picks: Listed::from_vec(Vec::from_slice(alloc, numbers)?),
+            picks: listed(rt, alloc, numbers),
         },
         Domain(id) => Refute::Domain { symbol: SymId(id) },
-    })
+    }
 }
 
-fn refutation_of(alloc: Global, plain: &[Plain<'_>]) -> Result<Refutation, NoMemory> {
+fn push(rt: &impl Abort, steps: &mut Vec<Refute>, step: Refute) {
+    steps.push(step).expect(rt, "memory");
+}
+
+fn refutation_of(rt: &impl Abort, alloc: Global, plain: &[Plain<'_>]) -> Refutation {
     let mut steps = Vec::new(alloc);
     for step in plain {
-        steps.push(step_of(alloc, *step)?)?;
+        push(rt, &mut steps, step_of(rt, alloc, *step));
     }
-    Ok(Listed::from_vec(steps))
+    Listed::from_vec(steps)
 }
 
 /// A condition, and steps which are accepted or not.
@@ -117,37 +125,36 @@ const ROWS: &[Row] = &[
     },
 ];
 
+fn copied(rt: &impl Abort, alloc: Global, plain: &[Plain<'_>]) -> Refutation {
+    let refutation = refutation_of(rt, alloc, plain);
+    copy_of(alloc, &refutation).expect(rt, "memory")
+}
+
 /// Whether a copy of the steps is accepted.
-fn accepts(alloc: Global, cond: &PathCond, plain: &[Plain<'_>]) -> Result<bool, Fail> {
-    let refutation = refutation_of(alloc, plain)?;
-    let copy = copy_of(alloc, &refutation)?;
-    Ok(check(alloc, &copy, cond)?)
+fn accepts(rt: &impl Abort, alloc: Global, cond: &PathCond, plain: &[Plain<'_>]) -> bool {
+    let copy = copied(rt, alloc, plain);
+    is_accepted(rt, alloc, &copy, cond)
 }
 
-fn check_steps<R: Abort + AllocGlobal>(
-    rt: &R,
-    cond: &PathCond,
-    rows: &[(bool, &[Plain<'_>])],
-) -> Result<(), Fail> {
-    for (is_accepted, plain) in rows {
-        let accepts = accepts(rt.alloc(), cond, plain)?;
-        assert_eq!(rt; accepts, *is_accepted);
+fn check_steps(rt: &impl Abort, alloc: Global, cond: &PathCond, rows: &[(bool, &[Plain<'_>])]) {
+    for (row, (wanted, plain)) in rows.iter().enumerate() {
+        let accepts = accepts(rt, alloc, cond, plain);
+        assert!(rt; accepts == *wanted, "row {row}");
     }
-    Ok(())
 }
 
-fn check_row<R: Abort + AllocGlobal>(rt: &R, row: &Row) -> Result<(), Fail> {
+fn check_row(rt: &impl Abort, alloc: Global, row: &Row) {
     assert!(rt; 1 <= row.bits && row.bits <= 128);
-    let cond = condition(rt.alloc(), bits(row.bits), 2, row.atoms)?;
-    check_steps(rt, &cond, row.rows)
+    let cond = condition(rt, alloc, bits(row.bits), 2, row.atoms);
+    check_steps(rt, alloc, &cond, row.rows);
+    let_go(cond);
 }
 
 #[test]
-fn refutations_are_accepted_where_each_step_is_right(rt: HostRuntime) -> Result<(), Fail> {
+fn refutations_are_accepted_where_each_step_is_right(rt: HostRuntime) {
     for row in ROWS {
-        check_row(&rt, row)?;
+        check_row(&rt, rt.alloc(), row);
     }
-    Ok(())
 }
 
 /// A cause of leaving a condition undecided.
@@ -158,40 +165,36 @@ enum Why<'a> {
     Outside(u32, &'a [Num]),
 }
 
-fn cause_of(alloc: Global, why: Why<'_>) -> Result<Cause, NoMemory> {
-    Ok(match why {
+fn cause_of(rt: &impl Abort, alloc: Global, why: Why<'_>) -> Cause {
+    match why {
         Cases(count) => Cause::Cases { count },
         Coupled(count) => Cause::Coupled { count },
         Outside(pick, values) => Cause::Outside {
             pick,
-            values: Listed::from_vec(Vec::from_slice(alloc, values)?),
+            values: Listed::from_vec(Vec::from_slice(alloc, values).expect(rt, "memory")),
         },
-    })
+    }
 }
 
 /// A copy of the cause.
-fn copied(alloc: Global, why: Why<'_>) -> Result<Cause, NoMemory> {
-    let cause = cause_of(alloc, why)?;
-    cause.copy(alloc)
+fn copied_cause(rt: &impl Abort, alloc: Global, why: Why<'_>) -> Cause {
+    let cause = cause_of(rt, alloc, why);
+    cause.copy(alloc).expect(rt, "memory")
 }
 
 /// Whether the cause may be given.
-fn may_be_given(alloc: Global, cond: &PathCond, why: Why<'_>) -> Result<bool, NoMemory> {
-    let cause = copied(alloc, why)?;
-    lawful(alloc, &cause, cond)
+fn may_be_given(rt: &impl Abort, alloc: Global, cond: &PathCond, why: Why<'_>) -> bool {
+    let cause = copied_cause(rt, alloc, why);
+    lawful(alloc, &cause, cond).expect(rt, "memory")
 }
 
-/// Asserts which causes may be given.
-fn check_causes<R: Abort + AllocGlobal>(
-    rt: &R,
-    cond: &PathCond,
-    causes: &[(bool, Why<'_>)],
-) -> Result<(), Fail> {
-    for (is_lawful, why) in causes {
-        let found = may_be_given(rt.alloc(), cond, *why)?;
-        assert_eq!(rt; found, *is_lawful);
+/// Asserts which causes may be given, of a condition that ends here.
+fn check_causes(rt: &impl Abort, alloc: Global, cond: PathCond, causes: &[(bool, Why<'_>)]) {
+    for (row, (wanted, why)) in causes.iter().enumerate() {
+        let found = may_be_given(rt, alloc, &cond, *why);
+        assert!(rt; found == *wanted, "row {row}");
     }
-    Ok(())
+    let_go(cond);
 }
 
 const CHOICES: &[(bool, Why<'static>)] = &[
@@ -201,9 +204,9 @@ const CHOICES: &[(bool, Why<'static>)] = &[
 ];
 
 #[test]
-fn a_cause_is_the_number_of_choices(rt: HostRuntime) -> Result<(), Fail> {
-    let cond = thirteen_pairs(rt.alloc())?;
-    check_causes(&rt, &cond, CHOICES)
+fn a_cause_is_the_number_of_choices(rt: HostRuntime) {
+    let cond = thirteen_pairs(&rt, rt.alloc());
+    check_causes(&rt, rt.alloc(), cond, CHOICES);
 }
 
 const SYMBOLS: &[(bool, Why<'static>)] = &[
@@ -213,9 +216,9 @@ const SYMBOLS: &[(bool, Why<'static>)] = &[
 ];
 
 #[test]
-fn a_cause_is_the_number_of_coupled_symbols(rt: HostRuntime) -> Result<(), Fail> {
-    let cond = one_against_all(rt.alloc())?;
-    check_causes(&rt, &cond, SYMBOLS)
+fn a_cause_is_the_number_of_coupled_symbols(rt: HostRuntime) {
+    let cond = one_against_all(&rt, rt.alloc());
+    check_causes(&rt, rt.alloc(), cond, SYMBOLS);
 }
 
 /// Two symbols of 128 bits are equal, which is outside, and the first is more than 3.
@@ -233,58 +236,50 @@ const BREAKS: &[(bool, Why<'static>)] = &[
 ];
 
 #[test]
-fn values_break_an_outside_formula(rt: HostRuntime) -> Result<(), Fail> {
-    let cond = condition(rt.alloc(), bits(128), 2, WIDE_PAIR)?;
-    check_causes(&rt, &cond, BREAKS)
+fn values_break_an_outside_formula(rt: HostRuntime) {
+    let cond = condition(&rt, rt.alloc(), bits(128), 2, WIDE_PAIR);
+    check_causes(&rt, rt.alloc(), cond, BREAKS);
 }
 
-fn with_atom(alloc: Global, cond: &PathCond, atom: Atom) -> Result<PathCond, Fail> {
-    with(alloc, cond, bits(32), atom, true)
+fn with_atom(rt: &impl Abort, alloc: Global, cond: PathCond, atom: Atom) -> PathCond {
+    with(rt, alloc, cond, bits(32), atom, true)
 }
 
 /// So many times `s < d`.
-fn often_less(alloc: Global, count: u32) -> Result<PathCond, Fail> {
-    let mut cond = free(alloc, bits(32), 2)?;
+fn often_less(rt: &impl Abort, alloc: Global, count: u32) -> PathCond {
+    let mut cond = free(rt, alloc, bits(32), 2);
     for _ in 0..count {
-        cond = with_atom(alloc, &cond, LESS)?;
+        cond = with_atom(rt, alloc, cond, LESS);
     }
-    Ok(cond)
+    cond
 }
 
 /// So many times `s < d`, then `d < s`.
-fn long_circle(alloc: Global, count: u32) -> Result<PathCond, Fail> {
-    let cond = often_less(alloc, count)?;
-    with_atom(alloc, &cond, GREATER)
+fn long_circle(rt: &impl Abort, alloc: Global, count: u32) -> PathCond {
+    let cond = often_less(rt, alloc, count);
+    with_atom(rt, alloc, cond, GREATER)
 }
 
-/// A split of each formula up to this pick.
-fn splits(alloc: Global, last: u32) -> Result<Vec<Refute>, NoMemory> {
+/// A split of each formula up to this pick, and a cycle of the first bound and the last.
+fn long_refutation(rt: &impl Abort, alloc: Global, last: u32) -> Refutation {
     let mut steps = Vec::new(alloc);
     for pick in 0..last {
-        steps.push(Refute::Split { pick })?;
+        push(rt, &mut steps, Refute::Split { pick });
     }
-    steps.push(Refute::Split { pick: last })?;
-    Ok(steps)
+    push(rt, &mut steps, Refute::Split { pick: last });
+    push(rt, &mut steps, step_of(rt, alloc, Cycle(&[0, last])));
+    Listed::from_vec(steps)
 }
 
-/// These splits, and a cycle of the first bound and the last.
-fn long_refutation(alloc: Global, last: u32) -> Result<Refutation, NoMemory> {
-    let cycle = step_of(alloc, Cycle(&[0, last]))?;
-    let mut steps = splits(alloc, last)?;
-    steps.push(cycle)?;
-    Ok(Listed::from_vec(steps))
-}
-
-/// Whether such a refutation is accepted.
-fn accepts_long(alloc: Global, cond: &PathCond, last: u32) -> Result<bool, NoMemory> {
-    let refutation = long_refutation(alloc, last)?;
-    check(alloc, &refutation, cond)
+/// Asserts that such a refutation is accepted.
+fn check_long(rt: &impl Abort, alloc: Global, cond: &PathCond, last: u32) {
+    let refutation = long_refutation(rt, alloc, last);
+    assert!(rt; is_accepted(rt, alloc, &refutation, cond));
 }
 
 #[test]
-fn a_long_refutation_is_checked_fast(rt: HostRuntime) -> Result<(), Fail> {
-    let cond = long_circle(rt.alloc(), 20_000)?;
-    let is_accepted = accepts_long(rt.alloc(), &cond, 20_000)?;
-    assert!(rt; is_accepted);
-    Ok(())
+fn a_long_refutation_is_checked_fast(rt: HostRuntime) {
+    let cond = long_circle(&rt, rt.alloc(), 20_000);
+    check_long(&rt, rt.alloc(), &cond, 20_000);
+    let_go(cond);
 }

@@ -4,7 +4,8 @@ ghost use Rattle.std.specs.Prelude.{◌≡◌, ℕ, ◌+◌, ◌^◌, ◌<◌, �
 ghost use Rattle.difference_solver.specs.Bound.{IsInRange};
 
 use difference_solver::Bound;
-use std::alloc::{AllocError, Global};
+use std::alloc::Global;
+use std::process::Abort;
 
 /// The most that a bound's number may be.
 pub(crate) const LARGEST: i128 = 1 << 66;
@@ -21,12 +22,16 @@ pub(crate) fn at_most(row: Row) -> Bound {
     }
 }
 
-pub(crate) fn bounds_of(alloc: Global, rows: &[Row]) -> Result<Vec<Bound>, AllocError> {
+pub(crate) fn push(rt: &impl Abort, bounds: &mut Vec<Bound>, row: Row) {
+    bounds.push(at_most(row)).expect(rt, "memory");
+}
+
+pub(crate) fn bounds_of(rt: &impl Abort, alloc: Global, rows: &[Row]) -> Vec<Bound> {
     let mut bounds = Vec::new(alloc);
     for row in rows {
-        bounds.push(at_most(*row))?;
+        push(rt, &mut bounds, *row);
     }
-    Ok(bounds)
+    bounds
 }
 
 fn is_in_range(bound: &Bound, count: u32) -> bool
@@ -47,4 +52,9 @@ pub(crate) fn are_in_range(bounds: &[Bound], count: u32) -> bool
         }
     }
     true
+}
+
+/// Asserts that the integers are these.
+pub(crate) fn same(rt: &impl Abort, found: &[i128], wanted: &[i128]) {
+    assert_eq!(rt; found, wanted);
 }

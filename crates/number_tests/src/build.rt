@@ -1,13 +1,13 @@
 //! What the tests build of plain rows: widths, terms and formulas; and what a set is compared with.
 
-ghost use Rattle.std.specs.Prelude.{◌≡◌, ◌≤◌, IfOk};
+ghost use Rattle.std.specs.Prelude.{◌≡◌, ◌≤◌};
 
 use lin_term::Term;
 use path_formula::Formula;
 use sn_ranges::Ranges;
-use sn_width::{NoMemory, Num, Rel, SymId, Width};
+use sn_width::{Num, Rel, SymId, Width};
 use std::alloc::Global;
-use std::test::Fail;
+use std::process::Abort;
 
 /// A side of a comparison, or of a sum or a difference.
 #[derive(Clone, Copy)]
@@ -44,60 +44,78 @@ pub(crate) fn bits(count: u8) -> Width
 
 /// The number, or the width's greatest value where that is less.
 #[tactic(auto, using(std::proofs::lemmas::Nat::pow_pos))]
-fn number(alloc: Global, width: Width, value: Num) -> Result<Term, NoMemory>
-    ensures { IfOk result (λ term. term.width ≡ width) }
+fn number(rt: &impl Abort, alloc: Global, width: Width, value: Num) -> Term
+    ensures { result.width ≡ width }
 {
-    Term::of_const(alloc, width, value.min(width.max()))
+    Term::of_const(alloc, width, value.min(width.max())).expect(rt, "memory")
+}
+
+fn symbol(rt: &impl Abort, alloc: Global, width: Width, id: u64) -> Term
+    ensures { result.width ≡ width }
+{
+    Term::of_symbol(alloc, width, SymId(id)).expect(rt, "memory")
 }
 
 /// The symbol plus a term.
-fn plus(alloc: Global, width: Width, id: u64, other: &Term) -> Result<Term, NoMemory>
-    requires { other.now.width ≡ width }
-    ensures { IfOk result (λ term. term.width ≡ width) }
+fn plus(rt: &impl Abort, alloc: Global, width: Width, id: u64, other: Term) -> Term
+    requires { other.width ≡ width }
+    ensures { result.width ≡ width }
 {
-    let symbol = Term::of_symbol(alloc, width, SymId(id))?;
-    symbol.plus(alloc, other)
+    let symbol = symbol(rt, alloc, width, id);
+    symbol.plus(alloc, &other).expect(rt, "memory")
 }
 
 /// The term of a side.
-pub(crate) fn term(alloc: Global, width: Width, side: Side) -> Result<Term, NoMemory>
-    ensures { IfOk result (λ term. term.width ≡ width) }
+pub(crate) fn term(rt: &impl Abort, alloc: Global, width: Width, side: Side) -> Term
+    ensures { result.width ≡ width }
 {
     match side {
-        Side::Number(value) => number(alloc, width, value),
-        Side::Symbol(id) => Term::of_symbol(alloc, width, SymId(id)),
+        Side::Number(value) => number(rt, alloc, width, value),
+        Side::Symbol(id) => symbol(rt, alloc, width, id),
         Side::Plus(id, value) => {
-            let other = number(alloc, width, value)?;
-            plus(alloc, width, id, &other)
+            let other = number(rt, alloc, width, value);
+            plus(rt, alloc, width, id, other)
         }
         Side::Both(first, second) => {
-            let other = Term::of_symbol(alloc, width, SymId(second))?;
-            plus(alloc, width, first, &other)
+            let other = symbol(rt, alloc, width, second);
+            plus(rt, alloc, width, first, other)
         }
     }
+}
+
+/// The side lies between two numbers, or is one of them.
+fn within(rt: &impl Abort, alloc: Global, width: Width, side: Side, ends: (Num, Num)) -> Formula {
+    let ranges = Ranges::from_list(alloc, width, &[ends]).expect(rt, "ranges");
+    let value = term(rt, alloc, width, side);
+    Formula::member(alloc, value, ranges).expect(rt, "memory")
 }
 
 /// The formula of an atom.
-pub(crate) fn formula(alloc: Global, width: Width, atom: Atom) -> Result<Formula, Fail> {
+pub(crate) fn formula(rt: &impl Abort, alloc: Global, width: Width, atom: Atom) -> Formula {
     match atom {
         Atom::Compare(left, rel, right) => {
-            let left = term(alloc, width, left)?;
-            let right = term(alloc, width, right)?;
-            Ok(Formula::Compare { rel, left, right })
+            let left = term(rt, alloc, width, left);
+            let right = term(rt, alloc, width, right);
+            Formula::Compare { rel, left, right }
         }
-        Atom::Within(side, first, last) => {
-            let value = term(alloc, width, side)?;
-            let ranges = Ranges::from_list(alloc, width, &[(first, last)])?;
-            Ok(Formula::member(alloc, value, ranges)?)
-        }
+        Atom::Within(side, first, last) => within(rt, alloc, width, side, (first, last)),
     }
 }
 
+/// Drops the formula, which is proved once here and not in each caller.
+pub(crate) fn let_go(_formula: Formula) {}
+
 /// Whether the set's ranges are these.
 pub(crate) fn shows(set: &Ranges, ranges: &[(Num, Num)]) -> bool {
+    for (index, range) in ranges.iter().enumerate() {
+        if set.range(index) != Some(*range) {
+            return false;
+        }
+    }
     set.len() == ranges.len()
-        && ranges
-            .iter()
-            .enumerate()
-            .all(|(index, range)| set.range(index) == Some(*range))
+}
+
+/// Asserts that the numbers are the same.
+pub(crate) fn same(rt: &impl Abort, found: Num, wanted: Num) {
+    assert_eq!(rt; found, wanted);
 }

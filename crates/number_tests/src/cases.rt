@@ -2,14 +2,13 @@
 
 use crate::build::Atom::*;
 use crate::build::Side::*;
-use crate::build::{Atom, RELS, bits, formula};
+use crate::build::{Atom, RELS, bits, formula, let_go};
 use Plain::{Less, Lower, Upper};
 use path_cases::{SymBound, can_split, case_count_of, cases, laws};
 use path_formula::Formula;
-use sn_width::{NoMemory, Num, Rel, SymId};
+use sn_width::{Num, Rel, SymId};
 use std::alloc::Global;
 use std::process::Abort;
-use std::test::Fail;
 
 /// A bound on a symbol, on the opposite of one, or on symbol 0 less symbol 1.
 enum Plain {
@@ -48,24 +47,23 @@ fn are_cases(found: &Cases, plain: &[&[Plain]]) -> bool {
     found.len() == plain.len()
 }
 
-/// The cases of a formula, of which the count says how many there are.
-fn found<R: Abort + AllocGlobal>(
-    rt: &R,
-    formula: &Formula,
-    holds: bool,
-) -> Result<Cases, NoMemory> {
+fn count(rt: &impl Abort, alloc: Global, formula: &Formula, holds: bool) -> u64 {
     assert!(rt; can_split(formula));
-    let found = cases(rt.alloc(), formula, holds)?;
-    assert_eq!(rt;
-        case_count_of(rt.alloc(), formula, holds)?,
-        found.len() as u64
-    );
-    Ok(found)
+    case_count_of(alloc, formula, holds).expect(rt, "memory")
 }
 
-fn count<R: Abort + AllocGlobal>(rt: &R, formula: &Formula, holds: bool) -> Result<u64, NoMemory> {
+/// Asserts the number of cases of a formula.
+fn check_number(rt: &impl Abort, alloc: Global, formula: &Formula, holds: bool, wanted: u64) {
+    let count = count(rt, alloc, formula, holds);
+    assert_eq!(rt; count, wanted);
+}
+
+/// The cases of a formula, of which the count says how many there are.
+fn found(rt: &impl Abort, alloc: Global, formula: &Formula, holds: bool) -> Cases {
     assert!(rt; can_split(formula));
-    case_count_of(rt.alloc(), formula, holds)
+    let found = cases(alloc, formula, holds).expect(rt, "memory");
+    check_number(rt, alloc, formula, holds, found.len() as u64);
+    found
 }
 
 /// Atoms, and the cases in which each is true.
@@ -91,68 +89,73 @@ const TRUE: &[(Atom, &[&[Plain]])] = &[
 ];
 
 /// Asserts the cases in which the formula is true.
-fn check<R: Abort + AllocGlobal>(
-    rt: &R,
-    formula: &Formula,
-    wanted: &[&[Plain]],
-) -> Result<(), Fail> {
-    let found = found(rt, formula, true)?;
+fn check(rt: &impl Abort, alloc: Global, formula: &Formula, wanted: &[&[Plain]]) {
+    let found = found(rt, alloc, formula, true);
     assert!(rt; are_cases(&found, wanted));
-    Ok(())
 }
 
-fn check_atom<R: Abort + AllocGlobal>(rt: &R, atom: Atom, wanted: &[&[Plain]]) -> Result<(), Fail> {
-    let formula = formula(rt.alloc(), bits(8), atom)?;
-    check(rt, &formula, wanted)
+fn check_atom(rt: &impl Abort, alloc: Global, atom: Atom, wanted: &[&[Plain]]) {
+    let formula = formula(rt, alloc, bits(8), atom);
+    check(rt, alloc, &formula, wanted);
+    let_go(formula);
 }
 
 #[test]
-fn atoms_have_a_case_for_each_range_and_choice_of_regions(rt: HostRuntime) -> Result<(), Fail> {
+fn atoms_have_a_case_for_each_range_and_choice_of_regions(rt: HostRuntime) {
     for (atom, wanted) in TRUE {
-        check_atom(&rt, *atom, wanted)?;
+        check_atom(&rt, rt.alloc(), *atom, wanted);
     }
-    Ok(())
 }
 
-/// Asserts the numbers of cases in which the formula is true, and in which it is false.
-fn check_lengths<R: Abort + AllocGlobal>(
-    rt: &R,
-    formula: &Formula,
-    lengths: (usize, usize),
-) -> Result<(), Fail> {
-    let met = found(rt, formula, true)?;
-    assert_eq!(rt; met.len(), lengths.0);
-    let unmet = found(rt, formula, false)?;
-    assert_eq!(rt; unmet.len(), lengths.1);
-    Ok(())
+/// Asserts the number of cases, as they are listed and as they are counted.
+fn check_length(rt: &impl Abort, alloc: Global, formula: &Formula, holds: bool, length: usize) {
+    let found = found(rt, alloc, formula, holds);
+    assert_eq!(rt; found.len(), length);
+}
+
+/// Asserts the numbers of cases in which the formula is true, and in which it is false; it ends here.
+fn check_lengths(rt: &impl Abort, alloc: Global, formula: Formula, lengths: (usize, usize)) {
+    check_length(rt, alloc, &formula, true, lengths.0);
+    check_length(rt, alloc, &formula, false, lengths.1);
+    let_go(formula);
 }
 
 #[test]
-fn pairs_that_differ_have_more_cases(rt: HostRuntime) -> Result<(), Fail> {
+fn pairs_that_differ_have_more_cases(rt: HostRuntime) {
     let differ = Compare(Plus(0, 1), Rel::Ne, Plus(1, 0));
-    let formula = formula(rt.alloc(), bits(8), differ)?;
-    check_lengths(&rt, &formula, (4, 2))
+    let formula = formula(&rt, rt.alloc(), bits(8), differ);
+    check_lengths(&rt, rt.alloc(), formula, (4, 2));
+}
+
+fn negated(rt: &impl Abort, alloc: Global, part: Formula) -> Formula {
+    Formula::Not(Box::new(alloc, part).expect(rt, "memory"))
 }
 
 #[test]
-fn constants_have_a_case_where_they_hold(rt: HostRuntime) -> Result<(), Fail> {
-    let not = Formula::Not(Box::new(rt.alloc(), Formula::Truth(true))?);
-    check_lengths(&rt, &not, (0, 1))
+fn constants_have_a_case_where_they_hold(rt: HostRuntime) {
+    let not = negated(&rt, rt.alloc(), Formula::Truth(true));
+    check_lengths(&rt, rt.alloc(), not, (0, 1));
+}
+
+fn push(rt: &impl Abort, parts: &mut Vec<Formula>, part: Formula) {
+    parts.push(part).expect(rt, "memory");
+}
+
+fn two(rt: &impl Abort, alloc: Global, first: Formula, second: Formula) -> Vec<Formula> {
+    vec![in alloc; first, second].expect(rt, "memory")
+}
+
+/// The symbol is less than the number.
+fn below(rt: &impl Abort, alloc: Global, id: u64, number: Num) -> Formula {
+    let less = Compare(Symbol(id), Rel::Lt, Number(number));
+    formula(rt, alloc, bits(8), less)
 }
 
 /// The symbol is less than the one number or the other.
-fn below_either(alloc: Global, id: u64, numbers: (Num, Num)) -> Result<Formula, Fail> {
-    let first = formula(
-        alloc,
-        bits(8),
-        Compare(Symbol(id), Rel::Lt, Number(numbers.0)),
-    )?;
-    let second = formula(
-        alloc,
-        bits(8),
-        Compare(Symbol(id), Rel::Lt, Number(numbers.1)),
-    )?;
-    Ok(Formula::Or(vec![in alloc; first, second]?))
+fn below_either(rt: &impl Abort, alloc: Global, id: u64, numbers: (Num, Num)) -> Formula {
+    let first = below(rt, alloc, id, numbers.0);
+    let second = below(rt, alloc, id, numbers.1);
+    Formula::Or(two(rt, alloc, first, second))
 }
 
 /// The cases of `x < 2` or `x < 3`, and `y < 4` or `y < 5`.
@@ -164,11 +167,12 @@ const CHOICES: &[&[Plain]] = &[
 ];
 
 #[test]
-fn choices_vary_the_last_member_fastest(rt: HostRuntime) -> Result<(), Fail> {
-    let x = below_either(rt.alloc(), 0, (2, 3))?;
-    let y = below_either(rt.alloc(), 1, (4, 5))?;
-    let both = Formula::And(vec![in rt.alloc(); x, y]?);
-    check(&rt, &both, CHOICES)
+fn choices_vary_the_last_member_fastest(rt: HostRuntime) {
+    let x = below_either(&rt, rt.alloc(), 0, (2, 3));
+    let y = below_either(&rt, rt.alloc(), 1, (4, 5));
+    let both = Formula::And(two(&rt, rt.alloc(), x, y));
+    check(&rt, rt.alloc(), &both, CHOICES);
+    let_go(both);
 }
 
 #[test]
@@ -177,18 +181,18 @@ fn laws_are_there_to_cite() {
 }
 
 /// Adds that two symbols differ.
-fn push_differ(alloc: Global, parts: &mut Vec<Formula>) -> Result<(), Fail> {
-    let part = formula(alloc, bits(8), Compare(Symbol(0), Rel::Ne, Symbol(1)))?;
-    Ok(parts.push(part)?)
+fn push_differ(rt: &impl Abort, alloc: Global, parts: &mut Vec<Formula>) {
+    let differ = Compare(Symbol(0), Rel::Ne, Symbol(1));
+    push(rt, parts, formula(rt, alloc, bits(8), differ));
 }
 
 /// So many times that two symbols differ.
-fn all_differ(alloc: Global, times: u32) -> Result<Formula, Fail> {
+fn all_differ(rt: &impl Abort, alloc: Global, times: u32) -> Formula {
     let mut parts = Vec::new(alloc);
     for _ in 0..times {
-        push_differ(alloc, &mut parts)?;
+        push_differ(rt, alloc, &mut parts);
     }
-    Ok(Formula::And(parts))
+    Formula::And(parts)
 }
 
 const COUNTS: &[(u32, bool, u64)] = &[
@@ -197,24 +201,17 @@ const COUNTS: &[(u32, bool, u64)] = &[
     (65, false, 65),
 ];
 
-fn check_count<R: Abort + AllocGlobal>(
-    rt: &R,
-    times: u32,
-    holds: bool,
-    wanted: u64,
-) -> Result<(), Fail> {
-    let formula = all_differ(rt.alloc(), times)?;
-    let count = count(rt, &formula, holds)?;
-    assert_eq!(rt; count, wanted);
-    Ok(())
+fn check_count(rt: &impl Abort, alloc: Global, times: u32, holds: bool, wanted: u64) {
+    let formula = all_differ(rt, alloc, times);
+    check_number(rt, alloc, &formula, holds, wanted);
+    let_go(formula);
 }
 
 #[test]
-fn counts_are_capped(rt: HostRuntime) -> Result<(), Fail> {
+fn counts_are_capped(rt: HostRuntime) {
     for (times, holds, wanted) in COUNTS {
-        check_count(&rt, *times, *holds, *wanted)?;
+        check_count(&rt, rt.alloc(), *times, *holds, *wanted);
     }
-    Ok(())
 }
 
 /// The value of a symbol, or 0.
@@ -257,32 +254,26 @@ fn are_right(found: &Cases, formula: &Formula, holds: bool) -> bool {
 }
 
 /// Asserts that the cases of the formula are right.
-fn check_cases<R: Abort + AllocGlobal>(
-    rt: &R,
-    formula: &Formula,
-    holds: bool,
-) -> Result<(), NoMemory> {
-    let found = found(rt, formula, holds)?;
+fn check_cases(rt: &impl Abort, alloc: Global, formula: &Formula, holds: bool) {
+    let found = found(rt, alloc, formula, holds);
     assert!(rt; are_right(&found, formula, holds));
-    Ok(())
 }
 
 /// Asserts that the cases of the atom are right, for both truths.
-fn check_relation<R: Abort + AllocGlobal>(rt: &R, atom: Atom) -> Result<(), Fail> {
-    let formula = formula(rt.alloc(), bits(2), atom)?;
-    check_cases(rt, &formula, true)?;
-    check_cases(rt, &formula, false)?;
-    Ok(())
+fn check_relation(rt: &impl Abort, alloc: Global, atom: Atom) {
+    let formula = formula(rt, alloc, bits(2), atom);
+    check_cases(rt, alloc, &formula, true);
+    check_cases(rt, alloc, &formula, false);
+    let_go(formula);
 }
 
 #[test]
-fn cases_are_met_where_the_formula_is_true(rt: HostRuntime) -> Result<(), Fail> {
+fn cases_are_met_where_the_formula_is_true(rt: HostRuntime) {
     for rel in RELS {
         for both in 0..16u8 {
             let left = Plus(0, Num::from(both / 4));
             let right = Plus(1, Num::from(both % 4));
-            check_relation(&rt, Compare(left, rel, right))?;
+            check_relation(&rt, rt.alloc(), Compare(left, rel, right));
         }
     }
-    Ok(())
 }

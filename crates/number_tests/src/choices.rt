@@ -9,9 +9,8 @@ use Plain::{OneOf, Within};
 use Seen::{Cycle, Split};
 use case_search::{Choice, Outcome, Step, find_least};
 use difference_solver::Bound;
-use std::alloc::{AllocError, Global};
+use std::alloc::Global;
 use std::process::Abort;
-use std::test::Fail;
 
 fn choice_is_in_range(choice: &Choice, count: u32) -> bool
     ensures { IsTrue result → All (All (IsInRange count)) (cases_of choice.now) }
@@ -35,7 +34,7 @@ fn are_in_range(choices: &[Choice], count: u32) -> bool
     true
 }
 
-fn has_below(case: &[Bound], unknown: u32) -> bool
+pub(crate) fn has_below(case: &[Bound], unknown: u32) -> bool
     ensures { IsTrue result → HasBelow unknown case.now }
 {
     for bound in case {
@@ -80,12 +79,12 @@ fn are_below(choices: &[Choice], count: u32) -> bool
     true
 }
 
-fn found<R: Abort + AllocGlobal>(rt: &R, choices: &[Choice], count: u32) -> Result<Outcome, Fail> {
+fn found(rt: &impl Abort, alloc: Global, choices: &[Choice], count: u32) -> Outcome {
     assert!(rt; count <= 64);
     assert!(rt; choices.len() < 1_000_000);
     assert!(rt; are_in_range(choices, count));
     assert!(rt; are_below(choices, count));
-    Ok(find_least(rt.alloc(), choices, count)?)
+    find_least(alloc, choices, count).expect(rt, "memory")
 }
 
 /// A choice of plain rows.
@@ -97,35 +96,58 @@ enum Plain<'a> {
     OneOf(&'a [bounds::Row]),
 }
 
-fn within(alloc: Global, unknown: u32, range: (i128, i128)) -> Result<Vec<Bound>, AllocError> {
+fn within(rt: &impl Abort, alloc: Global, unknown: u32, range: (i128, i128)) -> Vec<Bound> {
     let low = (0, unknown, 0i128.wrapping_sub(range.0));
-    bounds::bounds_of(alloc, &[low, (unknown, 0, range.1)])
+    bounds::bounds_of(rt, alloc, &[low, (unknown, 0, range.1)])
 }
 
-fn choice_of(alloc: Global, plain: Plain<'_>) -> Result<Choice, AllocError> {
+fn push_case(rt: &impl Abort, cases: &mut Vec<Vec<Bound>>, case: Vec<Bound>) {
+    cases.push(case).expect(rt, "memory");
+}
+
+fn cases_within(
+    rt: &impl Abort,
+    alloc: Global,
+    unknown: u32,
+    ranges: &[(i128, i128)],
+) -> Vec<Vec<Bound>> {
     let mut cases = Vec::new(alloc);
-    match plain {
-        Plain::Within(unknown, ranges) => {
-            for range in ranges {
-                cases.push(within(alloc, unknown, *range)?)?;
-            }
-        }
-        Plain::OneOf(rows) => {
-            for row in rows {
-                cases.push(bounds::bounds_of(alloc, &[*row])?)?;
-            }
-        }
+    for range in ranges {
+        push_case(rt, &mut cases, within(rt, alloc, unknown, *range));
     }
-    Ok(Choice { cases })
+    cases
 }
 
-fn choices_of(alloc: Global, all: &[Plain<'_>]) -> Result<Vec<Choice>, AllocError> {
+fn cases_of_rows(rt: &impl Abort, alloc: Global, rows: &[bounds::Row]) -> Vec<Vec<Bound>> {
+    let mut cases = Vec::new(alloc);
+    for row in rows {
+        push_case(rt, &mut cases, bounds::bounds_of(rt, alloc, &[*row]));
+    }
+    cases
+}
+
+fn choice_of(rt: &impl Abort, alloc: Global, plain: Plain<'_>) -> Choice {
+    let cases = match plain {
+        Plain::Within(unknown, ranges) => cases_within(rt, alloc, unknown, ranges),
+        Plain::OneOf(rows) => cases_of_rows(rt, alloc, rows),
+    };
+    Choice { cases }
+}
+
+fn push(rt: &impl Abort, choices: &mut Vec<Choice>, choice: Choice) {
+    choices.push(choice).expect(rt, "memory");
+}
+
+fn choices_of(rt: &impl Abort, alloc: Global, all: &[Plain<'_>]) -> Vec<Choice> {
     let mut choices = Vec::new(alloc);
     for plain in all {
-        choices.push(choice_of(alloc, *plain)?)?;
+        push(rt, &mut choices, choice_of(rt, alloc, *plain));
     }
-    Ok(choices)
+    choices
 }
+
+/// Drops the choices, which is proved once here and not in each caller.
+fn let_go(_choices: Vec<Choice>) {}
 
 /// A step of a refutation: a split of a choice, or a cycle of so many bounds.
 enum Seen {
@@ -157,18 +179,22 @@ struct Row {
     steps: &'static [Seen],
 }
 
-fn check_outcome<R: Abort>(rt: &R, outcome: &Outcome, row: &Row) {
+fn check_outcome(rt: &impl Abort, outcome: &Outcome, row: &Row) {
     match outcome {
-        Outcome::Least { values } => assert_eq!(rt; values.as_slice(), row.values),
+        Outcome::Least { values } => bounds::same(rt, values.as_slice(), row.values),
         Outcome::Refuted { steps } => assert!(rt; are_seen(steps.as_slice(), row.steps)),
     }
 }
 
-fn check<R: Abort + AllocGlobal>(rt: &R, row: &Row) -> Result<(), Fail> {
-    let choices = choices_of(rt.alloc(), row.choices)?;
-    let outcome = found(rt, choices.as_slice(), row.unknowns)?;
+fn check_found(rt: &impl Abort, alloc: Global, choices: &[Choice], row: &Row) {
+    let outcome = found(rt, alloc, choices, row.unknowns);
     check_outcome(rt, &outcome, row);
-    Ok(())
+}
+
+fn check(rt: &impl Abort, alloc: Global, row: &Row) {
+    let choices = choices_of(rt, alloc, row.choices);
+    check_found(rt, alloc, choices.as_slice(), row);
+    let_go(choices);
 }
 
 const LEAST: &[Row] = &[
@@ -264,135 +290,161 @@ const REFUTED: &[Row] = &[
 ];
 
 #[test]
-fn the_least_values_are_found(rt: HostRuntime) -> Result<(), Fail> {
+fn the_least_values_are_found(rt: HostRuntime) {
     for row in LEAST {
-        check(&rt, row)?;
+        check(&rt, rt.alloc(), row);
     }
-    Ok(())
 }
 
 #[test]
-fn choices_that_none_meets_are_refuted(rt: HostRuntime) -> Result<(), Fail> {
+fn choices_that_none_meets_are_refuted(rt: HostRuntime) {
     for row in REFUTED {
-        check(&rt, row)?;
+        check(&rt, rt.alloc(), row);
     }
-    Ok(())
 }
 
 /// So many unknowns from 0 to `last`.
-fn unknowns(alloc: Global, count: u32, last: i128) -> Result<Vec<Choice>, AllocError>
+fn unknowns(rt: &impl Abort, alloc: Global, count: u32, last: i128) -> Vec<Choice>
     requires { count < 100 }
 {
     let mut all = Vec::new(alloc);
     for unknown in 0..count {
-        all.push(choice_of(alloc, Within(unknown + 1, &[(0, last)]))?)?;
+        let ranges = [(0, last)];
+        push(
+            rt,
+            &mut all,
+            choice_of(rt, alloc, Within(unknown + 1, &ranges)),
+        );
     }
-    Ok(all)
+    all
 }
 
-/// The one is less than the other, or greater.
-fn differ(alloc: Global, left: u32, right: u32) -> Result<Choice, AllocError> {
-    choice_of(alloc, OneOf(&[(left, right, -1), (right, left, -1)]))
+/// Adds that the one is less than the other, or greater.
+fn push_differ(rt: &impl Abort, alloc: Global, choices: &mut Vec<Choice>, left: u32, right: u32) {
+    let rows = [(left, right, -1), (right, left, -1)];
+    push(rt, choices, choice_of(rt, alloc, OneOf(&rows)));
 }
 
 /// Ten unknowns from 0 to 9,999, and so many choices of which unknown is less than the next one.
-fn coupled(alloc: Global, choices: u32) -> Result<Vec<Choice>, AllocError> {
-    let mut all = unknowns(alloc, 10, 9999)?;
+fn coupled(rt: &impl Abort, alloc: Global, choices: u32) -> Vec<Choice> {
+    let mut all = unknowns(rt, alloc, 10, 9999);
     for step in 0..choices {
         let left = step % 10 + 1;
-        all.push(differ(alloc, left, left % 10 + 1)?)?;
+        push_differ(rt, alloc, &mut all, left, left % 10 + 1);
     }
-    Ok(all)
+    all
 }
 
-/// The number of steps that refute the choices, with one more.
-fn steps_with<R: Abort + AllocGlobal>(
-    rt: &R,
-    mut choices: Vec<Choice>,
-    more: Choice,
-    count: u32,
-) -> Result<usize, Fail> {
-    choices.push(more)?;
-    match found(rt, choices.as_slice(), count)? {
+fn steps_of(rt: &impl Abort, outcome: &Outcome) -> usize {
+    match outcome {
         Outcome::Least { values } => panic!(rt; "values: {values:?}"),
-        Outcome::Refuted { steps } => Ok(steps.len()),
+        Outcome::Refuted { steps } => steps.len(),
     }
 }
 
-fn least<R: Abort + AllocGlobal>(
-    rt: &R,
-    choices: &[Choice],
+/// The number of steps that refute the choices.
+fn steps_found(rt: &impl Abort, alloc: Global, choices: &[Choice], count: u32) -> usize {
+    let outcome = found(rt, alloc, choices, count);
+    steps_of(rt, &outcome)
+}
+
+/// The number of steps that refute the choices, with one more, which has this case.
+fn steps_with(
+    rt: &impl Abort,
+    alloc: Global,
+    mut choices: Vec<Choice>,
+    more: bounds::Row,
     count: u32,
-) -> Result<Vec<i128>, Fail> {
-    match found(rt, choices, count)? {
-        Outcome::Least { values } => Ok(values),
-        Outcome::Refuted { .. } => Err(Fail::from("refuted")),
+) -> usize {
+    push(rt, &mut choices, choice_of(rt, alloc, OneOf(&[more])));
+    let steps = steps_found(rt, alloc, choices.as_slice(), count);
+    let_go(choices);
+    steps
+}
+
+/// Asserts the number of these steps.
+fn check_steps(
+    rt: &impl Abort,
+    alloc: Global,
+    choices: Vec<Choice>,
+    more: bounds::Row,
+    count: u32,
+    wanted: usize,
+) {
+    let steps = steps_with(rt, alloc, choices, more, count);
+    assert_eq!(rt; steps, wanted);
+}
+
+fn least(rt: &impl Abort, alloc: Global, choices: &[Choice], count: u32) -> Vec<i128> {
+    match found(rt, alloc, choices, count) {
+        Outcome::Least { values } => values,
+        Outcome::Refuted { .. } => panic!(rt; "refuted"),
     }
+}
+
+/// Asserts the least values.
+fn check_least(rt: &impl Abort, alloc: Global, choices: &[Choice], count: u32, wanted: &[i128]) {
+    let values = least(rt, alloc, choices, count);
+    bounds::same(rt, values.as_slice(), wanted);
 }
 
 #[test]
-fn choices_by_the_thousand(rt: HostRuntime) -> Result<(), Fail> {
-    let choices = coupled(rt.alloc(), 12)?;
-    let values = least(&rt, choices.as_slice(), 10)?;
-    assert_eq!(rt;
-        values.as_slice(),
-        [0, 0, 1, 0, 1, 0, 1, 0, 1, 0, 1].as_slice()
-    );
-    let more = choice_of(rt.alloc(), OneOf(&[(0, 10, -10_000)]))?;
+fn choices_by_the_thousand(rt: HostRuntime) {
+    let choices = coupled(&rt, rt.alloc(), 12);
+    let values = [0, 0, 1, 0, 1, 0, 1, 0, 1, 0, 1];
+    check_least(&rt, rt.alloc(), choices.as_slice(), 10, &values);
     // the range of the last unknown and the choice more, around one cycle
-    let steps = steps_with(&rt, choices, more, 10)?;
-    assert_eq!(rt; steps, 3);
-    Ok(())
+    check_steps(&rt, rt.alloc(), choices, (0, 10, -10_000), 10, 3);
 }
 
 /// Adds that unknown 1 is at least the number.
-fn push_at_least(alloc: Global, choices: &mut Vec<Choice>, number: u32) -> Result<(), AllocError> {
+fn push_at_least(rt: &impl Abort, alloc: Global, choices: &mut Vec<Choice>, number: u32) {
     let row = (0, 1, 0i128.wrapping_sub(i128::from(number)));
-    let choice = choice_of(alloc, OneOf(&[row]))?;
-    push(choices, choice)
-}
-
-fn push(choices: &mut Vec<Choice>, choice: Choice) -> Result<(), AllocError> {
-    Ok(choices.push(choice)?)
+    push(rt, choices, choice_of(rt, alloc, OneOf(&[row])));
 }
 
 /// One unknown in one of two ranges, and 100,000 choices of one case.
-fn many(alloc: Global) -> Result<Vec<Choice>, AllocError> {
-    let mut choices = Vec::new(alloc);
-    let ranges = choice_of(alloc, Within(1, &[(0, 9), (11, 19)]))?;
-    push(&mut choices, ranges)?;
+fn many(rt: &impl Abort, alloc: Global) -> Vec<Choice> {
+    let mut choices = choices_of(rt, alloc, &[Within(1, &[(0, 9), (11, 19)])]);
     for step in 0..100_000u32 {
-        push_at_least(alloc, &mut choices, step % 13)?;
+        push_at_least(rt, alloc, &mut choices, step % 13);
     }
-    Ok(choices)
+    choices
 }
 
 #[test]
-fn many_choices_of_one_case(rt: HostRuntime) -> Result<(), Fail> {
-    let choices = many(rt.alloc())?;
-    let values = least(&rt, choices.as_slice(), 1)?;
-    assert_eq!(rt; values.as_slice(), [0, 12].as_slice());
-    Ok(())
+fn many_choices_of_one_case(rt: HostRuntime) {
+    let choices = many(&rt, rt.alloc());
+    check_least(&rt, rt.alloc(), choices.as_slice(), 1, &[0, 12]);
+    let_go(choices);
 }
 
 /// 64 unknowns from 0 to 9, of which each two in a row differ.
-fn pairs(alloc: Global) -> Result<Vec<Choice>, AllocError> {
-    let mut all = unknowns(alloc, 64, 9)?;
+fn pairs(rt: &impl Abort, alloc: Global) -> Vec<Choice> {
+    let mut all = unknowns(rt, alloc, 64, 9);
     for pair in 0..32 {
-        all.push(differ(alloc, 2 * pair + 1, 2 * pair + 2)?)?;
+        push_differ(rt, alloc, &mut all, 2 * pair + 1, 2 * pair + 2);
     }
-    Ok(all)
+    all
+}
+
+/// Asserts that the even unknowns are 1, but for the first, and the others 0.
+fn check_alternating(rt: &impl Abort, values: &[i128]) {
+    for (unknown, value) in values.iter().enumerate() {
+        assert_eq!(rt; *value, i128::from(unknown > 0 && unknown % 2 == 0));
+    }
+}
+
+fn check_pairs(rt: &impl Abort, alloc: Global, choices: &[Choice]) {
+    let values = least(rt, alloc, choices, 64);
+    check_alternating(rt, values.as_slice());
 }
 
 /// Together the pairs have 2^32 choices of cases.
 #[test]
-fn pairs_are_searched_apart(rt: HostRuntime) -> Result<(), Fail> {
-    let choices = pairs(rt.alloc())?;
-    for (unknown, value) in least(&rt, choices.as_slice(), 64)?.iter().enumerate() {
-        assert_eq!(rt; *value, i128::from(unknown > 0 && unknown % 2 == 0));
-    }
-    let more = choice_of(rt.alloc(), OneOf(&[(0, 64, -10)]))?;
-    let steps = steps_with(&rt, choices, more, 64)?;
+fn pairs_are_searched_apart(rt: HostRuntime) {
+    let choices = pairs(&rt, rt.alloc());
+    check_pairs(&rt, rt.alloc(), choices.as_slice());
+    let steps = steps_with(&rt, rt.alloc(), choices, (0, 64, -10), 64);
     assert!(rt; steps < 10);
-    Ok(())
 }

@@ -2,40 +2,30 @@
 
 ghost use Rattle.std.specs.Prelude.{◌+◌, ◌<◌};
 
-use crate::bounds::{LARGEST, Row, are_in_range, at_most, bounds_of};
+use crate::bounds::{LARGEST, Row, are_in_range, at_most, bounds_of, push, same};
+use crate::choices::has_below;
 use difference_solver::{Bound, DiffVerdict, solve};
-use std::alloc::{AllocError, Global};
+use std::alloc::Global;
 use std::process::Abort;
-use std::test::Fail;
 
-fn answer<R: Abort + AllocGlobal>(
-    rt: &R,
-    bounds: &[Bound],
-    count: u32,
-) -> Result<DiffVerdict, Fail> {
+fn answer(rt: &impl Abort, alloc: Global, bounds: &[Bound], count: u32) -> DiffVerdict {
     assert!(rt; count <= 64);
     assert!(rt; bounds.len() < 1000);
     assert!(rt; are_in_range(bounds, count));
-    Ok(solve(rt.alloc(), bounds, count)?)
+    solve(alloc, bounds, count).expect(rt, "memory")
 }
 
 /// Asserts the values or the cycle; the other of the two is empty.
-fn check_verdict<R: Abort>(rt: &R, verdict: &DiffVerdict, wanted: (&[i128], &[u32])) {
+fn check_verdict(rt: &impl Abort, verdict: &DiffVerdict, wanted: (&[i128], &[u32])) {
     match verdict {
-        DiffVerdict::Values { values } => assert_eq!(rt; values.as_slice(), wanted.0),
+        DiffVerdict::Values { values } => same(rt, values.as_slice(), wanted.0),
         DiffVerdict::Cycle { bounds } => assert_eq!(rt; bounds.as_slice(), wanted.1),
     }
 }
 
-fn check<R: Abort + AllocGlobal>(
-    rt: &R,
-    bounds: &[Bound],
-    count: u32,
-    wanted: (&[i128], &[u32]),
-) -> Result<(), Fail> {
-    let verdict = answer(rt, bounds, count)?;
+fn check(rt: &impl Abort, alloc: Global, bounds: &[Bound], count: u32, wanted: (&[i128], &[u32])) {
+    let verdict = answer(rt, alloc, bounds, count);
     check_verdict(rt, &verdict, wanted);
-    Ok(())
 }
 
 /// Whether the values are 0 and two numbers from 3 to 5, the first of them the lesser one.
@@ -50,15 +40,20 @@ fn are_between_three_and_five(verdict: &DiffVerdict) -> bool {
 }
 
 #[test]
-fn between_three_and_five(rt: HostRuntime) -> Result<(), Fail> {
-    let bounds = bounds_of(rt.alloc(), &[(1, 2, -1), (2, 0, 5), (0, 1, -3)])?;
-    let verdict = answer(&rt, bounds.as_slice(), 2)?;
+fn between_three_and_five(rt: HostRuntime) {
+    let bounds = bounds_of(&rt, rt.alloc(), &[(1, 2, -1), (2, 0, 5), (0, 1, -3)]);
+    let verdict = answer(&rt, rt.alloc(), bounds.as_slice(), 2);
     assert!(rt; are_between_three_and_five(&verdict));
-    Ok(())
+}
+
+/// Asserts the values or the cycle of the bounds.
+fn check_row(rt: &impl Abort, alloc: Global, rows: &[Row], count: u32, wanted: (&[i128], &[u32])) {
+    let bounds = bounds_of(rt, alloc, rows);
+    check(rt, alloc, bounds.as_slice(), count, wanted);
 }
 
 #[test]
-fn least_values_and_cycles(rt: HostRuntime) -> Result<(), Fail> {
+fn least_values_and_cycles(rt: HostRuntime) {
     // bounds, the number of unknowns, and the values or the cycle that are found
     const ROWS: &[(&[Row], u32, &[i128], &[u32])] = &[
         // the least of each
@@ -84,40 +79,44 @@ fn least_values_and_cycles(rt: HostRuntime) -> Result<(), Fail> {
         (&[], 0, &[0], &[]),
     ];
     for (rows, count, values, cycle) in ROWS {
-        let bounds = bounds_of(rt.alloc(), rows)?;
-        check(&rt, bounds.as_slice(), *count, (values, cycle))?;
+        check_row(&rt, rt.alloc(), rows, *count, (values, cycle));
     }
-    Ok(())
 }
 
 /// Each unknown from 1 to 64, less the one after it, is at most `step`, and each has a bound from
 /// below.
-fn chain(alloc: Global, step: i128) -> Result<Vec<Bound>, AllocError> {
+fn chain(rt: &impl Abort, alloc: Global, step: i128) -> Vec<Bound> {
     let mut bounds = Vec::new(alloc);
     for unknown in 1..65 {
-        bounds.push(at_most((unknown - 1, unknown, step)))?;
-        bounds.push(at_most((0, unknown, 0)))?;
+        push(rt, &mut bounds, (unknown - 1, unknown, step));
+        push(rt, &mut bounds, (0, unknown, 0));
     }
-    Ok(bounds)
+    bounds
 }
 
 /// The multiples of `step` from 0 to 64 times.
-fn multiples(alloc: Global, step: i128) -> Result<Vec<i128>, AllocError> {
+fn multiples(rt: &impl Abort, alloc: Global, step: i128) -> Vec<i128> {
     let mut values = Vec::new(alloc);
     for times in 0..65u32 {
-        values.push(step.wrapping_mul(i128::from(times)))?;
+        values
+            .push(step.wrapping_mul(i128::from(times)))
+            .expect(rt, "memory");
     }
-    Ok(values)
+    values
+}
+
+/// Asserts that the values of a chain of this step are the multiples of its opposite.
+fn check_chain(rt: &impl Abort, alloc: Global, step: i128, back: i128) {
+    let bounds = chain(rt, alloc, back);
+    let values = multiples(rt, alloc, step);
+    check(rt, alloc, bounds.as_slice(), 64, (values.as_slice(), &[]));
 }
 
 #[test]
-fn chain_of_64_unknowns(rt: HostRuntime) -> Result<(), Fail> {
+fn chain_of_64_unknowns(rt: HostRuntime) {
     for (step, back) in [(1, -1), (LARGEST, -LARGEST)] {
-        let bounds = chain(rt.alloc(), back)?;
-        let values = multiples(rt.alloc(), step)?;
-        check(&rt, bounds.as_slice(), 64, (values.as_slice(), &[]))?;
+        check_chain(&rt, rt.alloc(), step, back);
     }
-    Ok(())
 }
 
 /// The indices around a cycle, and none where there are values.
@@ -128,20 +127,23 @@ fn cycle_of(verdict: &DiffVerdict) -> &[u32] {
     }
 }
 
-fn closed_chain(alloc: Global) -> Result<Vec<Bound>, AllocError> {
-    let mut bounds = chain(alloc, -1)?;
-    bounds.push(at_most((64, 0, 63)))?;
-    Ok(bounds)
+fn closed_chain(rt: &impl Abort, alloc: Global) -> Vec<Bound> {
+    let mut bounds = chain(rt, alloc, -1);
+    push(rt, &mut bounds, (64, 0, 63));
+    bounds
+}
+
+/// Asserts that the cycle is one of so many bounds, and below zero.
+fn check_cycle(rt: &impl Abort, bounds: &[Bound], cycle: &[u32], length: usize) {
+    assert_eq!(rt; cycle.len(), length);
+    assert!(rt; is_negative_cycle(bounds, cycle));
 }
 
 #[test]
-fn chain_that_is_closed(rt: HostRuntime) -> Result<(), Fail> {
-    let bounds = closed_chain(rt.alloc())?;
-    let verdict = answer(&rt, bounds.as_slice(), 64)?;
-    let cycle = cycle_of(&verdict);
-    assert_eq!(rt; cycle.len(), 65);
-    assert!(rt; is_negative_cycle(bounds.as_slice(), cycle));
-    Ok(())
+fn chain_that_is_closed(rt: HostRuntime) {
+    let bounds = closed_chain(&rt, rt.alloc());
+    let verdict = answer(&rt, rt.alloc(), bounds.as_slice(), 64);
+    check_cycle(&rt, bounds.as_slice(), cycle_of(&verdict), 65);
 }
 
 fn bound_at(bounds: &[Bound], index: u32) -> Bound {
@@ -188,21 +190,24 @@ impl Generator {
     }
 }
 
-fn small_system(
-    alloc: Global,
-    generator: &mut Generator,
-    count: u32,
-) -> Result<Vec<Bound>, AllocError>
+/// A bound of so many unknowns, with a number from -2 to 2.
+fn small_row(generator: &mut Generator, count: u32) -> Row
+    requires { count < 4 }
+{
+    let plus = generator.below(u64::from(count) + 1) as u32;
+    let minus = generator.below(u64::from(count) + 1) as u32;
+    let most = i128::from(generator.below(5)) - 2;
+    (plus, minus, most)
+}
+
+fn small_system(rt: &impl Abort, alloc: Global, generator: &mut Generator, count: u32) -> Vec<Bound>
     requires { count < 4 }
 {
     let mut bounds = Vec::new(alloc);
     for _ in 0..generator.below(9) {
-        let plus = generator.below(u64::from(count) + 1) as u32;
-        let minus = generator.below(u64::from(count) + 1) as u32;
-        let most = i128::from(generator.below(5)) - 2;
-        bounds.push(at_most((plus, minus, most)))?;
+        push(rt, &mut bounds, small_row(generator, count));
     }
-    Ok(bounds)
+    bounds
 }
 
 fn value_of(values: &[i128], unknown: u32) -> i128 {
@@ -210,9 +215,13 @@ fn value_of(values: &[i128], unknown: u32) -> i128 {
 }
 
 fn meet_all(values: &[i128], bounds: &[Bound]) -> bool {
-    bounds.iter().all(|bound| {
-        value_of(values, bound.plus).saturating_sub(value_of(values, bound.minus)) <= bound.at_most
-    })
+    for bound in bounds {
+        let plus = value_of(values, bound.plus);
+        if plus.saturating_sub(value_of(values, bound.minus)) > bound.at_most {
+            return false;
+        }
+    }
+    true
 }
 
 /// A number from -6 to 6.
@@ -253,9 +262,12 @@ fn least_of(before: Option<[i128; 4]>, values: [i128; 4]) -> [i128; 4] {
 fn are_bounded_below(bounds: &[Bound], count: u32) -> bool
     requires { count < 4 }
 {
-    (1..count + 1).all(|unknown| bounds
-        .iter()
-        .any(|bound| bound.plus == 0 && bound.minus == unknown))
+    for unknown in 0..count {
+        if !has_below(bounds, unknown + 1) {
+            return false;
+        }
+    }
+    true
 }
 
 /// How many answers of each kind were compared.
@@ -266,23 +278,25 @@ struct Tally {
     least: u32,
 }
 
-fn check_least<R: Abort>(rt: &R, values: &[i128], count: u32, least: [i128; 4])
+fn check_least(rt: &impl Abort, values: &[i128], count: u32, least: [i128; 4])
     requires { count < 4 }
 {
-    assert_eq!(rt; values, &least[..count as usize + 1]);
+    same(rt, values, &least[..count as usize + 1]);
 }
 
-fn check_values<R: Abort>(rt: &R, bounds: &[Bound], count: u32, values: &[i128])
+fn check_values(rt: &impl Abort, bounds: &[Bound], count: u32, values: &[i128])
     requires { count < 4 }
 {
-    assert_eq!(rt; values.len(), count as usize + 1);
-    assert_eq!(rt; value_of(values, 0), 0);
-    assert!(rt; meet_all(values, bounds), "{values:?}");
+    assert!(rt; values.len() == count as usize + 1, "{values:?}");
+    assert!(rt;
+        value_of(values, 0) == 0 && meet_all(values, bounds),
+        "{values:?}"
+    );
 }
 
 /// Compares a verdict with the least values of a plain search.
-fn compare_verdict<R: Abort>(
-    rt: &R,
+fn compare_verdict(
+    rt: &impl Abort,
     bounds: &[Bound],
     count: u32,
     verdict: &DiffVerdict,
@@ -307,21 +321,29 @@ fn compare_verdict<R: Abort>(
     }
 }
 
-fn compare<R: Abort + AllocGlobal>(
-    rt: &R,
-    bounds: &[Bound],
-    count: u32,
-    tally: &mut Tally,
-) -> Result<(), Fail>
+fn compare(rt: &impl Abort, alloc: Global, bounds: &[Bound], count: u32, tally: &mut Tally)
     requires { count < 4 }
 {
-    let verdict = answer(rt, bounds, count)?;
+    let verdict = answer(rt, alloc, bounds, count);
     compare_verdict(rt, bounds, count, &verdict, tally);
-    Ok(())
+}
+
+/// Compares the answer of the next system of so many unknowns.
+fn compare_next(
+    rt: &impl Abort,
+    alloc: Global,
+    generator: &mut Generator,
+    count: u32,
+    tally: &mut Tally,
+)
+    requires { count < 4 }
+{
+    let bounds = small_system(rt, alloc, generator, count);
+    compare(rt, alloc, bounds.as_slice(), count, tally);
 }
 
 #[test]
-fn as_a_plain_search_says(rt: HostRuntime) -> Result<(), Fail> {
+fn as_a_plain_search_says(rt: HostRuntime) {
     let mut generator = Generator { state: 1 };
     let mut tally = Tally {
         cycles: 0,
@@ -329,10 +351,7 @@ fn as_a_plain_search_says(rt: HostRuntime) -> Result<(), Fail> {
         least: 0,
     };
     for number in 0..2000u32 {
-        let count = 1 + number % 3;
-        let bounds = small_system(rt.alloc(), &mut generator, count)?;
-        compare(&rt, bounds.as_slice(), count, &mut tally)?;
+        compare_next(&rt, rt.alloc(), &mut generator, 1 + number % 3, &mut tally);
     }
     assert!(rt; tally.cycles > 100 && tally.values > 100 && tally.least > 100);
-    Ok(())
 }

@@ -2,13 +2,12 @@
 
 use crate::build::Atom::*;
 use crate::build::Side::*;
-use crate::build::{Atom, RELS, Side, bits, formula, shows, term};
+use crate::build::{Atom, RELS, Side, bits, formula, let_go, shows, term};
 use path_formula::{AtomKind, Formula, Kind, Shape, laws};
 use sn_ranges::Ranges;
-use sn_width::{NoMemory, Num, Rel, SymId, Width};
+use sn_width::{Num, Rel, SymId, Width};
 use std::alloc::Global;
 use std::process::Abort;
-use std::test::Fail;
 
 const X: Side = Symbol(0);
 
@@ -45,66 +44,88 @@ const MEMBERSHIPS: &[(Side, Shape, AtomKind)] = &[
     (Number(5), Shape::Number, AtomKind::Constant),
 ];
 
-fn comparison_kind(alloc: Global, left: Side, right: Side) -> Result<AtomKind, NoMemory> {
-    let left = term(alloc, bits(8), left)?;
-    let right = term(alloc, bits(8), right)?;
-    Ok(AtomKind::of_comparison(&left, &right))
+/// Asserts the kind of a comparison.
+fn check_comparison(rt: &impl Abort, alloc: Global, left: Side, right: Side, kind: AtomKind) {
+    let left = term(rt, alloc, bits(8), left);
+    let right = term(rt, alloc, bits(8), right);
+    assert!(rt; AtomKind::of_comparison(&left, &right) == kind);
 }
 
-fn kind(alloc: Global, width: Width, atom: Atom) -> Result<Kind, Fail> {
-    Ok(formula(alloc, width, atom)?.kind())
+/// Asserts the kind of a formula, which ends here.
+fn check_kind(rt: &impl Abort, formula: Formula, kind: Kind) {
+    assert!(rt; formula.kind() == kind);
+    let_go(formula);
 }
 
 #[test]
-fn comparisons_have_their_kinds(rt: HostRuntime) -> Result<(), Fail> {
+fn comparisons_have_their_kinds(rt: HostRuntime) {
     for (left, right, of_atom, of_formula) in COMPARISONS {
-        assert!(rt; comparison_kind(rt.alloc(), *left, *right)? == *of_atom);
+        check_comparison(&rt, rt.alloc(), *left, *right, *of_atom);
         let equal = Compare(*left, Rel::Eq, *right);
-        assert!(rt; kind(rt.alloc(), bits(8), equal)? == *of_formula);
+        check_kind(&rt, formula(&rt, rt.alloc(), bits(8), equal), *of_formula);
     }
-    Ok(())
+}
+
+/// Asserts the form of a side, and the kind of its membership.
+fn check_membership(rt: &impl Abort, alloc: Global, side: Side, shape: Shape, kind: AtomKind) {
+    let term = term(rt, alloc, bits(8), side);
+    assert!(rt; Shape::of(&term) == shape);
+    assert!(rt; AtomKind::of_membership(&term) == kind);
 }
 
 #[test]
-fn memberships_have_their_kinds(rt: HostRuntime) -> Result<(), Fail> {
+fn memberships_have_their_kinds(rt: HostRuntime) {
     for (side, shape, kind) in MEMBERSHIPS {
-        let term = term(rt.alloc(), bits(8), *side)?;
-        assert!(rt; Shape::of(&term) == *shape);
-        assert!(rt; AtomKind::of_membership(&term) == *kind);
+        check_membership(&rt, rt.alloc(), *side, *shape, *kind);
     }
-    Ok(())
 }
 
 /// The symbol is less than the number.
-fn below(alloc: Global, width: Width, id: u64, bound: Num) -> Result<Formula, Fail> {
-    formula(alloc, width, Compare(Symbol(id), Rel::Lt, Number(bound)))
+fn below(rt: &impl Abort, alloc: Global, width: Width, id: u64, bound: Num) -> Formula {
+    formula(
+        rt,
+        alloc,
+        width,
+        Compare(Symbol(id), Rel::Lt, Number(bound)),
+    )
+}
+
+fn push(rt: &impl Abort, parts: &mut Vec<Formula>, part: Formula) {
+    parts.push(part).expect(rt, "memory");
 }
 
 /// Two formulas on symbol 0, and true.
-fn on_one_symbol(alloc: Global) -> Result<Formula, Fail> {
-    let low = below(alloc, bits(8), 0, 5)?;
-    let high = below(alloc, bits(8), 0, 200)?;
-    Ok(Formula::And(vec![in alloc; low, high, Formula::Truth(true)]?))
+fn on_one_symbol(rt: &impl Abort, alloc: Global) -> Formula {
+    let mut parts = Vec::new(alloc);
+    push(rt, &mut parts, below(rt, alloc, bits(8), 0, 5));
+    push(rt, &mut parts, below(rt, alloc, bits(8), 0, 200));
+    push(rt, &mut parts, Formula::Truth(true));
+    Formula::And(parts)
 }
 
-fn negated(alloc: Global, part: Formula) -> Result<Formula, NoMemory> {
-    Ok(Formula::Not(Box::new(alloc, part)?))
+fn negated(rt: &impl Abort, alloc: Global, part: Formula) -> Formula {
+    Formula::Not(Box::new(alloc, part).expect(rt, "memory"))
 }
 
-fn either(alloc: Global, first: Formula, second: Formula) -> Result<Formula, NoMemory> {
-    Ok(Formula::Or(vec![in alloc; first, second]?))
+fn either(rt: &impl Abort, alloc: Global, first: Formula, second: Formula) -> Formula {
+    let mut parts = Vec::new(alloc);
+    push(rt, &mut parts, first);
+    push(rt, &mut parts, second);
+    Formula::Or(parts)
+}
+
+/// The formula, whose kind this is.
+fn of_kind(rt: &impl Abort, formula: Formula, kind: Kind) -> Formula {
+    assert!(rt; formula.kind() == kind);
+    formula
 }
 
 #[test]
-fn formulas_of_one_symbol_are_simple(rt: HostRuntime) -> Result<(), Fail> {
-    let same = on_one_symbol(rt.alloc())?;
-    assert!(rt; same.kind() == SIMPLE);
-    let not = negated(rt.alloc(), same)?;
-    assert!(rt; not.kind() == SIMPLE);
-    let second = below(rt.alloc(), bits(8), 1, 5)?;
-    let or = either(rt.alloc(), not, second)?;
-    assert!(rt; or.kind() == Kind::Inside);
-    Ok(())
+fn formulas_of_one_symbol_are_simple(rt: HostRuntime) {
+    let same = of_kind(&rt, on_one_symbol(&rt, rt.alloc()), SIMPLE);
+    let not = of_kind(&rt, negated(&rt, rt.alloc(), same), SIMPLE);
+    let second = below(&rt, rt.alloc(), bits(8), 1, 5);
+    check_kind(&rt, either(&rt, rt.alloc(), not, second), Kind::Inside);
 }
 
 #[test]
@@ -114,53 +135,67 @@ fn none_of_no_parts_is_true(rt: HostRuntime) {
     assert!(rt; !none.truth(&[]));
 }
 
-/// Asserts the kinds of a comparison of two symbols, and of formulas on each.
-fn check_pair<R: Abort + AllocGlobal>(rt: &R, width: Width, wanted: Kind) -> Result<(), Fail> {
-    let alloc = rt.alloc();
-    let equal = Compare(Symbol(0), Rel::Eq, Symbol(1));
-    assert!(rt; kind(alloc, width, equal)? == wanted);
-    let first = below(alloc, width, 0, 3)?;
-    assert!(rt; first.kind() == SIMPLE);
-    let or = either(alloc, first, below(alloc, width, 1, 4)?)?;
-    assert!(rt; or.kind() == wanted);
-    let copy = or.copy(alloc)?;
-    assert!(rt; copy.kind() == wanted);
+/// Asserts the kind of a copy, and that it is true where both symbols are 3, and not where the second is 4.
+fn check_copy(rt: &impl Abort, alloc: Global, formula: &Formula, wanted: Kind) {
+    let copy = formula.copy(alloc).expect(rt, "memory");
     assert!(rt; copy.truth(&[3, 3]) && !copy.truth(&[3, 4]));
-    Ok(())
+    check_kind(rt, copy, wanted);
+}
+
+/// Asserts the kinds of formulas on each of two symbols.
+fn check_either(rt: &impl Abort, alloc: Global, width: Width, wanted: Kind) {
+    let first = of_kind(rt, below(rt, alloc, width, 0, 3), SIMPLE);
+    let second = below(rt, alloc, width, 1, 4);
+    let or = either(rt, alloc, first, second);
+    check_copy(rt, alloc, &or, wanted);
+    check_kind(rt, or, wanted);
+}
+
+/// Asserts the kinds of a comparison of two symbols, and of formulas on each.
+fn check_pair(rt: &impl Abort, alloc: Global, width: Width, wanted: Kind) {
+    let equal = Compare(Symbol(0), Rel::Eq, Symbol(1));
+    check_kind(rt, formula(rt, alloc, width, equal), wanted);
+    check_either(rt, alloc, width, wanted);
 }
 
 #[test]
-fn wide_symbols_are_no_pairs(rt: HostRuntime) -> Result<(), Fail> {
+fn wide_symbols_are_no_pairs(rt: HostRuntime) {
     for (count, kind) in [
         (64, Kind::Inside),
         (65, Kind::Outside),
         (128, Kind::Outside),
     ] {
-        check_pair(&rt, bits(count), kind)?;
+        check_pair(&rt, rt.alloc(), bits(count), kind);
     }
-    Ok(())
 }
 
 /// Asserts the values of symbol 0, of 8 bits, for which the formula has the truth.
-fn check_solutions<R: Abort + AllocGlobal>(
-    rt: &R,
+fn check_solutions(
+    rt: &impl Abort,
+    alloc: Global,
     formula: &Formula,
     holds: bool,
     ranges: &[(Num, Num)],
-) -> Result<(), NoMemory> {
+) {
     assert!(rt; formula.is_over(SymId(0), bits(8)));
-    let set = formula.solutions(rt.alloc(), SymId(0), bits(8), holds)?;
+    let set = formula
+        .solutions(alloc, SymId(0), bits(8), holds)
+        .expect(rt, "memory");
     assert!(rt; shows(&set, ranges));
-    Ok(())
+}
+
+/// Asserts that the formula is not over symbol 1, of 8 bits.
+fn check_not_over(rt: &impl Abort, formula: &Formula) {
+    assert!(rt; !formula.is_over(SymId(1), bits(8)));
 }
 
 #[test]
-fn solutions_wrap(rt: HostRuntime) -> Result<(), Fail> {
-    let low = formula(rt.alloc(), bits(8), Compare(NEXT, Rel::Lt, Number(5)))?;
-    assert!(rt; !low.is_over(SymId(1), bits(8)));
-    check_solutions(&rt, &low, true, &[(0, 3), (255, 255)])?;
-    check_solutions(&rt, &low, false, &[(4, 254)])?;
-    Ok(())
+fn solutions_wrap(rt: HostRuntime) {
+    let low = formula(&rt, rt.alloc(), bits(8), Compare(NEXT, Rel::Lt, Number(5)));
+    check_not_over(&rt, &low);
+    check_solutions(&rt, rt.alloc(), &low, true, &[(0, 3), (255, 255)]);
+    check_solutions(&rt, rt.alloc(), &low, false, &[(4, 254)]);
+    let_go(low);
 }
 
 /// An atom on a symbol of 3 bits, and its truth at each value.
@@ -195,54 +230,69 @@ fn tabled(atom: Atom) -> Tabled {
     (atom, truths)
 }
 
+fn push_tabled(rt: &impl Abort, atoms: &mut Vec<Tabled>, atom: Atom) {
+    atoms.push(tabled(atom)).expect(rt, "memory");
+}
+
 /// All comparisons of a symbol plus a constant with a constant on the right.
-fn comparisons(alloc: Global) -> Result<Vec<Tabled>, NoMemory> {
+fn comparisons(rt: &impl Abort, alloc: Global) -> Vec<Tabled> {
     let mut atoms = Vec::new(alloc);
     for rel in RELS {
         for both in 0..64u8 {
             let left = Plus(0, Num::from(both / 8));
-            atoms.push(tabled(Compare(left, rel, Number(Num::from(both % 8)))))?;
+            let right = Number(Num::from(both % 8));
+            push_tabled(rt, &mut atoms, Compare(left, rel, right));
         }
     }
-    Ok(atoms)
+    atoms
 }
 
 /// All memberships in one range, and the comparisons with the constant on the left.
-fn other_atoms(alloc: Global) -> Result<Vec<Tabled>, NoMemory> {
+fn other_atoms(rt: &impl Abort, alloc: Global) -> Vec<Tabled> {
     let mut atoms = Vec::new(alloc);
     for both in 0..64u8 {
         let right = Plus(0, Num::from(both / 8));
         let number = Num::from(both % 8);
         for rel in RELS {
-            atoms.push(tabled(Compare(Number(number), rel, right)))?;
+            push_tabled(rt, &mut atoms, Compare(Number(number), rel, right));
         }
         for last in both % 8..8 {
-            atoms.push(tabled(Within(right, number, Num::from(last))))?;
+            push_tabled(rt, &mut atoms, Within(right, number, Num::from(last)));
         }
     }
-    Ok(atoms)
+    atoms
 }
 
 /// Compares the members of a set with the truths at the eight values.
-fn compare_set<R: Abort>(rt: &R, set: &Ranges, truths: [bool; 8], holds: bool) {
+fn compare_set(rt: &impl Abort, set: &Ranges, truths: [bool; 8], holds: bool) {
     for value in 0..8usize {
-        assert_eq!(rt; set.has(value as Num), truths[value] == holds, "{value}");
+        assert!(rt;
+            set.has(value as Num) == (truths[value] == holds),
+            "{value}"
+        );
     }
     assert!(rt; !set.has(8));
 }
 
-/// Compares the formula's solutions with the truths at the eight values.
-fn compare<R: Abort + AllocGlobal>(
-    rt: &R,
+/// Compares the numbers for which the formula has the truth with the truths at the eight values.
+fn compare_solutions(
+    rt: &impl Abort,
+    alloc: Global,
     formula: &Formula,
     truths: [bool; 8],
-) -> Result<(), NoMemory> {
+    holds: bool,
+) {
     assert!(rt; formula.is_over(SymId(0), bits(3)));
-    for holds in [true, false] {
-        let set = formula.solutions(rt.alloc(), SymId(0), bits(3), holds)?;
-        compare_set(rt, &set, truths, holds);
-    }
-    Ok(())
+    let set = formula
+        .solutions(alloc, SymId(0), bits(3), holds)
+        .expect(rt, "memory");
+    compare_set(rt, &set, truths, holds);
+}
+
+/// Compares the formula's solutions, for both truths, with the truths at the eight values.
+fn compare(rt: &impl Abort, alloc: Global, formula: &Formula, truths: [bool; 8]) {
+    compare_solutions(rt, alloc, formula, truths, true);
+    compare_solutions(rt, alloc, formula, truths, false);
 }
 
 fn all_of(left: [bool; 8], right: [bool; 8]) -> [bool; 8] {
@@ -262,10 +312,11 @@ fn any_of(left: [bool; 8], right: [bool; 8]) -> [bool; 8] {
 }
 
 /// The two atoms.
-fn two(alloc: Global, left: Atom, right: Atom) -> Result<Formula, Fail> {
-    let left = formula(alloc, bits(3), left)?;
-    let right = formula(alloc, bits(3), right)?;
-    Ok(Formula::And(vec![in alloc; left, right]?))
+fn two(rt: &impl Abort, alloc: Global, left: Atom, right: Atom) -> Formula {
+    let mut parts = Vec::new(alloc);
+    push(rt, &mut parts, formula(rt, alloc, bits(3), left));
+    push(rt, &mut parts, formula(rt, alloc, bits(3), right));
+    Formula::And(parts)
 }
 
 /// Any part of a formula, in place of all of them.
@@ -276,30 +327,41 @@ fn any_part(formula: Formula) -> Formula {
     }
 }
 
-fn compare_one<R: Abort + AllocGlobal>(rt: &R, atom: Tabled) -> Result<(), Fail> {
-    Ok(compare(rt, &formula(rt.alloc(), bits(3), atom.0)?, atom.1)?)
+fn compare_one(rt: &impl Abort, alloc: Global, atom: Tabled) {
+    let formula = formula(rt, alloc, bits(3), atom.0);
+    compare(rt, alloc, &formula, atom.1);
+    let_go(formula);
 }
 
 /// Compares the solutions of both atoms, and of either.
-fn compare_two<R: Abort + AllocGlobal>(rt: &R, left: Tabled, right: Tabled) -> Result<(), Fail> {
-    let and = two(rt.alloc(), left.0, right.0)?;
-    compare(rt, &and, all_of(left.1, right.1))?;
-    Ok(compare(rt, &any_part(and), any_of(left.1, right.1))?)
+fn compare_two(rt: &impl Abort, alloc: Global, left: Tabled, right: Tabled) {
+    let and = two(rt, alloc, left.0, right.0);
+    compare(rt, alloc, &and, all_of(left.1, right.1));
+    let or = any_part(and);
+    compare(rt, alloc, &or, any_of(left.1, right.1));
+    let_go(or);
+}
+
+fn compare_others(rt: &impl Abort, alloc: Global) {
+    for atom in &other_atoms(rt, alloc) {
+        compare_one(rt, alloc, *atom);
+    }
+}
+
+fn compare_all(rt: &impl Abort, alloc: Global, atoms: &[Tabled]) {
+    for left in atoms {
+        compare_one(rt, alloc, *left);
+        for right in atoms {
+            compare_two(rt, alloc, *left, *right);
+        }
+    }
 }
 
 #[test]
-fn solutions_agree_with_plain_evaluation(rt: HostRuntime) -> Result<(), Fail> {
-    for atom in &other_atoms(rt.alloc())? {
-        compare_one(&rt, *atom)?;
-    }
-    let atoms = comparisons(rt.alloc())?;
-    for left in &atoms {
-        compare_one(&rt, *left)?;
-        for right in &atoms {
-            compare_two(&rt, *left, *right)?;
-        }
-    }
-    Ok(())
+fn solutions_agree_with_plain_evaluation(rt: HostRuntime) {
+    compare_others(&rt, rt.alloc());
+    let atoms = comparisons(&rt, rt.alloc());
+    compare_all(&rt, rt.alloc(), atoms.as_slice());
 }
 
 #[test]

@@ -1,13 +1,12 @@
 //! Sets of values as ranges.
 
-ghost use Rattle.std.specs.Prelude.{◌≡◌, ◌<◌, IfOk};
+ghost use Rattle.std.specs.Prelude.{◌≡◌, ◌<◌};
 
 use crate::build::{bits, shows};
 use sn_ranges::{RangeFault, Ranges, laws};
-use sn_width::{NoMemory, Num, Width};
-use std::alloc::{AllocError, Global};
+use sn_width::{Num, Width};
+use std::alloc::Global;
 use std::process::Abort;
-use std::test::Fail;
 
 /// A set as a list in any order, and the ranges of what is made of it.
 #[derive(Drop)]
@@ -27,57 +26,56 @@ fn first_of(ranges: &[(Num, Num)]) -> Option<Num> {
     }
 }
 
-fn check_least<R: Abort>(rt: &R, set: &Ranges, ranges: &[(Num, Num)]) {
-    assert_eq!(rt; set.is_empty(), ranges.is_empty());
-    assert_eq!(rt; set.least(), first_of(ranges));
+fn check_least(rt: &impl Abort, set: &Ranges, ranges: &[(Num, Num)]) {
+    assert!(rt; set.is_empty() == ranges.is_empty());
+    assert!(rt; set.least() == first_of(ranges));
 }
 
 /// Asserts what the set says of its ranges.
-fn check_set<R: Abort>(rt: &R, set: &Ranges, ranges: &[(Num, Num)]) {
+fn check_set(rt: &impl Abort, set: &Ranges, ranges: &[(Num, Num)]) {
     assert!(rt; shows(set, ranges));
-    assert_eq!(rt; set.range(ranges.len()), None);
+    assert!(rt; set.range(ranges.len()).is_none());
     check_least(rt, set, ranges);
 }
 
 /// Asserts the ranges of the complement.
-fn check_other<R: Abort + AllocGlobal>(
-    rt: &R,
-    set: &Ranges,
-    row: &Row<'_>,
-) -> Result<(), NoMemory> {
-    let other = set.other(rt.alloc())?;
-    check_set(rt, &other, row.other);
-    let again = other.other(rt.alloc())?;
-    check_set(rt, &again, row.ranges);
-    Ok(())
+fn check_other(rt: &impl Abort, alloc: Global, set: &Ranges, ranges: &[(Num, Num)]) {
+    let other = set.other(alloc).expect(rt, "memory");
+    check_set(rt, &other, ranges);
 }
 
-/// Asserts the ranges of the set shifted, and of a copy.
-fn check_moved<R: Abort + AllocGlobal>(
-    rt: &R,
-    set: &Ranges,
-    row: &Row<'_>,
-) -> Result<(), NoMemory> {
-    assert!(rt; row.by <= set.width().max());
-    let shifted = set.shift(rt.alloc(), row.by)?;
-    check_set(rt, &shifted, row.shifted);
-    let copy = set.copy(rt.alloc())?;
-    check_set(rt, &copy, row.ranges);
-    Ok(())
+/// Asserts the ranges of the complement's complement.
+fn check_again(rt: &impl Abort, alloc: Global, set: &Ranges, ranges: &[(Num, Num)]) {
+    let other = set.other(alloc).expect(rt, "memory");
+    check_other(rt, alloc, &other, ranges);
+}
+
+/// Asserts the ranges of the set shifted.
+fn check_shifted(rt: &impl Abort, alloc: Global, set: &Ranges, by: Num, ranges: &[(Num, Num)]) {
+    assert!(rt; by <= set.width().max());
+    let shifted = set.shift(alloc, by).expect(rt, "memory");
+    check_set(rt, &shifted, ranges);
+}
+
+/// Asserts the ranges of a copy.
+fn check_copy(rt: &impl Abort, alloc: Global, set: &Ranges, ranges: &[(Num, Num)]) {
+    let copy = set.copy(alloc).expect(rt, "memory");
+    check_set(rt, &copy, ranges);
 }
 
 /// Asserts the ranges of a set, and of what is made of it.
-fn check<R: Abort + AllocGlobal>(rt: &R, width: Width, row: &Row<'_>) -> Result<(), Fail> {
-    let set = Ranges::from_list(rt.alloc(), width, row.list)?;
+fn check(rt: &impl Abort, alloc: Global, width: Width, row: &Row<'_>) {
+    let set = Ranges::from_list(alloc, width, row.list).expect(rt, "ranges");
     assert!(rt; set.width() == width);
     check_set(rt, &set, row.ranges);
-    check_moved(rt, &set, row)?;
-    check_other(rt, &set, row)?;
-    Ok(())
+    check_shifted(rt, alloc, &set, row.by, row.shifted);
+    check_copy(rt, alloc, &set, row.ranges);
+    check_other(rt, alloc, &set, row.other);
+    check_again(rt, alloc, &set, row.ranges);
 }
 
 #[test]
-fn a_list_in_any_order_is_its_least_ranges(rt: HostRuntime) -> Result<(), Fail> {
+fn a_list_in_any_order_is_its_least_ranges(rt: HostRuntime) {
     let row = Row {
         list: &[(5, 9), (0, 4), (20, 20)],
         ranges: &[(0, 9), (20, 20)],
@@ -85,62 +83,65 @@ fn a_list_in_any_order_is_its_least_ranges(rt: HostRuntime) -> Result<(), Fail> 
         by: 250,
         shifted: &[(0, 3), (14, 14), (250, 255)],
     };
-    check(&rt, bits(8), &row)
+    check(&rt, rt.alloc(), bits(8), &row);
 }
 
-#[test]
-fn the_greatest_value_has_no_successor(rt: HostRuntime) -> Result<(), Fail> {
-    for (count, max) in [(1, 1), (64, 18446744073709551615), (128, Num::MAX)] {
-        let full = Row {
-            list: &[(0, max)],
-            ranges: &[(0, max)],
-            other: &[],
-            by: max,
-            shifted: &[(0, max)],
-        };
-        check(&rt, bits(count), &full)?;
-        let top = Row {
-            list: &[(max, max)],
-            ranges: &[(max, max)],
-            other: &[(0, max - 1)],
-            by: max,
-            shifted: &[(max - 1, max - 1)],
-        };
-        check(&rt, bits(count), &top)?;
-    }
-    Ok(())
-}
-
-fn bytes(alloc: Global, list: &[(Num, Num)]) -> Result<Ranges, Fail>
-    ensures { IfOk result (λ set. set.width ≡ 8) }
+/// Asserts what is made of all numbers up to the greatest one, and of that alone.
+fn check_greatest(rt: &impl Abort, alloc: Global, width: Width, max: Num)
+    requires { 0 < max }
 {
-    Ok(Ranges::from_list(alloc, bits(8), list)?)
+    let full = Row {
+        list: &[(0, max)],
+        ranges: &[(0, max)],
+        other: &[],
+        by: max,
+        shifted: &[(0, max)],
+    };
+    check(rt, alloc, width, &full);
+    let top = Row {
+        list: &[(max, max)],
+        ranges: &[(max, max)],
+        other: &[(0, max - 1)],
+        by: max,
+        shifted: &[(max - 1, max - 1)],
+    };
+    check(rt, alloc, width, &top);
 }
 
 #[test]
-fn members_lie_in_a_range(rt: HostRuntime) -> Result<(), Fail> {
-    let set = bytes(rt.alloc(), &[(0, 9), (20, 20)])?;
+fn the_greatest_value_has_no_successor(rt: HostRuntime) {
+    for (count, max) in [(1, 1), (64, 18446744073709551615), (128, Num::MAX)] {
+        check_greatest(&rt, rt.alloc(), bits(count), max);
+    }
+}
+
+fn bytes(rt: &impl Abort, alloc: Global, list: &[(Num, Num)]) -> Ranges
+    ensures { result.width ≡ 8 }
+{
+    Ranges::from_list(alloc, bits(8), list).expect(rt, "ranges")
+}
+
+#[test]
+fn members_lie_in_a_range(rt: HostRuntime) {
+    let set = bytes(&rt, rt.alloc(), &[(0, 9), (20, 20)]);
     assert!(rt; set.has(9) && !set.has(10) && !set.has(256));
-    Ok(())
 }
 
 #[test]
-fn sets_meet(rt: HostRuntime) -> Result<(), Fail> {
-    let set = bytes(rt.alloc(), &[(0, 9), (20, 20)])?;
-    let middle = bytes(rt.alloc(), &[(3, 12)])?;
-    let common = set.meet(rt.alloc(), &middle)?;
+fn sets_meet(rt: HostRuntime) {
+    let set = bytes(&rt, rt.alloc(), &[(0, 9), (20, 20)]);
+    let middle = bytes(&rt, rt.alloc(), &[(3, 12)]);
+    let common = set.meet(rt.alloc(), &middle).expect(&rt, "memory");
     check_set(&rt, &middle, &[(3, 12)]);
     check_set(&rt, &common, &[(3, 9)]);
-    Ok(())
 }
 
 #[test]
-fn sets_join(rt: HostRuntime) -> Result<(), Fail> {
-    let set = bytes(rt.alloc(), &[(0, 9), (20, 20)])?;
-    let between = bytes(rt.alloc(), &[(10, 19)])?;
-    let all = set.join(rt.alloc(), &between)?;
+fn sets_join(rt: HostRuntime) {
+    let set = bytes(&rt, rt.alloc(), &[(0, 9), (20, 20)]);
+    let between = bytes(&rt, rt.alloc(), &[(10, 19)]);
+    let all = set.join(rt.alloc(), &between).expect(&rt, "memory");
     check_set(&rt, &all, &[(0, 20)]);
-    Ok(())
 }
 
 fn fault_of(alloc: Global, list: &[(Num, Num)]) -> Option<RangeFault> {
@@ -161,189 +162,229 @@ fn the_first_fault_is_named(rt: HostRuntime) {
 }
 
 /// All ranges between a few numbers of 4 bits.
-fn small_ranges(alloc: Global) -> Result<Vec<(Num, Num)>, AllocError> {
+fn small_ranges(rt: &impl Abort, alloc: Global) -> Vec<(Num, Num)> {
     let ends = [0, 1, 7, 8, 15];
     let mut ranges = Vec::new(alloc);
     for first in ends {
         for last in ends {
             if first <= last {
-                ranges.push((first, last))?;
+                ranges.push((first, last)).expect(rt, "memory");
             }
         }
     }
-    Ok(ranges)
+    ranges
+}
+
+type Lists = Vec<Vec<(Num, Num)>>;
+
+fn push(rt: &impl Abort, alloc: Global, lists: &mut Lists, list: &[(Num, Num)]) {
+    let list = Vec::from_slice(alloc, list).expect(rt, "memory");
+    lists.push(list).expect(rt, "memory");
 }
 
 /// A list of each range that is pushed, and of it and each of the ranges.
 fn push_lists(
+    rt: &impl Abort,
     alloc: Global,
-    lists: &mut Vec<Vec<(Num, Num)>>,
+    lists: &mut Lists,
     one: (Num, Num),
     ranges: &[(Num, Num)],
-) -> Result<(), AllocError> {
-    lists.push(vec![in alloc; one]?)?;
+) {
+    push(rt, alloc, lists, &[one]);
     for two in ranges {
-        lists.push(vec![in alloc; one, *two]?)?;
+        push(rt, alloc, lists, &[one, *two]);
     }
-    Ok(())
 }
 
 /// All lists of at most two of these ranges.
-fn small_lists(alloc: Global) -> Result<Vec<Vec<(Num, Num)>>, AllocError> {
-    let ranges = small_ranges(alloc)?;
-    let mut lists = vec![in alloc; Vec::new(alloc)]?;
+fn small_lists(rt: &impl Abort, alloc: Global) -> Lists {
+    let ranges = small_ranges(rt, alloc);
+    let mut lists = Vec::new(alloc);
+    push(rt, alloc, &mut lists, &[]);
     for one in &ranges {
-        push_lists(alloc, &mut lists, *one, ranges.as_slice())?;
+        push_lists(rt, alloc, &mut lists, *one, ranges.as_slice());
     }
-    Ok(lists)
+    lists
 }
 
 fn holds(list: &[(Num, Num)], value: Num) -> bool {
-    list.iter()
-        .any(|range| range.0 <= value && value <= range.1)
+    for (first, last) in list {
+        if *first <= value && value <= *last {
+            return true;
+        }
+    }
+    false
 }
 
 /// Compares a set and its complement with membership in the set's list, for all numbers of 4 bits.
-fn compare_other<R: Abort>(rt: &R, list: &[(Num, Num)], set: &Ranges, other: &Ranges) {
+fn compare_other(rt: &impl Abort, list: &[(Num, Num)], set: &Ranges, other: &Ranges) {
     for number in 0..16u8 {
         let value = Num::from(number);
         let is_member = holds(list, value);
-        assert_eq!(rt;
-            (set.has(value), other.has(value)),
-            (is_member, !is_member),
+        assert!(rt;
+            set.has(value) == is_member && other.has(value) != is_member,
             "{list:?}"
         );
     }
 }
 
 /// Compares a set shifted by a number with membership in the set's list.
-fn compare_shifted<R: Abort>(rt: &R, list: &[(Num, Num)], by: u8, shifted: &Ranges) {
+fn compare_shifted(rt: &impl Abort, list: &[(Num, Num)], by: u8, shifted: &Ranges) {
     for number in 0..16u8 {
         let value = Num::from(number);
         let moved = value.wrapping_add(Num::from(by)) % 16;
-        assert_eq!(rt; shifted.has(moved), holds(list, value), "{list:?} {by}");
+        assert!(rt; shifted.has(moved) == holds(list, value), "{list:?} {by}");
     }
+}
+
+/// The same of the set shifted by a number.
+fn compare_shift(rt: &impl Abort, alloc: Global, list: &[(Num, Num)], set: &Ranges, by: u8) {
+    assert!(rt; Num::from(by) <= set.width().max());
+    let shifted = set.shift(alloc, Num::from(by)).expect(rt, "memory");
+    compare_shifted(rt, list, by, &shifted);
 }
 
 /// Compares what takes one set with membership in its list.
-fn compare_one<R: Abort + AllocGlobal>(
-    rt: &R,
-    list: &[(Num, Num)],
-    set: &Ranges,
-) -> Result<(), Fail> {
-    compare_other(rt, list, set, &set.other(rt.alloc())?);
+fn compare_one(rt: &impl Abort, alloc: Global, list: &[(Num, Num)], set: &Ranges) {
+    let other = set.other(alloc).expect(rt, "memory");
+    compare_other(rt, list, set, &other);
     for by in 0..16u8 {
-        assert!(rt; Num::from(by) <= set.width().max());
-        compare_shifted(rt, list, by, &set.shift(rt.alloc(), Num::from(by))?);
+        compare_shift(rt, alloc, list, set, by);
     }
-    Ok(())
+}
+
+/// Whether a number is among the common members of two sets, and among those of either, as it is by their lists.
+fn is_member_as_listed(
+    lists: (&[(Num, Num)], &[(Num, Num)]),
+    value: Num,
+    common: &Ranges,
+    all: &Ranges,
+) -> bool {
+    let (is_left, is_right) = (holds(lists.0, value), holds(lists.1, value));
+    common.has(value) == (is_left && is_right) && all.has(value) == (is_left || is_right)
 }
 
 /// Compares the common members of two sets, and those of either, with membership in their lists.
-fn compare_members<R: Abort>(
-    rt: &R,
+fn compare_members(
+    rt: &impl Abort,
     lists: (&[(Num, Num)], &[(Num, Num)]),
     common: &Ranges,
     all: &Ranges,
 ) {
     for number in 0..16u8 {
-        let value = Num::from(number);
-        let (is_left, is_right) = (holds(lists.0, value), holds(lists.1, value));
-        let wanted = (is_left && is_right, is_left || is_right);
-        assert_eq!(rt; (common.has(value), all.has(value)), wanted, "{lists:?}");
+        let is_right = is_member_as_listed(lists, Num::from(number), common, all);
+        assert!(rt; is_right, "{lists:?}");
     }
 }
 
 /// The same for what takes two sets of one width.
-fn compare_two<R: Abort + AllocGlobal>(
-    rt: &R,
+fn compare_two(
+    rt: &impl Abort,
+    alloc: Global,
     lists: (&[(Num, Num)], &[(Num, Num)]),
     left: &Ranges,
     right: &Ranges,
-) -> Result<(), NoMemory> {
+) {
     assert!(rt; left.width() == right.width());
-    let common = left.meet(rt.alloc(), right)?;
-    let all = left.join(rt.alloc(), right)?;
+    let common = left.meet(alloc, right).expect(rt, "memory");
+    let all = left.join(alloc, right).expect(rt, "memory");
     compare_members(rt, lists, &common, &all);
-    Ok(())
+}
+
+/// The set of a list, of 4 bits.
+fn small(rt: &impl Abort, alloc: Global, list: &[(Num, Num)]) -> Ranges {
+    Ranges::from_list(alloc, bits(4), list).expect(rt, "ranges")
+}
+
+/// Compares what takes the set of the first list and that of the second.
+fn compare_with(
+    rt: &impl Abort,
+    alloc: Global,
+    lists: (&[(Num, Num)], &[(Num, Num)]),
+    left: &Ranges,
+) {
+    let right = small(rt, alloc, lists.1);
+    compare_two(rt, alloc, lists, left, &right);
+}
+
+/// Compares what takes the set of a list alone, or beside that of each list.
+fn compare_list(rt: &impl Abort, alloc: Global, list: &[(Num, Num)], lists: &Lists) {
+    let set = small(rt, alloc, list);
+    compare_one(rt, alloc, list, &set);
+    for right in lists {
+        compare_with(rt, alloc, (list, right), &set);
+    }
 }
 
 #[test]
-fn operations_agree_with_plain_membership(rt: HostRuntime) -> Result<(), Fail> {
-    let lists = small_lists(rt.alloc())?;
-    for left in &lists {
-        let set = Ranges::from_list(rt.alloc(), bits(4), left)?;
-        compare_one(&rt, left, &set)?;
-        for right in &lists {
-            let other = Ranges::from_list(rt.alloc(), bits(4), right)?;
-            compare_two(&rt, (left, right), &set, &other)?;
-        }
+fn operations_agree_with_plain_membership(rt: HostRuntime) {
+    let lists = small_lists(&rt, rt.alloc());
+    for list in &lists {
+        compare_list(&rt, rt.alloc(), list, &lists);
     }
-    Ok(())
 }
 
 /// 200,000 ranges of five numbers each, ten apart, the last one first.
-fn many_ranges(alloc: Global, width: Width, start: Num) -> Result<Ranges, Fail>
+fn many_ranges(rt: &impl Abort, alloc: Global, width: Width, start: Num) -> Ranges
     requires { start < 10 }
-    ensures { IfOk result (λ set. set.width ≡ width) }
+    ensures { result.width ≡ width }
 {
     let mut list = Vec::new(alloc);
     for i in (0..200_000u64).rev() {
         let first = 10 * Num::from(i) + start;
-        list.push((first, first + 4))?;
+        list.push((first, first + 4)).expect(rt, "memory");
     }
-    Ok(Ranges::from_list(alloc, width, &list)?)
+    Ranges::from_list(alloc, width, &list).expect(rt, "ranges")
+}
+
+/// Asserts the number of ranges.
+fn check_len(rt: &impl Abort, set: &Ranges, len: usize) {
+    assert_eq!(rt; set.len(), len);
+}
+
+/// Asserts one of the ranges.
+fn check_range(rt: &impl Abort, set: &Ranges, index: usize, range: (Num, Num)) {
+    assert!(rt; set.range(index) == Some(range));
 }
 
 /// Asserts the ranges that are in neither of two sets, and those ranges shifted.
-fn check_gaps<R: Abort + AllocGlobal>(rt: &R, gaps: &Ranges) -> Result<(), NoMemory> {
-    assert_eq!(rt; gaps.len(), 200_000);
-    assert_eq!(rt; gaps.range(0), Some((8, 9)));
+fn check_gaps(rt: &impl Abort, alloc: Global, gaps: &Ranges) {
+    check_len(rt, gaps, 200_000);
+    check_range(rt, gaps, 0, (8, 9));
     assert!(rt; 8 <= gaps.width().max());
-    let shifted = gaps.shift(rt.alloc(), 8)?;
+    let shifted = gaps.shift(alloc, 8).expect(rt, "memory");
     check_shifted_gaps(rt, &shifted);
-    Ok(())
 }
 
-fn check_shifted_gaps<R: Abort>(rt: &R, shifted: &Ranges) {
-    assert_eq!(rt; shifted.len(), 200_001);
+fn check_shifted_gaps(rt: &impl Abort, shifted: &Ranges) {
+    check_len(rt, shifted, 200_001);
     assert!(rt; shifted.has(16) && !shifted.has(18));
 }
 
 /// Asserts the last range of what two sets have in common.
-fn check_common<R: Abort + AllocGlobal>(
-    rt: &R,
-    left: &Ranges,
-    right: &Ranges,
-) -> Result<(), NoMemory>
+fn check_common(rt: &impl Abort, alloc: Global, left: &Ranges, right: &Ranges)
     requires { left.now.width ≡ right.now.width }
 {
-    let common = left.meet(rt.alloc(), right)?;
-    assert_eq!(rt; common.range(199_999), Some((1_999_993, 1_999_994)));
-    Ok(())
+    let common = left.meet(alloc, right).expect(rt, "memory");
+    check_range(rt, &common, 199_999, (1_999_993, 1_999_994));
 }
 
 /// Asserts the last range of what is in either of two sets, and the ranges of what is in neither.
-fn check_either<R: Abort + AllocGlobal>(
-    rt: &R,
-    left: &Ranges,
-    right: &Ranges,
-) -> Result<(), NoMemory>
+fn check_either(rt: &impl Abort, alloc: Global, left: &Ranges, right: &Ranges)
     requires { left.now.width ≡ right.now.width }
 {
-    let all = left.join(rt.alloc(), right)?;
-    assert_eq!(rt; all.range(199_999), Some((1_999_990, 1_999_997)));
-    let gaps = all.other(rt.alloc())?;
-    check_gaps(rt, &gaps)
+    let all = left.join(alloc, right).expect(rt, "memory");
+    check_range(rt, &all, 199_999, (1_999_990, 1_999_997));
+    let gaps = all.other(alloc).expect(rt, "memory");
+    check_gaps(rt, alloc, &gaps);
 }
 
 #[test]
-fn large_sets_are_ordinary(rt: HostRuntime) -> Result<(), Fail> {
-    let left = many_ranges(rt.alloc(), bits(64), 0)?;
-    let right = many_ranges(rt.alloc(), bits(64), 3)?;
-    check_common(&rt, &left, &right)?;
-    check_either(&rt, &left, &right)?;
-    Ok(())
+fn large_sets_are_ordinary(rt: HostRuntime) {
+    let left = many_ranges(&rt, rt.alloc(), bits(64), 0);
+    let right = many_ranges(&rt, rt.alloc(), bits(64), 3);
+    check_common(&rt, rt.alloc(), &left, &right);
+    check_either(&rt, rt.alloc(), &left, &right);
 }
 
 #[test]

@@ -1,12 +1,11 @@
 //! Terms.
 
 use crate::build::Side::{Number, Symbol};
-use crate::build::{Side, bits, term};
+use crate::build::{Side, bits, same, term};
 use lin_term::Term;
-use sn_width::{NoMemory, Num, SymId, Width};
+use sn_width::{Num, SymId, Width};
 use std::alloc::Global;
 use std::process::Abort;
-use std::test::Fail;
 
 /// What is done to the term so far.
 #[derive(Clone, Copy)]
@@ -133,87 +132,98 @@ const WIDEST: &[Row] = &[Row {
 }];
 
 /// The term after a step.
-fn after(alloc: Global, before: &Term, step: Step) -> Result<Term, NoMemory> {
+fn after(rt: &impl Abort, alloc: Global, before: Term, step: Step) -> Term {
     match step {
-        Step::Add(side) => before.plus(alloc, &term(alloc, before.width(), side)?),
-        Step::Take(side) => before.minus(alloc, &term(alloc, before.width(), side)?),
+        Step::Add(side) => {
+            let other = term(rt, alloc, before.width(), side);
+            before.plus(alloc, &other).expect(rt, "memory")
+        }
+        Step::Take(side) => {
+            let other = term(rt, alloc, before.width(), side);
+            before.minus(alloc, &other).expect(rt, "memory")
+        }
     }
 }
 
 /// The term after all steps.
-fn made(alloc: Global, width: Width, row: &Row) -> Result<Term, NoMemory> {
-    let mut made = term(alloc, width, row.first)?;
+fn made(rt: &impl Abort, alloc: Global, width: Width, row: &Row) -> Term {
+    let mut made = term(rt, alloc, width, row.first);
     for step in row.steps {
-        made = after(alloc, &made, *step)?;
+        made = after(rt, alloc, made, *step);
     }
-    Ok(made)
+    made
 }
 
 /// Whether the term's parts are these.
 fn has_parts(term: &Term, parts: &[(u64, Num)]) -> bool {
+    for (index, (symbol, coefficient)) in parts.iter().enumerate() {
+        if term.part(index) != Some((SymId(*symbol), *coefficient)) {
+            return false;
+        }
+    }
     term.part(parts.len()).is_none()
-        && parts.iter().enumerate().all(|(index, part)| term.part(index)
-            == Some((SymId(part.0), part.1)))
 }
 
-fn check_values<R: Abort>(rt: &R, term: &Term, values: &[(&[Num], Num)]) {
+fn check_values(rt: &impl Abort, term: &Term, values: &[(&[Num], Num)]) {
     for (numbers, value) in values {
-        assert_eq!(rt; term.value(numbers), *value);
+        same(rt, term.value(numbers), *value);
     }
 }
 
-fn check_term<R: Abort>(rt: &R, width: Width, term: &Term, row: &Row) {
+fn check_term(rt: &impl Abort, width: Width, term: &Term, row: &Row) {
     assert!(rt; term.width() == width);
-    assert_eq!(rt; term.constant(), row.constant);
+    same(rt, term.constant(), row.constant);
     assert!(rt; has_parts(term, row.parts));
     check_values(rt, term, row.values);
 }
 
-/// Whether the term is that of the side, and whether a copy of it is the same.
-fn are_same(
-    alloc: Global,
-    width: Width,
-    made: &Term,
-    side: Side,
-) -> Result<(bool, bool), NoMemory> {
-    let other = term(alloc, width, side)?;
-    let copy = made.copy(alloc)?;
-    Ok((made.same(&other), copy.same(made)))
+/// Asserts whether the term is that of the side.
+fn check_same(rt: &impl Abort, alloc: Global, made: &Term, side: Side, same: bool) {
+    let other = term(rt, alloc, made.width(), side);
+    assert!(rt; made.same(&other) == same);
 }
 
-/// Whether the row's parts are taken as those of the term.
-fn is_of_parts(alloc: Global, width: Width, made: &Term, row: &Row) -> Result<bool, NoMemory> {
+/// Asserts that a copy of the term is the same.
+fn check_copy(rt: &impl Abort, alloc: Global, made: &Term) {
+    let copy = made.copy(alloc).expect(rt, "memory");
+    assert!(rt; copy.same(made));
+}
+
+/// The parts of the row.
+fn parts_of(rt: &impl Abort, alloc: Global, row: &Row) -> Vec<(SymId, Num)> {
     let mut parts = Vec::new(alloc);
     for (symbol, coefficient) in row.parts {
-        parts.push((SymId(*symbol), *coefficient))?;
+        parts
+            .push((SymId(*symbol), *coefficient))
+            .expect(rt, "memory");
     }
-    match Term::of_parts(width, row.constant, parts) {
-        None => Ok(false),
-        Some(term) => Ok(term.same(made)),
-    }
+    parts
 }
 
-fn check_row<R: Abort + AllocGlobal>(rt: &R, width: Width, row: &Row) -> Result<(), NoMemory> {
-    let made = made(rt.alloc(), width, row)?;
+/// Asserts that the row's parts are taken as those of the term.
+fn check_of_parts(rt: &impl Abort, alloc: Global, made: &Term, row: &Row) {
+    let parts = parts_of(rt, alloc, row);
+    let term = Term::of_parts(made.width(), row.constant, parts).expect(rt, "a term");
+    assert!(rt; term.same(made));
+}
+
+fn check_row(rt: &impl Abort, alloc: Global, width: Width, row: &Row) {
+    let made = made(rt, alloc, width, row);
     check_term(rt, width, &made, row);
-    let is_of_parts = is_of_parts(rt.alloc(), width, &made, row)?;
-    assert!(rt; is_of_parts);
-    let same = are_same(rt.alloc(), width, &made, row.first)?;
-    assert_eq!(rt; same, (row.same, true));
-    Ok(())
+    check_of_parts(rt, alloc, &made, row);
+    check_same(rt, alloc, &made, row.first, row.same);
+    check_copy(rt, alloc, &made);
 }
 
-fn check_rows<R: Abort + AllocGlobal>(rt: &R, width: Width, rows: &[Row]) -> Result<(), NoMemory> {
+fn check_rows(rt: &impl Abort, alloc: Global, width: Width, rows: &[Row]) {
     for row in rows {
-        check_row(rt, width, row)?;
+        check_row(rt, alloc, width, row);
     }
-    Ok(())
 }
 
 #[test]
-fn sums_and_differences_wrap_at_each_width(rt: HostRuntime) -> Result<(), Fail> {
+fn sums_and_differences_wrap_at_each_width(rt: HostRuntime) {
     for (count, rows) in [(8, BYTES), (1, ONE_BIT), (64, WIDE), (128, WIDEST)] {
-        check_rows(&rt, bits(count), rows)?;
+        check_rows(&rt, rt.alloc(), bits(count), rows);
     }
-    Ok(())
 }

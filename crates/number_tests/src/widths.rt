@@ -2,10 +2,20 @@
 
 ghost use Rattle.std.specs.Prelude.{◌≡◌, ◌<◌};
 
-use crate::build::bits;
+use crate::build::{bits, same};
 use sn_width::{LayoutFault, NoMemory, Num, Rel, StepFault, Steps, Width};
 use std::marker::Brand;
+use std::process::Abort;
 use std::sync::ledger::{Blank, Ledger};
+
+fn check_width(rt: &impl Abort, width: Width, count: u8, max: Num) {
+    assert!(rt; width.bits() == count);
+    same(rt, width.max(), max);
+}
+
+fn check_no_width(rt: &impl Abort, count: u8) {
+    assert!(rt; Width::new(count).is_none());
+}
 
 #[test]
 fn widths_have_1_to_128_bits(rt: HostRuntime) {
@@ -15,19 +25,18 @@ fn widths_have_1_to_128_bits(rt: HostRuntime) {
         (64, 18446744073709551615),
         (128, Num::MAX),
     ] {
-        assert_eq!(rt; bits(count).bits(), count);
-        assert_eq!(rt; bits(count).max(), max);
+        check_width(&rt, bits(count), count, max);
     }
-    assert!(rt; Width::new(0).is_none());
-    assert!(rt; Width::new(129).is_none());
+    check_no_width(&rt, 0);
+    check_no_width(&rt, 129);
 }
 
 #[test]
 fn arithmetic_wraps_at_each_width(rt: HostRuntime) {
-    assert_eq!(rt; bits(8).add(250, 10), 4);
-    assert_eq!(rt; bits(8).sub(4, 10), 250);
-    assert_eq!(rt; bits(128).add(Num::MAX, 1), 0);
-    assert_eq!(rt; bits(128).sub(0, Num::MAX), 1);
+    same(&rt, bits(8).add(250, 10), 4);
+    same(&rt, bits(8).sub(4, 10), 250);
+    same(&rt, bits(128).add(Num::MAX, 1), 0);
+    same(&rt, bits(128).sub(0, Num::MAX), 1);
 }
 
 /// Relations, and whether each holds where the left number is less, where both are the same, and where the left is greater.
@@ -40,14 +49,24 @@ const RELATIONS: &[(Rel, (bool, bool, bool))] = &[
     (Rel::Ge, (false, true, true)),
 ];
 
+/// Asserts whether the relation holds where the left number is less, the same and greater.
+fn check_relation(rt: &impl Abort, rel: Rel, wanted: (bool, bool, bool)) {
+    assert!(rt; rel.holds(4, 5) == wanted.0);
+    assert!(rt; rel.holds(5, 5) == wanted.1);
+    assert!(rt; rel.holds(6, 5) == wanted.2);
+}
+
+fn check_fault(rt: &impl Abort, fault: LayoutFault, number: u8) {
+    assert!(rt; fault.number() == number);
+}
+
 #[test]
 fn relations_and_faults_have_their_meaning(rt: HostRuntime) {
     for (rel, wanted) in RELATIONS {
-        let found = (rel.holds(4, 5), rel.holds(5, 5), rel.holds(6, 5));
-        assert_eq!(rt; found, *wanted);
+        check_relation(&rt, *rel, *wanted);
     }
-    assert_eq!(rt; LayoutFault::NoTag.number(), 1);
-    assert_eq!(rt; LayoutFault::NoMeta.number(), 7);
+    check_fault(&rt, LayoutFault::NoTag, 1);
+    check_fault(&rt, LayoutFault::NoMeta, 7);
     assert!(rt; StepFault::from(NoMemory) == StepFault::NoMemory);
 }
 

@@ -1,5 +1,6 @@
 //! Whether a refutation of a path condition is one, and whether a cause for leaving a condition undecided is
-//! one. Nothing here trusts the solver that found them, or shares its code.
+//! one. Nothing here trusts the solver that found them. With it it shares the cases of formulas and what a condition keeps,
+//! which are proved to be those of the definitions, and none of its search.
 #![tactic(auto)]
 
 mod agenda;

@@ -6,7 +6,7 @@ ghost use Rattle.refutation_check.specs.Decisions.{is_possible, AreManyCoupled, 
 
 use crate::outcome::Cause;
 use crate::values::{agrees, are_candidates, is_outside};
-use case_counts::{case_count, coupled_count, domain_of};
+use case_counts::{case_count, domain_of};
 use path_cond::PathCond;
 use sn_width::{NoMemory, Num, SymId};
 use std::alloc::Global;
@@ -52,7 +52,7 @@ fn is_simply_open(alloc: Global, cond: &PathCond) -> Result<bool, NoMemory>
 fn are_many_coupled(alloc: Global, cond: &PathCond, count: u64) -> Result<bool, NoMemory>
     ensures { IfOk result (λ yes. IsTrue yes ↔ AreManyCoupled cond.now count) }
 {
-    if count <= MOST_COUPLED || coupled_count(alloc, cond)? != count {
+    if count <= MOST_COUPLED || cond.coupled_count() != count {
         return Ok(false);
     }
     is_simply_open(alloc, cond)

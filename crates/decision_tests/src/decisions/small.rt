@@ -4,29 +4,27 @@ ghost use Rattle.std.specs.Prelude.{◌≡◌, ℕ, List, IfOk};
 ghost use Rattle.path_formula.specs.Typed.{IsTyped};
 ghost use Rattle.path_formula.specs.View.{view as tree_of};
 
-use super::decided;
+use super::{decided, is_accepted};
 use crate::build::Atom::*;
 use crate::build::Side::*;
-use crate::build::{Atom, Side, bits, formula_of, free, with, with_formula};
+use crate::build::{Atom, Side, bits, formula_of, free, let_go, with, with_formula};
 use crate::plain::is_true;
 use path_cond::PathCond;
 use path_formula::Formula;
 use path_solver::Decided;
-use refutation_check::check;
 use sn_width::{NoMemory, Num, Rel};
-use std::alloc::{AllocError, Global};
+use std::alloc::Global;
 use std::process::Abort;
-use std::test::Fail;
 
 /// Each relation of each of these sides.
-fn atoms_of(alloc: Global, all: &[(Side, Side)]) -> Result<Vec<Atom>, AllocError> {
+fn atoms_of(rt: &impl Abort, alloc: Global, all: &[(Side, Side)]) -> Vec<Atom> {
     let mut atoms = Vec::new(alloc);
     for (left, right) in all {
         for rel in [Rel::Eq, Rel::Ne, Rel::Lt, Rel::Le, Rel::Gt, Rel::Ge] {
-            atoms.push(Compare(*left, rel, *right))?;
+            atoms.push(Compare(*left, rel, *right)).expect(rt, "memory");
         }
     }
-    Ok(atoms)
+    atoms
 }
 
 /// The values of the two symbols.
@@ -43,26 +41,38 @@ struct Tally {
     refuted: u32,
 }
 
+fn check_tally(rt: &impl Abort, tally: &Tally, met: u32, refuted: u32) {
+    assert_eq!(rt; tally.met, met);
+    assert_eq!(rt; tally.refuted, refuted);
+}
+
 /// Counts the decision, and asserts that it is that of these least values, or of none.
-fn count<R: Abort + AllocGlobal>(
-    rt: &R,
+fn count_found(
+    rt: &impl Abort,
+    alloc: Global,
     cond: &PathCond,
+    found: &Decided,
     least: Option<Point>,
     tally: &mut Tally,
-) -> Result<(), Fail> {
-    match decided(rt.alloc(), cond)? {
+) {
+    match found {
         Decided::Sat { values } => {
             tally.met = tally.met.wrapping_add(1);
             assert!(rt; is_point(values.as_slice(), least));
         }
         Decided::Unsat { refutation } => {
             tally.refuted = tally.refuted.wrapping_add(1);
-            let is_accepted = check(rt.alloc(), &refutation, cond)?;
-            assert!(rt; least.is_none() && is_accepted);
+            assert!(rt; least.is_none() && is_accepted(rt, alloc, refutation, cond));
         }
         Decided::Undecided { .. } => panic!(rt; "undecided"),
     }
-    Ok(())
+}
+
+/// The same of the decision of a condition, which ends here.
+fn count(rt: &impl Abort, alloc: Global, cond: PathCond, least: Option<Point>, tally: &mut Tally) {
+    let found = decided(alloc, &cond).expect(rt, "memory");
+    count_found(rt, alloc, &cond, &found, least, tally);
+    let_go(cond);
 }
 
 fn is_point(values: &[Num], point: Option<Point>) -> bool {
@@ -97,38 +107,33 @@ fn least_of_all(atoms: &[Atom]) -> Option<Point> {
     None
 }
 
-/// Asserts the decision of the condition of these atoms.
-fn check_atoms<R: Abort + AllocGlobal>(
-    rt: &R,
-    free: &PathCond,
-    atoms: &[Atom],
-    tally: &mut Tally,
-) -> Result<(), Fail> {
-    let mut cond = free.fork()?;
+/// The condition with these atoms, over symbols of 2 bits.
+fn with_atoms(rt: &impl Abort, alloc: Global, free: &PathCond, atoms: &[Atom]) -> PathCond {
+    let mut cond = free.fork().expect(rt, "a copy");
     for atom in atoms {
-        cond = with(rt.alloc(), &cond, bits(2), *atom, true)?;
+        cond = with(rt, alloc, cond, bits(2), *atom, true);
     }
-    count(rt, &cond, least_of_all(atoms), tally)
+    cond
+}
+
+/// Asserts the decision of the condition of these atoms.
+fn check_atoms(rt: &impl Abort, alloc: Global, free: &PathCond, atoms: &[Atom], tally: &mut Tally) {
+    let cond = with_atoms(rt, alloc, free, atoms);
+    count(rt, alloc, cond, least_of_all(atoms), tally);
 }
 
 /// Asserts the decision of each condition of one, two or three of the atoms.
-fn check_all<R: Abort + AllocGlobal>(
-    rt: &R,
-    free: &PathCond,
-    atoms: &[Atom],
-    tally: &mut Tally,
-) -> Result<(), Fail> {
+fn check_all(rt: &impl Abort, alloc: Global, free: &PathCond, atoms: &[Atom], tally: &mut Tally) {
     for first in 0..atoms.len() {
-        check_atoms(rt, free, &[atoms[first]], tally)?;
+        check_atoms(rt, alloc, free, &[atoms[first]], tally);
         for second in first..atoms.len() {
-            check_atoms(rt, free, &[atoms[first], atoms[second]], tally)?;
+            check_atoms(rt, alloc, free, &[atoms[first], atoms[second]], tally);
             for third in second..atoms.len() {
                 let three = [atoms[first], atoms[second], atoms[third]];
-                check_atoms(rt, free, &three, tally)?;
+                check_atoms(rt, alloc, free, &three, tally);
             }
         }
     }
-    Ok(())
 }
 
 const FIVE: &[(Side, Side)] = &[
@@ -139,18 +144,18 @@ const FIVE: &[(Side, Side)] = &[
     (Symbol(1), Number(2)),
 ];
 
-fn check_thirty<R: Abort + AllocGlobal>(rt: &R, free: &PathCond) -> Result<(), Fail> {
-    let atoms = atoms_of(rt.alloc(), FIVE)?;
+fn check_thirty(rt: &impl Abort, alloc: Global, free: &PathCond) {
+    let atoms = atoms_of(rt, alloc, FIVE);
     let mut tally = Tally { met: 0, refuted: 0 };
-    check_all(rt, free, atoms.as_slice(), &mut tally)?;
-    assert_eq!(rt; (tally.met, tally.refuted), (3_632, 1_823));
-    Ok(())
+    check_all(rt, alloc, free, atoms.as_slice(), &mut tally);
+    check_tally(rt, &tally, 3_632, 1_823);
 }
 
 #[test]
-fn each_condition_of_up_to_three_of_thirty_atoms(rt: HostRuntime) -> Result<(), Fail> {
-    let free = free(rt.alloc(), bits(2), 2)?;
-    check_thirty(&rt, &free)
+fn each_condition_of_up_to_three_of_thirty_atoms(rt: HostRuntime) {
+    let free = free(&rt, rt.alloc(), bits(2), 2);
+    check_thirty(&rt, rt.alloc(), &free);
+    let_go(free);
 }
 
 fn negated(alloc: Global, part: Formula) -> Result<Formula, NoMemory>
@@ -174,25 +179,32 @@ fn either(alloc: Global, first: Formula, second: Formula) -> Result<Formula, NoM
 }
 
 /// The second atom and not the third.
-fn inner(alloc: Global, free: &PathCond, atoms: [Atom; 3]) -> Result<Formula, Fail>
+fn inner(
+    rt: &impl Abort,
+    alloc: Global,
+    free: &PathCond,
+    atoms: [Atom; 3],
+) -> Result<Formula, NoMemory>
     ensures { IfOk result (λ f. IsTyped free.now.widths (tree_of f)) }
 {
-    let second = formula_of(alloc, free, bits(2), atoms[1])?;
-    let third = formula_of(alloc, free, bits(2), atoms[2])?;
-    Ok(both(alloc, second, negated(alloc, third)?)?)
+    let third = formula_of(rt, alloc, free, bits(2), atoms[2]);
+    let other = negated(alloc, third)?;
+    let second = formula_of(rt, alloc, free, bits(2), atoms[1]);
+    Ok(both(alloc, second, other)?)
 }
 
 /// The condition of one formula: the first atom, or the second and not the third.
 fn of_compound(
+    rt: &impl Abort,
     alloc: Global,
     free: &PathCond,
     atoms: [Atom; 3],
     holds: bool,
-) -> Result<PathCond, Fail> {
-    let first = formula_of(alloc, free, bits(2), atoms[0])?;
-    let inner = inner(alloc, free, atoms)?;
+) -> Result<PathCond, NoMemory> {
+    let inner = inner(rt, alloc, free, atoms)?;
+    let first = formula_of(rt, alloc, free, bits(2), atoms[0]);
     let formula = either(alloc, first, inner)?;
-    with_formula(alloc, free, formula, holds)
+    Ok(with_formula(rt, alloc, free, formula, holds))
 }
 
 /// The least values at which this formula has the truth.
@@ -208,48 +220,49 @@ fn least_of_compound(atoms: [Atom; 3], holds: bool) -> Option<Point> {
 }
 
 /// Asserts the decision of the condition of such a formula.
-fn check_compound<R: Abort + AllocGlobal>(
-    rt: &R,
+fn check_compound(
+    rt: &impl Abort,
+    alloc: Global,
     free: &PathCond,
     atoms: [Atom; 3],
     holds: bool,
     tally: &mut Tally,
-) -> Result<(), Fail> {
-    let cond = of_compound(rt.alloc(), free, atoms, holds)?;
-    count(rt, &cond, least_of_compound(atoms, holds), tally)
+) {
+    let cond = of_compound(rt, alloc, free, atoms, holds).expect(rt, "memory");
+    count(rt, alloc, cond, least_of_compound(atoms, holds), tally);
 }
 
 /// Asserts the decisions of the conditions of such formulas of any three of the atoms.
-fn check_compounds<R: Abort + AllocGlobal>(
-    rt: &R,
+fn check_compounds(
+    rt: &impl Abort,
+    alloc: Global,
     free: &PathCond,
     atoms: &[Atom],
     tally: &mut Tally,
-) -> Result<(), Fail> {
+) {
     for first in atoms {
         for second in atoms {
             for third in atoms {
                 let all = [*first, *second, *third];
-                check_compound(rt, free, all, true, tally)?;
-                check_compound(rt, free, all, false, tally)?;
+                check_compound(rt, alloc, free, all, true, tally);
+                check_compound(rt, alloc, free, all, false, tally);
             }
         }
     }
-    Ok(())
 }
 
 const TWO: &[(Side, Side)] = &[(Plus(0, 3), Plus(1, 2)), (Plus(1, 2), Number(1))];
 
-fn check_twelve<R: Abort + AllocGlobal>(rt: &R, free: &PathCond) -> Result<(), Fail> {
-    let atoms = atoms_of(rt.alloc(), TWO)?;
+fn check_twelve(rt: &impl Abort, alloc: Global, free: &PathCond) {
+    let atoms = atoms_of(rt, alloc, TWO);
     let mut tally = Tally { met: 0, refuted: 0 };
-    check_compounds(rt, free, atoms.as_slice(), &mut tally)?;
-    assert_eq!(rt; (tally.met, tally.refuted), (3_382, 74));
-    Ok(())
+    check_compounds(rt, alloc, free, atoms.as_slice(), &mut tally);
+    check_tally(rt, &tally, 3_382, 74);
 }
 
 #[test]
-fn or_and_not_of_three_of_twelve_atoms(rt: HostRuntime) -> Result<(), Fail> {
-    let free = free(rt.alloc(), bits(2), 2)?;
-    check_twelve(&rt, &free)
+fn or_and_not_of_three_of_twelve_atoms(rt: HostRuntime) {
+    let free = free(&rt, rt.alloc(), bits(2), 2);
+    check_twelve(&rt, rt.alloc(), &free);
+    let_go(free);
 }
