@@ -12,7 +12,7 @@ use Rattle.path_exec.specs.Views.{Views}
 use Rattle.path_exec.specs.Works.{AreWorks, all_tasks, tasks_of}
 use Rattle.path_exec.specs.Paying.{Holds}
 use Rattle.path_exec.specs.Receiving.{IsSame, Receiving, TakesOwn}
-use Rattle.path_exec.specs.Keeping.{IsOwnOrNone, Keeps, Runs, made_of, weights}
+use Rattle.path_exec.specs.Keeping.{IsOwnOrNone, Keeps, Runs, made_of}
 use Rattle.path_exec.specs.declared.exploration.Ended.{Ended}
 use Rattle.path_exec.specs.declared.exploration.Ended.TheVariants.{Whole, Partial, Stopped}
 use Rattle.path_exec.specs.Ending.{EndsEarly, EndsStopped, EndsWhole, Explored, LeftAs}
@@ -123,9 +123,6 @@ module _ {P O N D T : Type 0} (x : Views P O N D T) (exact : StandingIsExact x.s
 -- ---- the same receiver
 
 module _ {T : Type 0} where
-  pub same_still : (m : Receiving T) → IsSame m m
-  same_still m = record { target = refl; stops = omega arith; takes = λ item h. h }
-
   pub same_then : (m n o : Receiving T) → IsSame m n → IsSame n o → IsSame m o
   same_then m n o h k = record {
     target = k.target ∙ h.target;
@@ -149,14 +146,6 @@ module _ {P O N D T : Type 0} (x : Views P O N D T) where
   pub runs_pend : (limit count : ℕ) (m : Receiving T) (w : Work N D) (rest : List (Work N D)) (first mid : ℕ) → Runs x limit count m (tasks_of x w ++ all_tasks x rest) first mid
       → AllByRecursion (λ (task : Task). IsPending x.start task.0 task.1) (tasks_of x w)
   runs_pend limit count m w rest first mid h = all_first _ (tasks_of x w) (all_tasks x rest) h.holds.stands.pending
-
-  -- the next step weighs less
-  pub step_falls : (old rest new : List (Work N D)) (w : Work N D) (made : Option T) (before after : ℕ) → old ≡ rest ++ w ∷ [] → Keeps x (tasks_of x w) rest new made before after
-      → weights (all_tasks x new) < weights (all_tasks x old)
-  step_falls old rest new w made before after e k =
-      let f = k.falls in
-      let t : weights (all_tasks x old) ≡ weights (tasks_of x w ++ all_tasks x rest) = ap weights (popped_tasks x old rest w e) in
-      omega (arith, f, t)
 
 -- nothing was handed over yet
 pub runs_first : {P O N D T : Type 0} (x : Views P O N D T) (below : StepsStand x.start) (limit : ℕ) (m : Receiving T) (before : ℕ) → 0 < limit → m.StandsFor []

@@ -13,7 +13,7 @@ mod visits;
 
 pub use exploration::{Ended, explore_into};
 pub use guided::{FollowFault, follow};
-pub use kept::{Kept, explore};
+pub use kept::Kept;
 pub use receiver::{Receiver, Took};
 pub use stepping::{first_next, next_behind, side_behind};
 pub use visits::arrivals;

@@ -9,7 +9,7 @@ use Rattle.path_exec.proofs.exploration.leave.Goals as goal
 pub put_back-requires : goal.put_back-requires
 put_back-requires g c =
     let x = g.E.Engine.views c.args.engine.now in
-    let popped : c.loop-next.works.items ≡ c.pop.new.self.items ++ c.in-Some.next ∷ [] = search rules in
+    let popped : c.loop-next.works.items ≡ c.pop.new.self.items ++ c.in-Some.next ∷ [] = c.in-Some.ensures.items in
     (popped_works x c.loop-next.works.items c.pop.new.self.items c.in-Some.next popped c.loop-next.invariant.works).0.left
 
 pub take-requires : goal.take-requires
@@ -37,7 +37,7 @@ loop-next-preserved g c =
     let seen = g.K.Receiver.seen in
     let m = seen c.loop-next.out in
     let n = seen c.take.new.self in
-    let popped : c.loop-next.works.items ≡ c.pop.new.self.items ++ c.in-Some.next ∷ [] = search rules in
+    let popped : c.loop-next.works.items ≡ c.pop.new.self.items ++ c.in-Some.next ∷ [] = c.in-Some.ensures.items in
     let works = popped_works x c.loop-next.works.items c.pop.new.self.items c.in-Some.next popped c.loop-next.invariant.works in
     record {
       works = put_back_works x c.in-Some.next c.pop.new.self.items c.put_back.new.works.items works.0 c.in_ok-put_back.ensures works.1;
@@ -50,7 +50,7 @@ loop-next-preserved g c =
 pub loop-next-smaller : goal.loop-next-smaller
 loop-next-smaller g c =
     let x = g.E.Engine.views c.args.engine.now in
-    let popped : c.loop-next.works.items ≡ c.pop.new.self.items ++ c.in-Some.next ∷ [] = search rules in
+    let popped : c.loop-next.works.items ≡ c.pop.new.self.items ++ c.in-Some.next ∷ [] = c.in-Some.ensures.items in
     let works = popped_works x c.loop-next.works.items c.pop.new.self.items c.in-Some.next popped c.loop-next.invariant.works in
     leaves_falls x c.loop-next.works.items c.pop.new.self.items c.put_back.new.works.items c.in-Some.next popped works.0 c.in_ok-put_back.ensures
 
@@ -62,7 +62,7 @@ returns-in-Stop-clause-left g c =
     let seen = g.K.Receiver.seen in
     let m = seen c.loop-next.out in
     let n = seen c.take.new.self in
-    let popped : c.loop-next.works.items ≡ c.pop.new.self.items ++ c.in-Some.next ∷ [] = search rules in
+    let popped : c.loop-next.works.items ≡ c.pop.new.self.items ++ c.in-Some.next ∷ [] = c.in-Some.ensures.items in
     let works = popped_works x c.loop-next.works.items c.pop.new.self.items c.in-Some.next popped c.loop-next.invariant.works in
     let took = c.in-Stop.ensures.took in
     let made = left_made x c.in-Some.next works.0 c.in_ok-record.record (subst (λ d. IsMade x (unexplored ((x.node_at c.in-Some.next.node).decisions ++ d ∷ [])) c.in_ok-record.record) c.offer_at-decision.ensures c.in_ok-record.ensures) in

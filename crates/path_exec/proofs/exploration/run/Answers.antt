@@ -7,14 +7,14 @@ use Rattle.path_exec.proofs.exploration.run.Goals as goal
 pub take_next-requires-clause-work : goal.take_next-requires-clause-work
 take_next-requires-clause-work g c =
     let x = g.E.Engine.views c.args.engine.now in
-    let popped : c.loop-count.works.items ≡ c.pop.new.self.items ++ c.in-Some.next ∷ [] = search rules in
+    let popped : c.loop-count.works.items ≡ c.pop.new.self.items ++ c.in-Some.next ∷ [] = c.in-Some.ensures.items in
     (popped_works x c.loop-count.works.items c.pop.new.self.items c.in-Some.next popped c.loop-count.invariant.works).0
 
 pub take_next-requires-clause-pending : goal.take_next-requires-clause-pending
 take_next-requires-clause-pending g c =
     let x = g.E.Engine.views c.args.engine.now in
     let m = g.K.Receiver.seen c.loop-count.out in
-    let popped : c.loop-count.works.items ≡ c.pop.new.self.items ++ c.in-Some.next ∷ [] = search rules in
+    let popped : c.loop-count.works.items ≡ c.pop.new.self.items ++ c.in-Some.next ∷ [] = c.in-Some.ensures.items in
     runs_pend x c.args.limit c.loop-count.count m c.in-Some.next c.pop.new.self.items c.requires.runs.0 c.loop-count.steps
     (runs_popped x c.args.limit c.loop-count.count m c.loop-count.works.items c.pop.new.self.items c.in-Some.next c.requires.runs.0 c.loop-count.steps popped
     (c.loop-count.invariant.runs c.requires.runs.0 c.requires.runs.1))
@@ -45,7 +45,7 @@ loop-count-preserved-in_default-2 g c =
     let x = g.E.Engine.views c.args.engine.now in
     let exact = c.records_that_stand_are_exact.ensures x.start c.requires.splits in
     let m = g.K.Receiver.seen c.loop-count.out in
-    let popped : c.loop-count.works.items ≡ c.pop.new.self.items ++ c.in-Some.next ∷ [] = search rules in
+    let popped : c.loop-count.works.items ≡ c.pop.new.self.items ++ c.in-Some.next ∷ [] = c.in-Some.ensures.items in
     let works = popped_works x c.loop-count.works.items c.pop.new.self.items c.in-Some.next popped c.loop-count.invariant.works in
     let keeps = c.in_ok-record.ensures in
     record {
@@ -65,7 +65,7 @@ loop-count-preserved g c =
     let seen = g.K.Receiver.seen in
     let m = seen c.loop-count.out in
     let n = seen c.take.new.self in
-    let popped : c.loop-count.works.items ≡ c.pop.new.self.items ++ c.in-Some.next ∷ [] = search rules in
+    let popped : c.loop-count.works.items ≡ c.pop.new.self.items ++ c.in-Some.next ∷ [] = c.in-Some.ensures.items in
     let works = popped_works x c.loop-count.works.items c.pop.new.self.items c.in-Some.next popped c.loop-count.invariant.works in
     let keeps = c.in_ok-record.ensures in
     record {
@@ -86,7 +86,7 @@ returns-in-Stop-clause-ran g c =
     let seen = g.K.Receiver.seen in
     let m = seen c.loop-count.out in
     let n = seen c.take.new.self in
-    let popped : c.loop-count.works.items ≡ c.pop.new.self.items ++ c.in-Some.next ∷ [] = search rules in
+    let popped : c.loop-count.works.items ≡ c.pop.new.self.items ++ c.in-Some.next ∷ [] = c.in-Some.ensures.items in
     let took = c.in-Stop.ensures.took in
     λ before h. runs_stopped x exact c.args.limit c.loop-count.count (seen c.args.out.now).stops m n (tasks_of x c.in-Some.next) c.pop.new.self.items c.take_next.new.works.items _ c.in-Some-2.record
     before c.loop-count.steps c.take_next.new.steps c.in-Some-2.is c.loop-count-test.true
