@@ -6,5 +6,4 @@ pub mod Turns
 pub mod Bases
 pub mod Engaging
 pub mod Filling
-pub mod Copying
 pub mod Explored

@@ -21,7 +21,7 @@ use Rattle.port_moves.specs.Hops.{AreLeft}
 use Rattle.code_frames.specs.declared.frame.Frame.{Frame}
 use Rattle.code_frames.specs.declared.frame.Move.{Move}
 use Rattle.code_frames.specs.Frames as code
-use Rattle.code_frames.specs.Frames.{course_after, course_frames, course_left, exit_of, from, of_frame}
+use Rattle.code_frames.specs.Frames.{course_after, course_frames, course_left, from, of_frame}
 use Rattle.sym_state.specs.Symbolic.{Rest, Symbolic, choices_of, rest_of, with_place}
 use Rattle.exact_records.specs.Records.{SymStart, SymTree}
 use Rattle.path_exec.specs.declared.engine.Moved.{Moved}

@@ -26,7 +26,6 @@ impl Origin for Brand {
 }
 
 /// A state of a run of this exploration.
-#[derive(Drop)]
 pub struct Run<B: Origin> {
     state: SymState,
     of: PhantomData<B>,
@@ -90,5 +89,13 @@ impl<B: Origin> Run<B> {
     {
         let Run { state, of: _ } = self;
         state
+    }
+}
+
+// Written out, and not derived, so that the proof of a function that lets a run go sees a call.
+impl<B: Origin> Drop for Run<B> {
+    fn drop(self) {
+        let Run { state, of: _ } = self;
+        drop(state);
     }
 }
