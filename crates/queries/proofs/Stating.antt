@@ -17,7 +17,7 @@ use Rattle.question_meaning.specs.Formulas.{asked_left, asked_on, explored}
 use Rattle.question_meaning.specs.Questions.{Field, Question, reach, invariant, visible, ends_at, if_delivered, same_place, states_at}
 use Rattle.queries.specs.declared.states.PathRun.{PathRun}
 use Rattle.queries.specs.declared.states.Stop.{Stop}
-use Rattle.queries.specs.Asked.{looks_at}
+use Rattle.queries.specs.Asked.{looks_at, looks_at_end}
 use Rattle.queries.specs.Paths.{AreNoted, ArriveAt, AreStatesOf, IsPathRun, delivered_at, ends_with, has_place, noted_at, state_at_end}
 use Rattle.queries.proofs.PlaceLemmas.{by_test, else_false, is_same, not_true, same_is, then_false}
 use Rattle.queries.proofs.Ways.{none_some, same_way, some_same, start_is}
@@ -121,15 +121,21 @@ module _ (net : Network) (i : Entry) (hops : ℕ) where
         let same = same_way net i hops run.decisions.now r.way way r.leads leads in
         sym (none_there place way.arrivals (sym (ap (has_place place) (r.places ∙ ap places_on same)) ∙ none))
 
-    pub states_at_end : (place : Place) (field : Field) (states : List Symbolic) → states ≡ state_at_end run place
+    ends_where : (place : Place) (field : Field) (states : List Symbolic) → states ≡ state_at_end run place
         → AreStatesOf net i hops (invariant place field) run.decisions.now states
-    states_at_end place field states e = λ way leads.
+    ends_where place field states e = λ way leads.
         let same = same_way net i hops run.decisions.now r.way way r.leads leads in
         let here : ends_with place run.places.items ≡ ends_at place false r.way.arrivals = ap (ends_with place) r.places ∙ ends_are place r.way.arrivals in
         ap (map (λ (x : Symbolic). x.carried)) e
         ∙ (delivered_so run.how place run.places.items (ends_at place false r.way.arrivals) run.state r.progress.state here (sym r.carries)
         ∙ (ap (asked_left (invariant place field) r.way.arrivals) (sym r.ended)
         ∙ ap (asked_on (invariant place field)) same))
+
+    pub states_at_end : (q : Question) (place : Place) → looks_at_end q ≡ Some place → (states : List Symbolic) → states ≡ state_at_end run place
+        → AreStatesOf net i hops q run.decisions.now states
+    states_at_end (reach own test) place looks states e = absurd (none_some looks)
+    states_at_end (invariant own field) place looks states e = ends_where own field states (e ∙ ap (state_at_end run) (sym (some_same looks)))
+    states_at_end (visible own field) place looks states e = absurd (none_some looks)
 
     -- its decisions lead somewhere
     pub not_closed : ((t : SymTree) (ds : List Decision) (index : ℕ) → IsFirstClosed t ds index → route t ds ≡ None) → (index : ℕ)

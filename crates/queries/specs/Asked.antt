@@ -30,6 +30,12 @@ looks_at (questions.reach place test) = Some place
 looks_at (questions.invariant place field) = None
 looks_at (questions.visible place field) = Some place
 
+-- the port at which it looks where a walk is delivered
+abbrev pub looks_at_end : questions.Question → Option Place
+looks_at_end (questions.reach place test) = None
+looks_at_end (questions.invariant place field) = Some place
+looks_at_end (questions.visible place field) = None
+
 -- the port that words name, or there is none
 abbrev pub FoundPlace : Network → RawPlace → Option Place → Type 0
 FoundPlace net raw None = HasNoPlace net raw

@@ -1,5 +1,5 @@
 -- What is kept of questions.
-use Rattle.std.specs.Prelude.{ℕ, zero, suc, ◌≡◌, Bool, false, true, List, [], ◌∷◌, length}
+use Rattle.std.specs.Prelude.{ℕ, zero, suc, ◌≡◌, Bool, false, true, List, [], ◌∷◌, ◌++◌, length}
 use Rattle.std.specs.List.{AllByRecursion}
 use Rattle.net_check.specs.Network.{Network, Entry}
 use Rattle.net_check.specs.Sound.{AreOfOneJob}
@@ -11,6 +11,8 @@ use Rattle.question_meaning.specs.Questions.{Question}
 use Rattle.question_meaning.specs.Telling.{IsKept, Outcome, found, left_open, saying}
 use Rattle.queries.specs.Asked.{question_seen}
 use Rattle.queries.specs.Deciding.{entry_of, net_of}
+use Rattle.queries.specs.declared.judging.Judged.{Judged}
+use Rattle.queries.specs.declared.judging.Judged.TheVariants.{Hit, Open, RuledOut}
 use Rattle.queries.specs.declared.kept.Kept.{Kept}
 use Rattle.queries.specs.declared.kept.Kept.TheVariants.{Found, LeftOpen}
 use Rattle.queries.specs.declared.question.Question as code
@@ -20,6 +22,17 @@ use Rattle.queries.specs.declared.subject.Subject.{Subject}
 abbrev pub outcome_seen : Kept → Outcome
 outcome_seen (Found number values) = found number values
 outcome_seen (LeftOpen numbers) = left_open numbers.items
+
+-- with one number more of records that leave the question open
+abbrev pub left_open_with : ℕ → Outcome → Outcome
+left_open_with number (found n values) = found n values
+left_open_with number (left_open ns) = left_open (ns ++ number ∷ [])
+
+-- with what the record of this number says, where no hit was known
+abbrev pub outcome_with : ℕ → Judged → Outcome → Outcome
+outcome_with number (Hit values) outcome = found number values
+outcome_with number Open outcome = left_open_with number outcome
+outcome_with number RuledOut outcome = outcome
 
 -- the question has its hit
 abbrev pub is_found : Kept → Bool

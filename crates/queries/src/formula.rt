@@ -39,6 +39,9 @@ fn test_formula(
     ensures { IfOk result (λ f. view f ≡ held_or ((terms unknowns).negation (terms unknowns).always)
         (truth_in (terms unknowns) (scene_at (network net.now) place.node) (cond_tree test.now) state.now.carried)) }
 {
+    let scopes = state.scopes().fork()?;
+    let layers = state.layers().fork()?;
+    let carried = Carried { layers, scopes };
     let o = Terms { unknowns };
     let turns = Shared::empty();
     let at = Scene {
@@ -46,9 +49,6 @@ fn test_formula(
         node: place.node,
         turns: &turns,
     };
-    let layers = state.layers().fork()?;
-    let scopes = state.scopes().fork()?;
-    let carried = Carried { layers, scopes };
     match truth_of(alloc, &o, &at, &carried, test) {
         Ok(formula) => Ok(formula),
         Err(StepFault::Layout(_)) => o.negation(alloc, o.always()),

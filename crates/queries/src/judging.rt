@@ -2,7 +2,7 @@
 
 ghost use Rattle.std.specs.Prelude.{IfOk, true};
 ghost use Rattle.std.specs.List.{AllByRecursion};
-ghost use Rattle.interval_solver.specs.Domains.{AreDomainsOf};
+ghost use Rattle.interval_solver.specs.Domains.{AreDomainsBeforeLast, AreDomainsOf};
 ghost use Rattle.path_cond.specs.Seen.{seen};
 ghost use Rattle.path_formula.specs.Typed.{IsTyped};
 ghost use Rattle.path_formula.specs.View.{view};
@@ -37,6 +37,25 @@ pub(crate) enum Judged {
     RuledOut,
 }
 
+/// Decides a condition that has these domains.
+fn decide_trees(alloc: Global, condition: &PathCond, domains: &Domains) -> Result<Decided, NoMemory>
+    requires { AreDomainsOf condition.now domains.now }
+    ensures { IfOk result (Decides (seen view condition.now)) }
+{
+    a_condition_is_judged_by_its_trees();
+    condition.formulas_are_typed();
+    decide(alloc, condition, domains)
+}
+
+/// The same of a condition that has one formula more than the one whose domains these are.
+fn decide_longer(alloc: Global, longer: &PathCond, domains: &Domains) -> Result<Decided, NoMemory>
+    requires { AreDomainsBeforeLast longer.now domains.now }
+    ensures { IfOk result (Decides (seen view longer.now)) }
+{
+    let met = domains.meet(alloc, longer)?;
+    decide_trees(alloc, longer, &met)
+}
+
 /// Decides a condition with one formula more, which must hold.
 fn decide_with(
     alloc: Global,
@@ -49,11 +68,8 @@ fn decide_with(
     ensures { IfOk result (Decides (with_test (seen view condition.now) (view formula) true)) }
 {
     one_formula_more_may_be_met();
-    a_condition_is_judged_by_its_trees();
     let longer = condition.with(alloc, formula, true)?;
-    let domains = domains.meet(alloc, &longer)?;
-    longer.formulas_are_typed();
-    decide(alloc, &longer, &domains)
+    decide_longer(alloc, &longer, domains)
 }
 
 /// What the conditions say that have the formula of one of the states more each: the first that is met, or one that is undecided, or

@@ -7,7 +7,7 @@ ghost use Rattle.question_meaning.specs.Laws.{IsOfInjection};
 ghost use Rattle.queries.specs.Asked.{question_seen};
 ghost use Rattle.queries.specs.Deciding.{entry_of, net_of};
 ghost use Rattle.queries.specs.Judged.{IsSeenOf, IsWellSeen};
-ghost use Rattle.queries.specs.Holding.{AreKept, AreOwn, IsKeptOf};
+ghost use Rattle.queries.specs.Holding.{AreKept, AreOwn, IsKeptOf, left_open_with, outcome_seen, outcome_with};
 
 use crate::judging::Judged;
 use crate::kept::Kept;
@@ -19,7 +19,34 @@ use path_solver::laws::verdicts_on_trees_are_exact;
 use sn_width::NoMemory;
 use std::alloc::Global;
 
-/// Takes one record more into account.
+/// Notes what the record of this number says of a question that has no hit.
+fn take_in(number: u64, judged: Judged, kept: &mut Kept) -> Result<(), NoMemory>
+    ensures { IfOk result (λ done. outcome_seen kept.new ≡ outcome_with number judged (outcome_seen kept.old)) }
+{
+    match judged {
+        Judged::Hit { values } => {
+            *kept = Kept::Found { number, values };
+            Ok(())
+        }
+        Judged::Open => leave_open(number, kept),
+        Judged::RuledOut => Ok(()),
+    }
+}
+
+/// Notes one number more of records that leave a question open.
+fn leave_open(number: u64, kept: &mut Kept) -> Result<(), NoMemory>
+    ensures { IfOk result (λ done. outcome_seen kept.new ≡ left_open_with number (outcome_seen kept.old)) }
+{
+    match kept {
+        Kept::Found { .. } => Ok(()),
+        Kept::LeftOpen { numbers } => {
+            numbers.push(number)?;
+            Ok(())
+        }
+    }
+}
+
+/// Takes one record more into account, unless the question has its hit.
 pub(crate) fn keep(
     alloc: Global,
     subject: &Subject<'_>,
@@ -37,20 +64,11 @@ pub(crate) fn keep(
         → IsKeptOf (net_of subject.now) (entry_of subject.now) subject.now.hops (items ++ x ∷ []) (question_seen question.now) kept.new) }
 {
     verdicts_on_trees_are_exact();
-    match kept {
-        Kept::Found { .. } => Ok(()),
-        Kept::LeftOpen { numbers } => match judge(alloc, subject, question, seen)? {
-            Judged::Hit { values } => {
-                *kept = Kept::Found { number, values };
-                Ok(())
-            }
-            Judged::Open => {
-                numbers.push(number)?;
-                Ok(())
-            }
-            Judged::RuledOut => Ok(()),
-        },
+    if kept.is_found() {
+        return Ok(());
     }
+    let judged = judge(alloc, subject, question, seen)?;
+    take_in(number, judged, kept)
 }
 
 /// Takes one record more into account for each question.

@@ -17,6 +17,18 @@ pub enum Kept {
     LeftOpen { numbers: Vec<u64> },
 }
 
+impl Kept {
+    /// Whether the question has its hit.
+    pub(crate) fn is_found(&self) -> bool
+        ensures { result ≡ is_found self.now }
+    {
+        match self {
+            Kept::Found { .. } => true,
+            Kept::LeftOpen { .. } => false,
+        }
+    }
+}
+
 /// Whether each question has its hit.
 pub(crate) fn are_found(kept: &[Kept]) -> bool
     ensures { result ≡ list_all is_found kept.now }

@@ -3,7 +3,7 @@
 ghost use Rattle.std.specs.Prelude.{◌≡◌, IfOk, Some};
 ghost use Rattle.net_check.specs.Sound.{AreOfOneJob};
 ghost use Rattle.question_meaning.specs.Laws.{IsOfInjection};
-ghost use Rattle.queries.specs.Asked.{looks_at, question_seen};
+ghost use Rattle.queries.specs.Asked.{looks_at, looks_at_end, question_seen};
 ghost use Rattle.queries.specs.Deciding.{entry_of, net_of};
 ghost use Rattle.queries.specs.Paths.{AreNoted, AreStatesOf, IsJudgedOn, IsPathRun};
 ghost use Rattle.queries.specs.Judged.{IsWellSeen, SaysOf};
@@ -66,6 +66,23 @@ fn judge_at(
     judge_on(alloc, subject, question, run, &states)
 }
 
+/// What a path says of a question that looks at its end, where it is delivered at this port.
+fn judge_at_end(
+    alloc: Global,
+    subject: &Subject<'_>,
+    question: &Question<'_>,
+    run: &PathRun<'_>,
+    place: Place,
+) -> Result<Judged, NoMemory>
+    requires own { IsOfInjection (net_of subject.now) (entry_of subject.now) (question_seen question.now) }
+    requires path { IsPathRun (net_of subject.now) (entry_of subject.now) subject.now.hops run.now }
+    requires looks { looks_at_end (question_seen question.now) ≡ Some place }
+    ensures { IfOk result (IsJudgedOn (net_of subject.now) (entry_of subject.now) subject.now.hops (question_seen question.now) run.now.decisions.now) }
+{
+    let states = state_at_end(alloc, run, place)?;
+    judge_on(alloc, subject, question, run, &states)
+}
+
 /// What a path says of a question.
 fn judge_path(
     alloc: Global,
@@ -82,10 +99,7 @@ fn judge_path(
 {
     match question {
         Question::Reach { place, .. } => judge_at(alloc, subject, question, run, stops, *place),
-        Question::Invariant { place, .. } => {
-            let states = state_at_end(alloc, run, *place)?;
-            judge_on(alloc, subject, question, run, &states)
-        }
+        Question::Invariant { place, .. } => judge_at_end(alloc, subject, question, run, *place),
         Question::Visible { place, .. } => judge_at(alloc, subject, question, run, stops, *place),
     }
 }

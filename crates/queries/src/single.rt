@@ -1,11 +1,12 @@
 //! The answer to one question, from records.
 
-ghost use Rattle.std.specs.Prelude.{ℕ, IfErr, IfOk};
+ghost use Rattle.std.specs.Prelude.{◌≡◌, ◌++◌, ◌∷◌, [], ℕ, IfErr, IfOk, List, length};
 ghost use Rattle.net_check.specs.Network.{entry, network};
 ghost use Rattle.net_check.specs.Sound.{AreOfOneJob};
 ghost use Rattle.sefl_syntax.specs.Views.{ask_tree};
 ghost use Rattle.exact_records.specs.Packets.{AreExactFor};
-ghost use Rattle.exact_records.specs.View.{record_trees};
+ghost use Rattle.exact_records.specs.Records.{RecordTree};
+ghost use Rattle.exact_records.specs.View.{record_tree, record_trees};
 ghost use Rattle.question_meaning.specs.Laws.{IsOfInjection};
 ghost use Rattle.queries.specs.Answers.{IsAnswerTo, answer_seen};
 ghost use Rattle.queries.specs.Asked.{IsFault, question_seen};
@@ -26,6 +27,25 @@ use sefl_syntax::Ask;
 use sn_width::NoMemory;
 use std::alloc::Global;
 
+/// Takes the record of this number into account for one question.
+fn keep_one(
+    alloc: Global,
+    subject: &Subject<'_>,
+    question: &Question<'_>,
+    number: u64,
+    item: &Record,
+    kept: &mut Kept,
+) -> Result<(), NoMemory>
+    requires job { AreOfOneJob (net_of subject.now) (entry_of subject.now) }
+    requires own { IsOfInjection (net_of subject.now) (entry_of subject.now) (question_seen question.now) }
+    ensures { IfOk result (λ done. (items : List RecordTree) → number ≡ length items
+        → IsKeptOf (net_of subject.now) (entry_of subject.now) subject.now.hops items (question_seen question.now) kept.old
+        → IsKeptOf (net_of subject.now) (entry_of subject.now) subject.now.hops (items ++ record_tree item.now ∷ []) (question_seen question.now) kept.new) }
+{
+    let seen = see(alloc, subject, &[], &[], item)?;
+    keep(alloc, subject, question, number, &seen, kept)
+}
+
 /// What records tell of a question.
 fn told(
     alloc: Global,
@@ -42,8 +62,7 @@ fn told(
         numbers: Vec::new(alloc),
     };
     for record in records {
-        let seen = see(alloc, subject, &[], &[], record)?;
-        keep(alloc, subject, question, number, &seen, &mut kept)?;
+        keep_one(alloc, subject, question, number, record, &mut kept)?;
         let Some(next) = number.checked_add(1) else {
             return Err(NoMemory);
         };

@@ -1,6 +1,6 @@
 use Rattle.std.proofs.Common.{◌∙◌, ◌+◌, ◌≤◌, [], length, take, refl, sym, ap, subst, arith, List}
 use Rattle.path_records.specs.declared.records.Record.{Record}
-use Rattle.exact_records.specs.View.{record_tree, record_trees}
+use Rattle.exact_records.specs.View.{record_trees}
 use Rattle.question_meaning.specs.Telling.{IsKept, left_open, saying}
 use Rattle.queries.specs.Asked.{question_seen}
 use Rattle.queries.specs.Deciding.{entry_of, net_of}
@@ -31,8 +31,8 @@ loop-record-preserved c =
     record {
       counted = c.in-Some.ensures.1 ∙ ap (λ m. m + 1) c.loop-record.invariant.counted;
       told = next_told net i hops q records n x c.loop-record-test.true c.record-item.is _
-          (c.in_ok-keep.ensures (record_trees (take n records)) (record_tree x)
-          (c.loop-record.invariant.counted ∙ sym (count_so_far records n c.loop-record-test.true)) c.in_ok-seen.ensures.seen c.loop-record.invariant.told);
+          (c.in_ok-keep_one.ensures (record_trees (take n records))
+          (c.loop-record.invariant.counted ∙ sym (count_so_far records n c.loop-record-test.true)) c.loop-record.invariant.told);
     }
 
 pub returns : goal.returns
