@@ -18,7 +18,7 @@ use std::alloc::Global;
 use std::marker::{Brand, Model};
 use std::sync::ledger::{Blank, Ledger};
 use sym_state::SymState;
-use symbolic_engine::{Explorer, Finished, Origin, Waiting};
+use symbolic_engine::{Explorer, Finished, Origin, Run, Waiting};
 
 /// The runs of a net from an injection, which contracts see as the condition of the injection alone.
 #[derive(Drop)]
@@ -52,6 +52,15 @@ fn is_own<B: Origin>(next: &Next<Finished<B>, Waiting<'_, B>>)
         Next::AtEnd { over } => over.run.is_own(),
         Next::AtNode { node, offer: _ } => node.run.is_own(),
     }
+}
+
+/// The condition where a run of this exploration stands.
+fn condition_of<B: Origin>(run: &Run<B>) -> Result<PathCond, NoMemory>
+    ensures own { IsRunOf B.start run.now }
+    ensures condition { IfOk result (λ own. own ≡ run.now.condition) }
+{
+    let condition = run.state().condition().fork()?;
+    Ok(condition)
 }
 
 /// The first stop, with a counter of its own.
@@ -129,8 +138,7 @@ impl<'a, B: Origin> Guide for Runs<'a, B> {
         let Some(place) = side_behind(alloc, &self.engine, &stop.next, decision)? else {
             return Ok(None);
         };
-        place.run.is_own();
-        let condition = place.run.state().condition().fork()?;
+        let condition = condition_of(&place.run)?;
         Ok(Some(condition))
     }
 

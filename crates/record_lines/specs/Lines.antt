@@ -1,5 +1,5 @@
 -- What a sink has gained of the records of a report.
-use Rattle.std.specs.Prelude.{ℕ, ◌≡◌, ◌<◌, ◌^◌, Bool, true, false, List, [], ◌∷◌, ◌++◌, filter, map, sum_by, IsUtf8, Option}
+use Rattle.std.specs.Prelude.{ℕ, ◌≡◌, ◌+◌, ◌<◌, ◌^◌, Bool, true, false, List, [], ◌∷◌, ◌++◌, filter, map, string_bytes, sum_by, IsUtf8, Option}
 use Rattle.std.specs.List.{AllByRecursion}
 use Rattle.std.specs.Io.KnownBytes.{append_known}
 use Rattle.serde_json.specs.Written.{comma_if, compact_text}
@@ -8,6 +8,8 @@ use Rattle.path_records.specs.declared.records.Record.{Record}
 use Rattle.path_records.specs.declared.records.Record.TheVariants.{Path, Pruned, Unexplored}
 use Rattle.record_lines.specs.declared.lines.RefutedSides.{RefutedSides}
 use Rattle.record_lines.specs.declared.lines.RefutedSides.TheVariants.{Written, Counted}
+use Rattle.record_lines.specs.declared.lines.Task.{Task}
+use Rattle.record_lines.specs.declared.lines.Task.TheVariants as task
 use Rattle.record_ranges.specs.Ranges.{RecordInRange}
 use Rattle.record_text.specs.Records.{record_data}
 use Rattle.record_text.specs.Reports.{record_pieces}
@@ -44,6 +46,15 @@ has_some (x ∷ xs) = true
 -- the piece of a record: its text, behind a comma where another one was put before it
 abbrev pub piece_text : Network → Bool → Record → List ℕ
 piece_text net later item = comma_if later ++ compact_text (record_data net item)
+
+-- what is to be done with a record, where one was put before it or not and so many refuted sides were taken: its piece is put, or it is
+-- only counted
+abbrev pub IsTask : Network → RefutedSides → Bool → ℕ → Record → Task → Type 0
+IsTask net sides later refuted item (task.Write piece count) =
+    (is_written sides item ≡ true) × RecordInRange item × (count < 2 ^ 64) × (count ≡ refuted + refuted_by item) × (string_bytes piece ≡ piece_text net later item)
+IsTask net sides later refuted item (task.Count count) =
+    (is_written sides item ≡ false) × RecordInRange item × (count < 2 ^ 64) × (count ≡ refuted + refuted_by item)
+IsTask net sides later refuted item task.NoMemory = Unit {0}
 
 -- the pieces of records
 abbrev pub records_text : Network → List Record → List ℕ

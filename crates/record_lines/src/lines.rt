@@ -3,7 +3,7 @@
 ghost use Rattle.std.specs.Prelude.{◌≡◌, ◌+◌, string_bytes, IfOk, IfSome, IsTrue};
 ghost use Rattle.net_check.specs.Network.{network};
 ghost use Rattle.record_ranges.specs.Ranges.{RecordInRange};
-ghost use Rattle.record_lines.specs.Lines.{HasLines, StopsInLine, is_written, piece_text, refuted_by};
+ghost use Rattle.record_lines.specs.Lines.{HasLines, IsTask, StopsInLine, is_written, piece_text, refuted_by};
 
 use crate::ends::put_piece;
 use net_check::Net;
@@ -110,6 +110,56 @@ fn is_written(sides: RefutedSides, item: &Record) -> bool
     }
 }
 
+/// What is to be done with a record.
+#[derive(Drop)]
+enum Task {
+    /// Its piece is put; with it there are so many refuted sides.
+    Write { piece: String, refuted: u64 },
+    /// It is only counted.
+    Count { refuted: u64 },
+    NoMemory,
+}
+
+/// What is to be done with a record, where one was put before it or not, and so many refuted sides were taken.
+fn task_of(
+    alloc: Global,
+    net: &Net,
+    sides: RefutedSides,
+    later: bool,
+    refuted: u64,
+    item: &Record,
+) -> Task
+    ensures { IsTask (network net.now) sides later refuted item.now result }
+{
+    let Some(refuted) = refuted_with(refuted, item) else {
+        return Task::NoMemory;
+    };
+    if !is_in_range(item) {
+        return Task::NoMemory;
+    }
+    if !is_written(sides, item) {
+        return Task::Count { refuted };
+    }
+    match piece_of(alloc, net, later, item) {
+        Ok(piece) => Task::Write { piece, refuted },
+        Err(_) => Task::NoMemory,
+    }
+}
+
+/// The same of a record that is not kept.
+fn last_task_of(
+    alloc: Global,
+    net: &Net,
+    sides: RefutedSides,
+    later: bool,
+    refuted: u64,
+    item: Record,
+) -> Task
+    ensures { IsTask (network net.now) sides later refuted item result }
+{
+    task_of(alloc, net, sides, later, refuted, &item)
+}
+
 impl<M: Mark, K: Sink> Receiver for Lines<'_, M, K> {
     type Item = Record;
 
@@ -122,27 +172,28 @@ impl<M: Mark, K: Sink> Receiver for Lines<'_, M, K> {
     } };
 
     fn take(&mut self, item: Record) -> Took {
-        let Some(refuted) = refuted_with(self.refuted, &item) else {
-            return Took::NoMemory;
-        };
-        if !is_in_range(&item) {
-            return Took::NoMemory;
-        }
-        if !is_written(self.sides, &item) {
-            self.refuted = refuted;
-            return Took::More;
-        }
-        let Ok(piece) = piece_of(self.alloc, self.net, self.some, &item) else {
-            return Took::NoMemory;
-        };
-        match put_piece(&piece, self.out) {
-            Put::All => {
-                self.some = true;
+        match last_task_of(
+            self.alloc,
+            self.net,
+            self.sides,
+            self.some,
+            self.refuted,
+            item,
+        ) {
+            Task::Write { piece, refuted } => match put_piece(&piece, self.out) {
+                Put::All => {
+                    self.some = true;
+                    self.refuted = refuted;
+                    Took::More
+                }
+                Put::Failed => Took::Stop,
+                Put::NoMemory => Took::NoMemory,
+            },
+            Task::Count { refuted } => {
                 self.refuted = refuted;
                 Took::More
             }
-            Put::Failed => Took::Stop,
-            Put::NoMemory => Took::NoMemory,
+            Task::NoMemory => Took::NoMemory,
         }
     }
 }

@@ -1,5 +1,4 @@
-use Rattle.std.proofs.Common.{ap, subst, sym, ◌∙◌}
-use Rattle.sym_state.specs.Symbolic.{Symbolic}
+use Rattle.std.proofs.Common.{ap, subst, sym}
 use Rattle.path_exec.specs.Stepping.{SideBehind}
 use Rattle.record_checks.specs.Stops.{LeadsTo, trees_of}
 use Rattle.path_replay.proofs.Sides.{no_side, side_seen}
@@ -25,5 +24,5 @@ returns g c = λ ds leads.
     let next = c.stop.inside.next in
     let d = c.args.decision in
     let place = c.in-Some.place in
-    side_seen {origin = g.B.Origin} s net next d c.stop.invariant ds (subst (LeadsTo s ds) (sym c.stop.view_is) leads) place c.in_ok-condition.condition c.is_own.ensures
-    (ap trees_of (c.in_ok-condition.ensures ∙ (c.condition.ensures ∙ ap (λ (x : Symbolic). x.condition) c.state.ensures.is))) (subst (SideBehind (here {origin = g.B.Origin} s net) next d) c.in-Some.is c.in_ok-place.ensures)
+    side_seen {origin = g.B.Origin} s net next d c.stop.invariant ds (subst (LeadsTo s ds) (sym c.stop.view_is) leads) place c.in_ok-condition.condition c.condition_of.ensures.own
+    (ap trees_of c.in_ok-condition.ensures.condition) (subst (SideBehind (here {origin = g.B.Origin} s net) next d) c.in-Some.is c.in_ok-place.ensures)
