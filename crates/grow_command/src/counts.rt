@@ -98,6 +98,13 @@ fn with_record(counts: Counts, item: &Record) -> Option<Counts>
     }
 }
 
+/// With a record more, which is not kept.
+fn with_last(counts: Counts, item: Record) -> Option<Counts>
+    ensures { IfSome result (λ more. more ≡ with_record (record_tree item) counts) }
+{
+    with_record(counts, &item)
+}
+
 /// Counts records, and keeps none of them.
 #[derive(Drop)]
 pub struct Tally {
@@ -120,7 +127,7 @@ impl Receiver for Tally {
     } };
 
     fn take(&mut self, item: Record) -> Took {
-        match with_record(self.counts, &item) {
+        match with_last(self.counts, item) {
             Some(counts) => {
                 self.counts = counts;
                 Took::More

@@ -1,8 +1,10 @@
 //! The command `grow`.
 
-ghost use Rattle.std.specs.Prelude.{◌≡◌, ◌<◌, IfOk};
+ghost use Rattle.std.specs.Prelude.{◌≡◌, ◌<◌, [], ◌∷◌, IfOk, IfErr, string_bytes};
 ghost use Rattle.net_check.specs.Network.{entry, network};
 ghost use Rattle.net_check.specs.Sound.{AreOfOneJob};
+ghost use Rattle.run_answers.specs.Inputs.{given_of};
+ghost use Rattle.run_answers.specs.Runs.{IsRefusal, text as a_text};
 ghost use Rattle.grow_command.specs.Grows.{AreCounts, GrowComes};
 
 use crate::counts::{Counts, Tally};
@@ -69,6 +71,17 @@ pub struct Grow {
     pub source: GrownJob,
 }
 
+/// The text of the summary of the job that grew.
+fn text_of(alloc: Global, source: GrownJob, job: &Accepted) -> Result<(Ending, String), OwnFault>
+    requires { AreOfOneJob (network job.now.net) (entry job.now.injection) }
+    ensures text { IfOk result (λ t. GrowComes source.seed source.boxes (given_of job.now ∷ []) (a_text t.0 (string_bytes t.1))) }
+    ensures refused { IfErr result (IsRefusal (GrowComes source.seed source.boxes (given_of job.now ∷ []))) }
+{
+    let found = count_records::<Brand>(alloc, job, Blank::new(1))?;
+    let text = summary_text(alloc, source.seed, source.boxes, &found.counts)?;
+    Ok((found.ending, text))
+}
+
 impl OnePiece for Grow {
     type From = GrownJob;
 
@@ -81,9 +94,6 @@ impl OnePiece for Grow {
     }
 
     fn text(&self, alloc: Global, given: Accepted) -> Result<(Ending, String), OwnFault> {
-        let found = count_records::<Brand>(alloc, &given, Blank::new(1))?;
-        let GrownJob { seed, boxes } = self.source;
-        let text = summary_text(alloc, seed, boxes, &found.counts)?;
-        Ok((found.ending, text))
+        text_of(alloc, self.source, &given)
     }
 }

@@ -1,10 +1,12 @@
 //! The command `replay`.
 
-ghost use Rattle.std.specs.Prelude.{◌≡◌, Ok, IfOk, IfErr, string_bytes};
+ghost use Rattle.std.specs.Prelude.{◌≡◌, Ok, [], ◌∷◌, IfOk, IfErr, string_bytes};
 ghost use Rattle.net_check.specs.Network.{entry, network};
 ghost use Rattle.net_check.specs.Sound.{AreOfOneJob};
 ghost use Rattle.exact_records.specs.View.{record_trees};
 ghost use Rattle.path_report.specs.Reading.{ReadsReport};
+ghost use Rattle.run_answers.specs.Inputs.{given_of, some_bytes};
+ghost use Rattle.run_answers.specs.Runs.{IsRefusal, text as a_text};
 ghost use Rattle.replay_command.specs.Replays.{IsCountsText, IsNoReport, IsReplayRefusal, ReplayComes};
 
 use crate::counts::confirmed_text;
@@ -55,6 +57,17 @@ fn text_of_counts(
     }
 }
 
+/// The text of the counts of the report of the file.
+fn text_of(alloc: Global, given: &Two<Accepted, Vec<u8>>) -> Result<(Ending, String), OwnFault>
+    requires { AreOfOneJob (network given.now.first.net) (entry given.now.first.injection) }
+    ensures text { IfOk result (λ t. ReplayComes (given_of given.now.first ∷ some_bytes given.now.second.items ∷ []) (a_text t.0 (string_bytes t.1))) }
+    ensures refused { IfErr result (IsRefusal (ReplayComes (given_of given.now.first ∷ some_bytes given.now.second.items ∷ []))) }
+{
+    let report = report_of(alloc, &given.first.net, &given.second)?;
+    let text = text_of_counts(alloc, &given.first, report.hops, &report.records)?;
+    Ok((Ending::Done, text))
+}
+
 impl<'a> OnePiece for Replay<'a> {
     type From = Both<JobFile<'a>, ByteFile<'a>>;
 
@@ -71,8 +84,6 @@ impl<'a> OnePiece for Replay<'a> {
         alloc: Global,
         given: Two<Accepted, Vec<u8>>,
     ) -> Result<(Ending, String), OwnFault> {
-        let report = report_of(alloc, &given.first.net, &given.second)?;
-        let text = text_of_counts(alloc, &given.first, report.hops, &report.records)?;
-        Ok((Ending::Done, text))
+        text_of(alloc, &given)
     }
 }

@@ -1,9 +1,11 @@
 //! The command `walk`.
 
-ghost use Rattle.std.specs.Prelude.{◌≡◌, Some, IfOk, IfErr, string_bytes};
+ghost use Rattle.std.specs.Prelude.{◌≡◌, Some, [], ◌∷◌, IfOk, IfErr, string_bytes};
 ghost use Rattle.net_check.specs.Network.{entry, network};
 ghost use Rattle.net_check.specs.Sound.{AreOfOneJob};
 ghost use Rattle.packet_file.specs.Packet.{packet_of};
+ghost use Rattle.run_answers.specs.Inputs.{given_of, some_bytes};
+ghost use Rattle.run_answers.specs.Runs.{IsRefusal, text as a_text};
 ghost use Rattle.walk_command.specs.Walks.{IsNoPacket, IsWalkRefusal, IsWalksText, WalkComes};
 
 use crate::fault::fault_of_walk;
@@ -56,6 +58,22 @@ fn text_of_walks(
     }
 }
 
+/// The text of all walks of the packet of the file.
+fn text_of(
+    alloc: Global,
+    given: &Two<Accepted, Vec<u8>>,
+    hops: u32,
+    limit: u32,
+) -> Result<(Ending, String), OwnFault>
+    requires { AreOfOneJob (network given.now.first.net) (entry given.now.first.injection) }
+    ensures text { IfOk result (λ t. WalkComes hops limit (given_of given.now.first ∷ some_bytes given.now.second.items ∷ []) (a_text t.0 (string_bytes t.1))) }
+    ensures refused { IfErr result (IsRefusal (WalkComes hops limit (given_of given.now.first ∷ some_bytes given.now.second.items ∷ []))) }
+{
+    let values = numbers_of(alloc, &given.second)?;
+    let text = text_of_walks(alloc, &given.first, &values, hops, limit)?;
+    Ok((Ending::Done, text))
+}
+
 impl<'a> OnePiece for Walk<'a> {
     type From = Both<JobFile<'a>, ByteFile<'a>>;
 
@@ -72,8 +90,6 @@ impl<'a> OnePiece for Walk<'a> {
         alloc: Global,
         given: Two<Accepted, Vec<u8>>,
     ) -> Result<(Ending, String), OwnFault> {
-        let values = numbers_of(alloc, &given.second)?;
-        let text = text_of_walks(alloc, &given.first, &values, self.hops, self.limit)?;
-        Ok((Ending::Done, text))
+        text_of(alloc, &given, self.hops, self.limit)
     }
 }

@@ -1,4 +1,4 @@
-use Rattle.grow_command.proofs.grow.GrowOnePiece.text.Given as goal
+use Rattle.grow_command.proofs.grow.text_of.Given as goal
 
 -- the counter of this call
 abbrev pub ghosts-count_records : goal.ghosts-count_records
