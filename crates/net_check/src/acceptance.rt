@@ -28,11 +28,24 @@ use sn_width::{NameId, NoMemory, Site};
 use std::alloc::Global;
 
 /// An accepted job: its own nodes, codes and links, injection and asks, and for each pattern the names that it finds.
-#[derive(Drop)]
 pub struct Accepted {
     pub net: Net,
     pub injection: Injection,
     pub asks: Vec<Ask>,
+}
+
+// Written out, and not derived, so that the proof of a function that lets one go sees a call.
+impl Drop for Accepted {
+    fn drop(self) {
+        let Accepted {
+            net,
+            injection,
+            asks,
+        } = self;
+        drop(net);
+        drop(injection);
+        drop(asks);
+    }
 }
 
 /// Accepts a job, or tells the first item that breaks a rule and the first rule that it breaks. The patterns are asked where

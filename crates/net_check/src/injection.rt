@@ -16,7 +16,6 @@ use sn_width::NodeId;
 use std::marker::Model;
 
 /// The injection of an accepted job. Contracts see the job's own injection, and the node that it names.
-#[derive(Drop)]
 pub struct Injection {
     raw: RawInjection,
     node: NodeId,
@@ -35,6 +34,14 @@ impl Model for Injection {
     ghost view = { λ i. record { raw = i.raw; node = i.node } };
 
     ghost invariant = { λ i. IsKeptEntry (entry (record { raw = i.raw; node = i.node })) };
+}
+
+// Written out, and not derived, so that the proof of a function that lets one go sees a call.
+impl Drop for Injection {
+    fn drop(self) {
+        let Injection { raw, node: _ } = self;
+        drop(raw);
+    }
 }
 
 impl Injection {

@@ -21,7 +21,6 @@ use std::marker::Model;
 
 /// The net of an accepted job. Contracts see the job's own nodes and links, the names that occur in the job, and the names
 /// that each pattern finds. Its readers take no memory.
-#[derive(Drop)]
 pub struct Net {
     raw: RawNet,
     node_count: u32,
@@ -44,6 +43,23 @@ impl Model for Net {
     ghost view = { λ n. record { raw = n.raw; names = n.names; found = map (λ ids. ids.items) n.found.items } };
 
     ghost invariant = { λ n. IsKept (network (record { raw = n.raw; names = n.names; found = map (λ ids. ids.items) n.found.items })) n.node_count n.tables };
+}
+
+// Written out, and not derived, so that the proof of a function that lets one go sees a call.
+impl Drop for Net {
+    fn drop(self) {
+        let Net {
+            raw,
+            node_count: _,
+            tables,
+            names,
+            found,
+        } = self;
+        drop(raw);
+        drop(tables);
+        drop(names);
+        drop(found);
+    }
 }
 
 impl Net {
