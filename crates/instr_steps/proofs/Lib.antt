@@ -1,4 +1,2 @@
-pub mod Ids
 pub mod LineSteps
 pub mod Metadata
-pub mod Sums

@@ -1,16 +1,11 @@
--- Where code runs, as the code keeps it, and what a call that evaluates a test answers.
+-- What a call that evaluates a test answers.
 use Rattle.std.specs.Prelude.{◌≡◌, ℕ, List, [], ◌∷◌, Option, None, Some, Result, Ok, Err}
 use Rattle.sn_width.specs.declared.faults.LayoutFault.{LayoutFault}
 use Rattle.sn_width.specs.declared.faults.StepFault.{StepFault}
 use Rattle.sn_width.specs.declared.faults.StepFault.TheVariants.{Layout, NoMemory}
 use Rattle.sefl_syntax.specs.declared.reference.Target.{Target}
 use Rattle.job_items.specs.AtomRules.{width_of}
-use Rattle.net_check.specs.Network.{network}
-use Rattle.sefl_meaning.specs.Carried.{Scene}
-use Rattle.instr_steps.specs.declared.scene.Scene as code
-
-abbrev pub scene_of : code.Scene → Scene
-scene_of at = record { net = network at.net.now; node = at.node; turns = at.turns.now }
+pub use Rattle.code_scene.specs.Scenes.{scene_of}
 
 -- what a call that reads answers, seen in this way: the value, or its fault, or want of memory
 abbrev pub GivesBy : {A B : Type 0} → (A → B) → Result B LayoutFault → Result A StepFault → Type 0

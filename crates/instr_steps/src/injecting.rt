@@ -6,10 +6,10 @@ ghost use Rattle.sefl_meaning.specs.Injected.{field_value, injected, with_field,
 ghost use Rattle.sefl_meaning.specs.View.{carried_of};
 ghost use Rattle.instr_steps.specs.Scenes.{GivesBy, Leads, scene_of};
 
-use crate::arithmetic::Arithmetic;
-use crate::scene::Scene;
 use crate::steps::{allocate, put, set_tag};
 use crate::values::width_of;
+use cell_values::Arithmetic;
+use code_scene::Scene;
 use header_layers::Layers;
 use metadata_scopes::Scopes;
 use sefl_meaning::Carried;

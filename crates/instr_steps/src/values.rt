@@ -1,19 +1,19 @@
 //! Values of expressions.
 
-ghost use Rattle.std.specs.Prelude.{◌≡◌, IfOk};
+ghost use Rattle.std.specs.Prelude.{◌≡◌};
 ghost use Rattle.sefl_syntax.specs.Views.{expr_tree, summand_trees};
 ghost use Rattle.cell_stacks.specs.Outcome.{Gives, lent};
 ghost use Rattle.job_items.specs.AtomRules.{width_of};
 ghost use Rattle.sefl_meaning.specs.Carried.{read_at};
-ghost use Rattle.sefl_meaning.specs.Terms.{joined, sum_in, value_in};
+ghost use Rattle.sefl_meaning.specs.Terms.{sum_in, value_in};
 ghost use Rattle.sefl_meaning.specs.View.{carried_of};
 ghost use Rattle.instr_steps.specs.Scenes.{scene_of};
 
-use crate::arithmetic::Arithmetic;
-use crate::scene::Scene;
+use cell_values::{Arithmetic, joined};
+use code_scene::Scene;
 use sefl_meaning::Carried;
 use sefl_syntax::{Expr, Sign, Target};
-use sn_width::{LayoutFault, NoMemory, StepFault, Width};
+use sn_width::{LayoutFault, StepFault, Width};
 use std::alloc::Global;
 
 /// The width of a reference.
@@ -45,23 +45,6 @@ fn read<'a, V: Drop>(
             let (owner, name) = at.bound(var)?;
             state.scopes.read(owner, name, width)
         }
-    }
-}
-
-/// The sum or the difference.
-fn joined<A: Arithmetic>(
-    alloc: Global,
-    o: &A,
-    width: Width,
-    sign: Sign,
-    left: &A::Value,
-    right: &A::Value,
-) -> Result<A::Value, NoMemory>
-    ensures { IfOk result (λ v. v ≡ joined (A.values o.now) width sign left.now right.now) }
-{
-    match sign {
-        Sign::Plus => o.plus(alloc, width, left, right),
-        Sign::Minus => o.minus(alloc, width, left, right),
     }
 }
 

@@ -4,7 +4,7 @@ ghost use Rattle.std.specs.Prelude.{◌≡◌, ◌%◌, ◌^◌, ◌<◌, map, I
 ghost use Rattle.path_formula.specs.View.{view};
 ghost use Rattle.term_values.specs.TermValues.{number_term, symbol_term, terms};
 
-use instr_steps::Arithmetic;
+use cell_values::Arithmetic;
 use lin_term::Term;
 use path_formula::Formula;
 use sefl_syntax::RangeList;

@@ -1,6 +1,6 @@
 use Rattle.std.proofs.Common.{◌≡◌}
 use Rattle.sefl_meaning.specs.Carried.{bound_key}
-use Rattle.instr_steps.proofs.scene.Scene.bound.Given as goal
+use Rattle.code_scene.proofs.scene.Scene.bound.Given as goal
 
 -- the first of what is left is the first of the whole
 abbrev pub invariant-loop-turn : goal.invariant-loop-turn

@@ -1,6 +1,6 @@
 use Rattle.std.proofs.Common.{◌^◌}
-use Rattle.instr_steps.proofs.Sums.{sum_of_reduced}
-use Rattle.instr_steps.proofs.numbers.sum.Goals as goal
+use Rattle.cell_values.proofs.Sums.{sum_of_reduced}
+use Rattle.cell_values.proofs.numbers.sum.Goals as goal
 
 pub returns : goal.returns
 returns c =

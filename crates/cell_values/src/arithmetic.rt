@@ -1,9 +1,10 @@
 //! Values of cells and truths of tests, as the operations on them.
 
 ghost use Rattle.std.specs.Prelude.{◌≡◌, ℕ, map, IfOk};
+ghost use Rattle.sefl_meaning.specs.Terms.{joined};
 ghost use Rattle.sefl_meaning.specs.Values.{Values};
 
-use sefl_syntax::RangeList;
+use sefl_syntax::{RangeList, Sign};
 use sn_width::{NoMemory, Num, Rel, Width};
 use std::alloc::Global;
 
@@ -86,4 +87,21 @@ pub trait Arithmetic {
     /// Whether the test does not hold.
     fn negation(&self, alloc: Global, test: Self::Test) -> Result<Self::Test, NoMemory>
         ensures { IfOk result (λ t. truth t ≡ (values self.now).negation (truth test)) };
+}
+
+/// The sum or the difference, by the sign.
+pub fn joined<A: Arithmetic>(
+    alloc: Global,
+    o: &A,
+    width: Width,
+    sign: Sign,
+    left: &A::Value,
+    right: &A::Value,
+) -> Result<A::Value, NoMemory>
+    ensures { IfOk result (λ v. v ≡ joined (A.values o.now) width sign left.now right.now) }
+{
+    match sign {
+        Sign::Plus => o.plus(alloc, width, left, right),
+        Sign::Minus => o.minus(alloc, width, left, right),
+    }
 }

@@ -1,6 +1,6 @@
 use Rattle.std.proofs.Common.{◌^◌}
-use Rattle.instr_steps.proofs.Sums.{difference_of_reduced}
-use Rattle.instr_steps.proofs.numbers.difference.Goals as goal
+use Rattle.cell_values.proofs.Sums.{difference_of_reduced}
+use Rattle.cell_values.proofs.numbers.difference.Goals as goal
 
 pub returns : goal.returns
 returns c =

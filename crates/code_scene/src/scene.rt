@@ -3,7 +3,6 @@
 ghost use Rattle.std.specs.Prelude.{◌≡◌};
 ghost use Rattle.sefl_meaning.specs.Carried.{base_tag, bound_key, owner_of};
 ghost use Rattle.sefl_meaning.specs.Network.{name_id, tag_id};
-ghost use Rattle.instr_steps.specs.Scenes.{scene_of};
 ghost use Rattle.net_check.specs.Network.{network};
 
 use net_check::Net;
@@ -22,7 +21,7 @@ pub struct Scene<'a> {
 
 impl<'a> Scene<'a> {
     /// The id of a tag name.
-    pub(crate) fn tag_id(&self, name: &Name) -> TagId
+    pub fn tag_id(&self, name: &Name) -> TagId
         ensures { result ≡ tag_id (network self.now.net.now) name.now }
     {
         match self.net.tag_id(name) {
@@ -32,7 +31,7 @@ impl<'a> Scene<'a> {
     }
 
     /// The id of a metadata name.
-    pub(crate) fn name_id(&self, name: &Name) -> NameId
+    pub fn name_id(&self, name: &Name) -> NameId
         ensures { result ≡ name_id (network self.now.net.now) name.now }
     {
         match self.net.name_id(name) {
@@ -42,7 +41,7 @@ impl<'a> Scene<'a> {
     }
 
     /// The tag that an address is counted from.
-    pub(crate) fn base(&self, addr: &Addr) -> Option<TagId>
+    pub fn base(&self, addr: &Addr) -> Option<TagId>
         ensures { result ≡ base_tag (network self.now.net.now) addr.now }
     {
         match &addr.tag {
@@ -52,7 +51,7 @@ impl<'a> Scene<'a> {
     }
 
     /// The owner of metadata.
-    pub(crate) fn owner(&self, scope: Scope) -> Option<NodeId>
+    pub fn owner(&self, scope: Scope) -> Option<NodeId>
         ensures { result ≡ owner_of scope self.now.node }
     {
         match scope {
@@ -62,7 +61,7 @@ impl<'a> Scene<'a> {
     }
 
     /// The metadata that the innermost For with the variable stands at.
-    pub(crate) fn bound(&self, var: &Name) -> Result<(Option<NodeId>, NameId), LayoutFault>
+    pub fn bound(&self, var: &Name) -> Result<(Option<NodeId>, NameId), LayoutFault>
         ensures { result ≡ bound_key self.now.turns.now var.now }
     {
         for turn in self.turns.iter() {
