@@ -20,7 +20,7 @@ use Rattle.sefl_meaning.specs.Walks.{Passage, Trail, shown, place_at, by_way_of,
 use Rattle.code_frames.specs.Frames.{progress_at}
 use Rattle.concrete_run.specs.declared.pending.Stage.{Stage}
 use Rattle.concrete_run.specs.declared.pending.Stage.TheVariants.{Arriving, Leaving, Copying, Ended}
-use Rattle.concrete_run.specs.Packets.{Given}
+use Rattle.packet_run.specs.Packets.{Given}
 use Rattle.concrete_run.specs.Pending.{Steps, led, steps_at, steps_copied, steps_crossed, steps_entered, steps_left, steps_passed, walks_at}
 
 -- what a run shows, but for the count

@@ -1,5 +1,4 @@
 pub mod Alike
-pub mod Answering
 pub mod Moving
 pub mod Working
 pub mod Searching

@@ -16,14 +16,14 @@ use Rattle.sefl_meaning.specs.View.{carried_of}
 use Rattle.sefl_meaning.specs.Runs.{Progress, Ran, noting, starting}
 use Rattle.sefl_meaning.specs.Walks.{Passage, Trail, shown, by_way_of, decided, place_at, run_port, crossed, passed, leave, copies, enter}
 use Rattle.port_moves.specs.Hops.{AreLeft}
-use Rattle.concrete_run.specs.declared.packet.Packet.{Packet}
+use Rattle.packet_run.specs.declared.packet.Packet.{Packet}
 use Rattle.code_frames.specs.declared.frame.Exit.{Exit}
 use Rattle.code_frames.specs.declared.frame.Exit.TheVariants.{Off, Go, Forked, Failed}
 use Rattle.code_frames.specs.Frames.{exit_of, progress_at}
 use Rattle.concrete_run.specs.declared.pending.Pending.{Pending}
 use Rattle.concrete_run.specs.declared.pending.Stage.{Stage}
 use Rattle.concrete_run.specs.declared.pending.Stage.TheVariants.{Arriving, Leaving, Ended}
-use Rattle.concrete_run.specs.Packets.{Given, RunsAs, given_of, progress_of}
+use Rattle.packet_run.specs.Packets.{Given, RunsAs, given_of, progress_of}
 use Rattle.concrete_run.specs.Answers.{IsAtStart}
 use Rattle.concrete_run.proofs.Alike.{led_alike, steps_alike}
 use Rattle.concrete_run.specs.Pending.{Steps, led, stage_before, stage_over, stage_passed, stage_crossed, steps_at, steps_by, steps_copied, steps_crossed, steps_entered, steps_left, steps_passed, walks_at, walks_by, walks_of}

@@ -8,7 +8,7 @@ use Rattle.sefl_meaning.specs.Routes.{Has}
 use Rattle.sefl_meaning.specs.Walks.{Passage, Trail}
 use Rattle.sefl_meaning.specs.Network.{Network}
 use Rattle.concrete_run.specs.declared.pending.Pending.{Pending}
-use Rattle.concrete_run.specs.Packets.{given_of, progress_of}
+use Rattle.packet_run.specs.Packets.{given_of, progress_of}
 use Rattle.concrete_run.specs.Pending.{BeginsWith, Sought, led, walks_at, walks_of, walks_of_all}
 
 has_first : (xs ys : List Trail) (t : Trail) → Has xs t → Has (xs ++ ys) t

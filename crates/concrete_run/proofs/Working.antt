@@ -16,7 +16,7 @@ use Rattle.concrete_run.specs.declared.pending.Stage.TheVariants.{Arriving, Leav
 use Rattle.concrete_run.specs.declared.walks.WalkFault.{WalkFault}
 use Rattle.concrete_run.specs.declared.walks.WalkFault.TheVariants.{Start, TooMany, NoMemory}
 use Rattle.concrete_run.specs.Answers.{AllAnswer, AreAll, GatherAnswer}
-use Rattle.concrete_run.specs.Packets.{Given, given_of, progress_of}
+use Rattle.packet_run.specs.Packets.{Given, given_of, progress_of}
 use Rattle.concrete_run.specs.Pending.{walks_of_all, steps_at, steps_copied, steps_entered, steps_of}
 
 module _ (net : Network) where

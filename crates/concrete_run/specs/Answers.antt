@@ -19,7 +19,7 @@ use Rattle.concrete_run.specs.declared.injecting.StartFault.{StartFault}
 use Rattle.concrete_run.specs.declared.injecting.StartFault.TheVariants as starts
 use Rattle.concrete_run.specs.declared.walks.WalkFault.{WalkFault}
 use Rattle.concrete_run.specs.declared.walks.WalkFault.TheVariants.{Start, TooMany, NoMemory}
-use Rattle.concrete_run.specs.Packets.{Given, given_of}
+use Rattle.packet_run.specs.Packets.{Given, given_of}
 use Rattle.concrete_run.specs.Pending.{Sought}
 use Rattle.concrete_run.specs.Starting.{IsStartFault}
 

@@ -1,4 +1,3 @@
-pub mod Packets
 pub mod Pending
 pub mod Starting
 pub mod Answers

@@ -14,8 +14,8 @@ use Rattle.sefl_meaning.specs.Routes.{Has}
 use Rattle.sefl_meaning.specs.Runs as runs
 use Rattle.sefl_meaning.specs.Runs.{Progress, off, go, forked, failed}
 use Rattle.sefl_meaning.specs.Walks.{Passage, Trail, shown, run_port, enter, leave, copies, ended}
-use Rattle.concrete_run.specs.Packets.{Given, given_of, progress_of}
-use Rattle.concrete_run.specs.declared.packet.Packet.{Packet}
+use Rattle.packet_run.specs.Packets.{Given, given_of, progress_of}
+use Rattle.packet_run.specs.declared.packet.Packet.{Packet}
 use Rattle.code_frames.specs.declared.frame.Exit.{Exit}
 use Rattle.code_frames.specs.declared.frame.Exit.TheVariants.{Off, Go, Forked, Failed}
 use Rattle.concrete_run.specs.declared.pending.Pending.{Pending}

@@ -2,7 +2,6 @@
 #![tactic(auto)]
 
 mod injecting;
-mod packet;
 mod pending;
 mod walks;
 

@@ -3,16 +3,15 @@
 ghost use Rattle.std.specs.Prelude.{◌≡◌, suc, [], ◌∷◌, ◌++◌, IfOk, OnOk};
 ghost use Rattle.net_check.specs.Network.{Network, network};
 ghost use Rattle.sefl_meaning.specs.Runs.{noting};
-ghost use Rattle.sefl_meaning.specs.View.{carried_of, trail_of};
 ghost use Rattle.sefl_meaning.specs.Walks.{run_port};
-ghost use Rattle.concrete_run.specs.Packets.{RunsAs, given_of, progress_of};
+ghost use Rattle.packet_run.specs.Packets.{RunsAs, given_of, progress_of};
 ghost use Rattle.concrete_run.specs.Pending.{stage_before, stage_crossed, stage_over, stage_passed, steps_by, steps_next, steps_of, walks_by, walks_next, walks_of};
 ghost use Rattle.concrete_run.specs.declared.pending.Stage.TheVariants.{Copying as CopyingTo};
 
-use crate::packet::{Packet, run_code};
 use code_frames::Exit;
 use net_check::Net;
 use net_tables::behind_item;
+use packet_run::{Packet, run_code};
 use port_moves::{code_of, failed_at, first_site, hops_behind, link_of};
 use sefl_meaning::{Decision, End, Place, State, Walk};
 use sefl_syntax::Side;
@@ -43,7 +42,6 @@ pub(crate) enum Stage<'a> {
 }
 
 /// A packet on its way, the ports that it arrived at, and how many hops it has left.
-#[derive(Drop)]
 pub(crate) struct Pending<'a> {
     pub hops: u32,
     pub places: Vec<Place>,
@@ -65,57 +63,56 @@ pub(crate) enum Next<'a> {
     Gone,
 }
 
-/// Takes a packet over one port, or takes one copy of it.
-pub(crate) fn advance<'a, L: Ledger>(
-    alloc: Global,
-    net: &'a Net,
-    pending: Pending<'a>,
-    steps: &mut Steps<L>,
-) -> Result<Next<'a>, NoMemory>
-    ensures walks { IfOk result (λ next. walks_next (network net.now) next ≡ walks_of (network net.now) pending.entry) }
-    ensures work { IfOk result (λ next. suc (steps_next (network net.now) next) ≡ steps_of (network net.now) pending.entry) }
-{
-    let Pending {
-        hops,
-        places,
-        packet,
-        stage,
-    } = pending;
-    match stage {
-        Stage::Ended(end) => Ok(Next::Ended(ended(places, packet, end))),
-        Stage::Arriving { node, port } => {
-            let side = Side::Inward;
-            let moved = arrive(alloc, net, hops, places, packet, node, side, port, steps)?;
-            Ok(Next::Moved(moved))
+impl<'a> Pending<'a> {
+    /// Takes the packet over one port, or takes one copy of it.
+    pub(crate) fn advance<L: Ledger>(
+        self,
+        alloc: Global,
+        net: &'a Net,
+        steps: &mut Steps<L>,
+    ) -> Result<Next<'a>, NoMemory>
+        ensures walks { IfOk result (λ next. walks_next (network net.now) next ≡ walks_of (network net.now) self.entry) }
+        ensures work { IfOk result (λ next. suc (steps_next (network net.now) next) ≡ steps_of (network net.now) self.entry) }
+    {
+        let Pending {
+            hops,
+            places,
+            packet,
+            stage,
+        } = self;
+        match stage {
+            Stage::Ended(end) => Ok(Next::Ended(packet.into_walk(places, end))),
+            Stage::Arriving { node, port } => {
+                let side = Side::Inward;
+                let moved = arrive(alloc, net, hops, places, packet, node, side, port, steps)?;
+                Ok(Next::Moved(moved))
+            }
+            Stage::Leaving { node, port } => {
+                let side = Side::Outward;
+                let moved = arrive(alloc, net, hops, places, packet, node, side, port, steps)?;
+                Ok(Next::Moved(moved))
+            }
+            Stage::Copying {
+                node,
+                number,
+                ports,
+            } => copy(alloc, hops, places, packet, node, number, ports),
         }
-        Stage::Leaving { node, port } => {
-            let side = Side::Outward;
-            let moved = arrive(alloc, net, hops, places, packet, node, side, port, steps)?;
-            Ok(Next::Moved(moved))
-        }
-        Stage::Copying {
-            node,
-            number,
-            ports,
-        } => copy(alloc, hops, places, packet, node, number, ports),
     }
 }
 
-/// The walk that has ended.
-fn ended(places: Vec<Place>, packet: Packet<'_>, end: End) -> Walk
-    ensures { trail_of result ≡ record { decisions = packet.entry.decisions.items; places = places.items; end' = end; state = carried_of packet.entry.state } }
-{
-    let Packet {
-        numbers: _,
-        decisions,
-        state,
-        choices: _,
-    } = packet;
-    Walk {
-        decisions,
-        places,
-        end,
-        state,
+// Written out, and not derived, so that the proof of a function that lets one go sees a call.
+impl<'a> Drop for Pending<'a> {
+    fn drop(self) {
+        let Pending {
+            hops: _,
+            places,
+            packet,
+            stage,
+        } = self;
+        drop(places);
+        drop(packet);
+        drop(stage);
     }
 }
 
@@ -200,13 +197,14 @@ fn fork<'a>(alloc: Global, packet: &Packet<'a>, decision: Decision) -> Result<Pa
 {
     let mut decisions = copied(alloc, &packet.decisions)?;
     decisions.push(decision)?;
-    let layers = packet.state.layers.fork()?;
+    let choices = copied(alloc, &packet.choices)?;
     let scopes = packet.state.scopes.fork()?;
+    let layers = packet.state.layers.fork()?;
     Ok(Packet {
         numbers: packet.numbers,
         decisions,
         state: State { layers, scopes },
-        choices: copied(alloc, &packet.choices)?,
+        choices,
     })
 }
 

@@ -1,6 +1,6 @@
 //! The walks of a packet.
 
-ghost use Rattle.std.specs.Prelude.{◌≡◌, ◌↔◌, ◌+◌, ◌<◌, ◌∷◌, ◌++◌, suc, List, reverse, IsTrue, IfOk, OnOk};
+ghost use Rattle.std.specs.Prelude.{◌≡◌, ◌↔◌, ◌+◌, ◌<◌, [], ◌∷◌, ◌++◌, suc, List, reverse, IsTrue, IfOk, OnOk};
 ghost use Rattle.net_check.specs.Network.{entry, network, unknown_count};
 ghost use Rattle.net_check.specs.Sound.{AreOfOneJob};
 ghost use Rattle.sefl_meaning.specs.View.{carried_of};
@@ -9,10 +9,10 @@ ghost use Rattle.concrete_run.specs.Answers.{AllAnswer, GatherAnswer, OneAnswer,
 ghost use Rattle.concrete_run.specs.Pending.{BeginsWith, Sought, steps_of, steps_of_all, walk_found, walks_of, walks_of_all};
 
 use crate::injecting::{StartFault, start};
-use crate::packet::Packet;
-use crate::pending::{Next, Pending, Stage, advance};
+use crate::pending::{Next, Pending, Stage};
 use instr_steps::Numbers;
 use net_check::{Injection, Net};
+use packet_run::Packet;
 use sefl_meaning::{Decision, State, Walk};
 use sn_width::{NoMemory, Num, Steps};
 use std::alloc::{AllocFailed, Global};
@@ -150,6 +150,7 @@ fn gather<'a, L: Ledger>(
     while let Some(next) = work.pop() {
         if let Some(walk) = take_on(alloc, net, next, &mut work, &mut steps)? {
             if walks.len() >= limit as usize {
+                let_go(walk);
                 return Err(WalkFault::TooMany {
                     count: u64::from(limit) + 1,
                 });
@@ -173,19 +174,31 @@ fn take_on<'a, L: Ledger>(
     ensures work { OnOk result (suc (steps_of_all (network net.now) (reverse work.new.items))
         ≡ steps_of (network net.now) pending.entry + steps_of_all (network net.now) (reverse work.old.items)) }
 {
-    match advance(alloc, net, pending, steps)? {
+    match pending.advance(alloc, net, steps)? {
         Next::Ended(walk) => Ok(Some(walk)),
         Next::Moved(moved) => {
             work.push(moved)?;
             Ok(None)
         }
         Next::Copied { first, others } => {
-            work.push(others)?;
-            work.push(first)?;
+            put_both(work, others, first)?;
             Ok(None)
         }
         Next::Gone => Ok(None),
     }
+}
+
+/// Puts two packets on top of the work, the second on the first.
+fn put_both<'a>(
+    work: &mut Vec<Pending<'a>>,
+    below: Pending<'a>,
+    top: Pending<'a>,
+) -> Result<(), NoMemory>
+    ensures { OnOk result (work.new.items ≡ (work.old.items ++ below.entry ∷ []) ++ top.entry ∷ []) }
+{
+    work.push(below)?;
+    work.push(top)?;
+    Ok(())
 }
 
 /// The walk of what is pending that has these decisions. What cannot lead to it is left out.
@@ -235,8 +248,12 @@ fn seek<'a, L: Ledger>(
     if are_same(&walk.decisions, decisions) {
         return Ok(Some(walk));
     }
+    let_go(walk);
     Ok(None)
 }
+
+/// Drops the walk, which is proved once here and not in each caller.
+fn let_go(_walk: Walk) {}
 
 /// Whether the second list of decisions begins with the first.
 fn leads_to(first: &[Decision], decisions: &[Decision]) -> bool

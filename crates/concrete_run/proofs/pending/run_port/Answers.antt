@@ -3,7 +3,7 @@ use Rattle.std.proofs.lemmas.Result.{IfOk-weaker}
 use Rattle.net_check.specs.Network.{network}
 use Rattle.sefl_meaning.specs.Carried.{scene_at}
 use Rattle.sefl_meaning.specs.Runs.{noting, run_code}
-use Rattle.concrete_run.specs.Packets.{progress_of}
+use Rattle.packet_run.specs.Packets.{progress_of}
 use Rattle.concrete_run.proofs.pending.run_port.Goals as goal
 
 pub returns-clause-run : goal.returns-clause-run

@@ -7,9 +7,9 @@ use Rattle.sefl_meaning.specs.Values.{numbers}
 use Rattle.sefl_meaning.specs.View.{carried_of}
 use Rattle.code_frames.specs.Frames.{course_frames}
 use Rattle.code_frames.specs.Weights.{frames_weight}
-use Rattle.concrete_run.specs.Packets.{given_of, progress_of}
-use Rattle.concrete_run.proofs.Answering.{Way}
-use Rattle.concrete_run.proofs.packet.run_code.Given as goal
+use Rattle.packet_run.specs.Packets.{given_of, progress_of}
+use Rattle.packet_run.proofs.Answering.{Way}
+use Rattle.packet_run.proofs.packet.run_code.Given as goal
 
 -- what was decided, and then the way through what is left, is the whole
 abbrev pub invariant-loop-frames : goal.invariant-loop-frames

@@ -4,7 +4,7 @@ use Rattle.sefl_meaning.specs.Runs.{Progress, Ran}
 use Rattle.sefl_meaning.specs.View.{carried_of}
 use Rattle.code_frames.specs.declared.frame.Exit.{Exit}
 use Rattle.code_frames.specs.Frames.{exit_of, progress_at}
-use Rattle.concrete_run.specs.declared.packet.Packet.{Packet}
+use Rattle.packet_run.specs.declared.packet.Packet.{Packet}
 
 -- the numbers of a packet, and how many of them are those of its unknown fields
 abbrev pub Given : Type 0

@@ -8,16 +8,16 @@ ghost use Rattle.net_check.specs.Network.{network};
 ghost use Rattle.sefl_meaning.specs.Carried.{scene_at};
 ghost use Rattle.sefl_meaning.specs.Runs.{noting, run_code};
 ghost use Rattle.sefl_meaning.specs.Values.{numbers};
-ghost use Rattle.sefl_meaning.specs.View.{carried_of};
+ghost use Rattle.sefl_meaning.specs.View.{carried_of, trail_of};
 ghost use Rattle.instr_steps.specs.Scenes.{scene_of};
 ghost use Rattle.code_frames.specs.Steps.{done_by};
-ghost use Rattle.concrete_run.specs.Packets.{RunsAs, given_of, progress_of};
+ghost use Rattle.packet_run.specs.Packets.{RunsAs, given_of, progress_of};
 
 use code_frames::{Exit, Frame, Machine, Move, answer, next, take_plain};
 use instr_steps::{Numbers, Scene, put, truth_of, width_of};
 use net_check::Net;
 use sefl_meaning::laws::runs_are_ways;
-use sefl_meaning::{Decision, State};
+use sefl_meaning::{Decision, End, Place, State, Walk};
 use sefl_syntax::{Cond, Instr, Target};
 use sn_tree::Shared;
 use sn_width::{NameId, NoMemory, NodeId, Num, StepFault, Steps, Width};
@@ -25,12 +25,46 @@ use std::alloc::Global;
 use std::sync::ledger::Ledger;
 
 /// The numbers of a packet, what was decided on its way so far, what it carries, and the widths of the choices that were made.
-#[derive(Drop)]
-pub(crate) struct Packet<'a> {
+pub struct Packet<'a> {
     pub numbers: Numbers<'a>,
     pub decisions: Vec<Decision>,
     pub state: State,
     pub choices: Vec<Width>,
+}
+
+impl<'a> Packet<'a> {
+    /// The walk that has ended so, over these ports.
+    pub fn into_walk(self, places: Vec<Place>, end: End) -> Walk
+        ensures { trail_of result ≡ record { decisions = self.entry.decisions.items; places = places.items; end' = end; state = carried_of self.entry.state } }
+    {
+        let Packet {
+            numbers: _,
+            decisions,
+            state,
+            choices: _,
+        } = self;
+        Walk {
+            decisions,
+            places,
+            end,
+            state,
+        }
+    }
+}
+
+// Written out, and not derived, so that the proof of a function that lets one go sees a call.
+impl<'a> Drop for Packet<'a> {
+    fn drop(self) {
+        let Packet {
+            numbers: _,
+            decisions,
+            state,
+            choices,
+        } = self;
+        drop(decisions);
+        drop(state);
+        drop(choices);
+    }
 }
 
 impl<'a> Machine for Packet<'a> {
@@ -132,7 +166,7 @@ fn choose(
 }
 
 /// Runs code of a box, whose first instruction has the site.
-pub(crate) fn run_code<'a, L: Ledger>(
+pub fn run_code<'a, L: Ledger>(
     alloc: Global,
     net: &Net,
     node: NodeId,

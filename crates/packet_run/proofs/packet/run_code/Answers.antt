@@ -1,19 +1,18 @@
-use Rattle.std.proofs.Common.{◌≡◌, ℕ, Bool, List, [], ◌∷◌, ◌++◌, Option, reverse, refl, sym, ap, ◌∙◌, subst, rules}
+use Rattle.std.proofs.Common.{ℕ, Bool, List, [], ◌∷◌, ◌++◌, Option, reverse, refl, ap, ◌∙◌, subst}
 use Rattle.sefl_syntax.specs.Views.{code_tree}
 use Rattle.net_check.specs.Network.{network}
 use Rattle.sefl_meaning.specs.declared.walk.Decision.{Decision}
 use Rattle.sefl_meaning.specs.declared.walk.Turn.{Turn}
 use Rattle.sefl_meaning.specs.Carried.{scene_at}
 use Rattle.sefl_meaning.specs.Runs.{noting, run_code}
-use Rattle.sefl_meaning.specs.Taken.{decision_at}
 use Rattle.sefl_meaning.specs.Values.{Values, numbers}
 use Rattle.sefl_meaning.specs.View.{carried_of}
 use Rattle.code_frames.specs.declared.frame.Exit.{Exit}
 use Rattle.code_frames.specs.declared.frame.Move.{Move}
-use Rattle.code_frames.specs.Frames.{asking_of, course_left, of_code}
-use Rattle.concrete_run.specs.Packets.{Given, given_of, progress_of}
-use Rattle.concrete_run.proofs.Answering.{Way, asked, at_move, begun, ended, left_ended, stepped}
-use Rattle.concrete_run.proofs.packet.run_code.Goals as goal
+use Rattle.code_frames.specs.Frames.{course_left, of_code}
+use Rattle.packet_run.specs.Packets.{Given, progress_of}
+use Rattle.packet_run.proofs.Answering.{Way, asked, at_move, begun, ended, left_ended, stepped}
+use Rattle.packet_run.proofs.packet.run_code.Goals as goal
 
 pub loop-frames-init : goal.loop-frames-init
 loop-frames-init g c =
