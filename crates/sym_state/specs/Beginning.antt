@@ -1,7 +1,6 @@
 -- The symbolic state that an injection begins with.
 use Rattle.std.specs.Prelude.{◌≡◌, ℕ, true, List, [], map, Result, Ok, Err}
 use Rattle.std.specs.List.{AllByRecursion}
-use Rattle.sn_width.specs.declared.faults.LayoutFault.{LayoutFault}
 use Rattle.sn_width.specs.declared.faults.StepFault.{StepFault}
 use Rattle.sn_width.specs.declared.faults.StepFault.TheVariants.{Layout, NoMemory}
 use Rattle.sefl_syntax.specs.Trees.{CondTree, InjectionTree}

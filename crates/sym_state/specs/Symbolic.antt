@@ -1,19 +1,17 @@
 -- Symbolic states.
-use Rattle.std.specs.Prelude.{ℕ, ◌≤◌, Bool, true, false, List, [], ◌∷◌, ◌++◌, drop, length, take}
-use Rattle.sn_width.specs.declared.ids.NodeId.{NodeId}
-use Rattle.sn_ranges.specs.Ranges.{RangeSet}
+use Rattle.std.specs.Prelude.{ℕ, ◌≤◌, List, [], ◌∷◌, ◌++◌, drop, length, take}
 use Rattle.lin_term.specs.Terms.{LinearTerm, value_at}
 use Rattle.path_formula.specs.declared.formula.Formula.{Formula}
 use Rattle.path_cond.specs.Conditions.{Condition, Entry}
-use Rattle.interval_solver.specs.Domains.{AreDomainsOf, with_width}
+use Rattle.interval_solver.specs.Domains.{with_width}
 use Rattle.sefl_meaning.specs.declared.walk.Decision.{Decision}
-use Rattle.sefl_meaning.specs.declared.walk.Decision.TheVariants.{Then, Else, Pass, Broken, Copy}
 use Rattle.sefl_meaning.specs.declared.walk.Place.{Place}
 use Rattle.sefl_meaning.specs.declared.walk.Turn.{Turn}
 use Rattle.sefl_meaning.specs.Network.{Network}
 use Rattle.sefl_meaning.specs.Carried.{Carried, Scene, carried_valued}
 use Rattle.sefl_meaning.specs.Valued.{CarriedFits}
 use Rattle.term_values.specs.Fits.{typed_fits}
+pub use Rattle.path_trace.specs.Traces.{node_of, polarity}
 
 -- what is carried, the condition that was met so far, the decisions and the ports arrived at, the newest first, and how many
 -- of the symbols, the first ones, are unknown fields
@@ -24,17 +22,10 @@ pub record Symbolic : Type 0 where
   pub places : List Place
   pub unknowns : ℕ
 
--- the carried terms are over the symbols of the condition, at their widths; the domains are those of the condition; and each
--- unknown field is a symbol
-pub record IsSound (carried : Carried LinearTerm) (condition : Condition) (sets : List RangeSet) (unknowns : ℕ) : Type 0 where
+-- the carried terms are over the symbols of the condition, at their widths, and each unknown field is a symbol
+pub record IsSound (carried : Carried LinearTerm) (condition : Condition) (unknowns : ℕ) : Type 0 where
   pub fits : CarriedFits (typed_fits condition.widths) carried
-  pub domains : AreDomainsOf condition sets
   pub known : unknowns ≤ length condition.widths
-
--- the node of the port that was arrived at last
-abbrev pub node_of : List Place → NodeId
-node_of [] = record { 0 = 0 }
-node_of (place ∷ places) = place.node
 
 -- where the code runs that the state has come to, in these turns, the innermost first
 abbrev pub scene_in : Network → List Turn → Symbolic → Scene
@@ -67,14 +58,6 @@ with_decision s decision = record s { decisions = decision ∷ s.decisions }
 -- with one port more that was arrived at
 abbrev pub with_place : Symbolic → Place → Symbolic
 with_place s place = record s { places = place ∷ s.places }
-
--- the truth that a decision gives to its formula
-abbrev pub polarity : Decision → Bool
-polarity Then = true
-polarity Else = false
-polarity Pass = true
-polarity Broken = false
-polarity (Copy number) = true
 
 -- a decision on a formula
 abbrev pub decided : Symbolic → Formula → Decision → Symbolic

@@ -4,10 +4,9 @@ ghost use Rattle.std.specs.Prelude.{◌≡◌, [], ◌∷◌, OnOk, OnErr};
 ghost use Rattle.path_formula.specs.Typed.{IsTyped};
 ghost use Rattle.path_formula.specs.View.{view};
 ghost use Rattle.sefl_meaning.specs.declared.walk.Decision.TheVariants.{Copy as CopyOf};
-ghost use Rattle.sym_state.specs.Symbolic.{decided, polarity, with_decision, with_entries, with_place};
+ghost use Rattle.sym_state.specs.Symbolic.{decided, with_decision, with_entries, with_place};
 
 use crate::state::SymState;
-use interval_solver::laws::one_formula_more_may_be_met;
 use path_formula::Formula;
 use sefl_meaning::{Decision, Place};
 use sn_width::NoMemory;
@@ -25,11 +24,7 @@ impl SymState {
         ensures decided { OnOk result (self.new ≡ decided self.old formula decision) }
         ensures unchanged { OnErr result (self.new ≡ self.old) }
     {
-        let Ok(decisions) = self.decisions.push(alloc, decision) else {
-            return Err(NoMemory);
-        };
-        self.assume(alloc, formula, holds(decision))?;
-        self.decisions = decisions;
+        self.trace.constrain(alloc, formula, decision)?;
         Ok(())
     }
 
@@ -44,11 +39,7 @@ impl SymState {
         ensures noted { OnOk result (self.new ≡ with_entries self.old ((formula, holds) ∷ [])) }
         ensures unchanged { OnErr result (self.new ≡ self.old) }
     {
-        one_formula_more_may_be_met();
-        let condition = self.condition.with(alloc, formula, holds)?;
-        let domains = self.domains.meet(alloc, &condition)?;
-        self.condition = condition;
-        self.domains = domains;
+        self.trace.assume(alloc, formula, holds)?;
         Ok(())
     }
 
@@ -57,10 +48,7 @@ impl SymState {
         ensures decided { OnOk result (self.new ≡ with_decision self.old (CopyOf index)) }
         ensures unchanged { OnErr result (self.new ≡ self.old) }
     {
-        let Ok(decisions) = self.decisions.push(alloc, Decision::Copy(index)) else {
-            return Err(NoMemory);
-        };
-        self.decisions = decisions;
+        self.trace.copy(alloc, index)?;
         Ok(())
     }
 
@@ -69,23 +57,7 @@ impl SymState {
         ensures arrived { OnOk result (self.new ≡ with_place self.old place) }
         ensures unchanged { OnErr result (self.new ≡ self.old) }
     {
-        let Ok(places) = self.places.push(alloc, place) else {
-            return Err(NoMemory);
-        };
-        self.places = places;
+        self.trace.arrive(alloc, place)?;
         Ok(())
-    }
-}
-
-/// The truth that the decision gives to its formula.
-fn holds(decision: Decision) -> bool
-    ensures { result ≡ polarity decision }
-{
-    match decision {
-        Decision::Then => true,
-        Decision::Else => false,
-        Decision::Pass => true,
-        Decision::Broken => false,
-        Decision::Copy(_) => true,
     }
 }

@@ -11,10 +11,10 @@ ghost use Rattle.term_values.specs.TermValues.{terms};
 
 use crate::state::SymState;
 use instr_steps::{Scene, injected, width_of};
-use interval_solver::Domains;
 use lin_term::Term;
 use net_check::{Injection, Net};
 use path_cond::PathCond;
+use path_trace::Trace;
 use sefl_meaning::laws::symbols_are_typed;
 use sefl_meaning::starts::injections_have_a_start;
 use sefl_syntax::{Cond, RawField, RawInjection};
@@ -95,18 +95,23 @@ fn carrying(alloc: Global, at: &Origin<'_>, raw: &RawInjection) -> Result<SymSta
 {
     symbols_are_typed::<Term, Formulas>();
     terms_keep_types();
+    let trace = unmet(alloc, &raw.fields)?;
     let carried = injected(alloc, &at.terms, &at.scene, raw)?;
-    let widths = widths_of(alloc, &raw.fields)?;
-    let condition = PathCond::new(alloc, widths)?;
-    let domains = Domains::of(alloc, &condition)?;
     Ok(SymState {
         carried,
-        condition,
-        domains,
-        decisions: Shared::empty(),
-        places: Shared::empty(),
+        trace,
         unknowns: at.terms.unknowns,
     })
+}
+
+/// The unknown fields as symbols, before anything is met.
+fn unmet(alloc: Global, fields: &[RawField]) -> Result<Trace, NoMemory>
+    ensures { IfOk result (λ t. t ≡ record { condition = record { widths = unknown_widths fields.now; entries = [] }; decisions = []; places = [] }) }
+{
+    let widths = widths_of(alloc, fields)?;
+    let condition = PathCond::new(alloc, widths)?;
+    let trace = Trace::of(alloc, condition)?;
+    Ok(trace)
 }
 
 /// The widths of the unknown fields.

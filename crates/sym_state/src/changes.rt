@@ -29,7 +29,7 @@ use std::alloc::Global;
 use term_values::laws::{
     terms_keep_types, the_tests_of_fitting_terms, values_respect_the_operations,
 };
-use term_values::{Formulas, Terms, symbol};
+use term_values::{Formulas, Terms};
 
 /// An instruction that only touches what is carried, by its parts.
 #[derive(Clone, Copy)]
@@ -137,13 +137,10 @@ impl SymState {
         steps_keep::<Term>();
         terms_keep_types();
         let width = width_of(target);
-        let term = symbol(alloc, width, self.condition.symbols())?;
-        let condition = self.condition.with_symbol(alloc, width)?;
-        self.condition.formulas_are_typed();
-        let domains = self.domains.with_symbol(alloc, width)?;
+        let term = self.trace.next_symbol(alloc, width)?;
+        let trace = self.trace.with_symbol(alloc, width)?;
         put(alloc, at, &mut self.carried, target, term)?;
-        self.condition = condition;
-        self.domains = domains;
+        self.trace = trace;
         Ok(())
     }
 

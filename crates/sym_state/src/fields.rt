@@ -11,7 +11,6 @@ use cell_stacks::Cell;
 use lin_term::Term;
 use path_records::Fields;
 use sefl_meaning::{Decision, Place};
-use sn_tree::Shared;
 use sn_width::{NameId, NoMemory, NodeId};
 use std::alloc::Global;
 
@@ -32,24 +31,15 @@ impl SymState {
     pub fn decisions(&self, alloc: Global) -> Result<Vec<Decision>, NoMemory>
         ensures { IfOk result (λ decisions. decisions.items ≡ reverse self.now.decisions) }
     {
-        oldest_first(alloc, &self.decisions)
+        self.trace.decisions(alloc)
     }
 
     /// The ports that were arrived at, in this order.
     pub fn places(&self, alloc: Global) -> Result<Vec<Place>, NoMemory>
         ensures { IfOk result (λ places. places.items ≡ reverse self.now.places) }
     {
-        oldest_first(alloc, &self.places)
+        self.trace.places(alloc)
     }
-}
-
-/// The members from the oldest on; they stand the newest first.
-fn oldest_first<T: Copy + Drop>(alloc: Global, members: &Shared<T>) -> Result<Vec<T>, NoMemory>
-    ensures { IfOk result (λ list. list.items ≡ reverse members.now) }
-{
-    let mut list: Vec<T> = members.iter().copied().collect(alloc)?;
-    list.reverse();
-    Ok(list)
 }
 
 fn heads_copied(

@@ -16,7 +16,8 @@ use lin_term::Term;
 use metadata_scopes::Scopes;
 use net_check::Net;
 use path_cond::PathCond;
-use sefl_meaning::{Carried, Decision, Place, Turn};
+use path_trace::Trace;
+use sefl_meaning::{Carried, Place, Turn};
 use sn_tree::Shared;
 use sn_width::{NoMemory, NodeId};
 use std::marker::Model;
@@ -24,15 +25,9 @@ use std::marker::Model;
 /// What a packet with unknown fields carries, and what it has met on its way. The symbols are the
 /// unknown fields and, behind them, the choices. Copies share what they have in common. Contracts
 /// see no domains, since they are those of the condition.
-#[derive(Drop)]
 pub struct SymState {
     pub(crate) carried: Carried<Term>,
-    pub(crate) condition: PathCond,
-    pub(crate) domains: Domains,
-    /// The newest on top.
-    pub(crate) decisions: Shared<Decision>,
-    /// The newest on top.
-    pub(crate) places: Shared<Place>,
+    pub(crate) trace: Trace,
     pub(crate) unknowns: u64,
 }
 
@@ -46,9 +41,9 @@ impl Model for SymState {
 
     ghost coded = { Prim.hlevel (codes, the_formula.the_row.coded) };
 
-    ghost view = { λ s. record { carried = carried_of s.carried; condition = s.condition; decisions = s.decisions; places = s.places; unknowns = s.unknowns } };
+    ghost view = { λ s. record { carried = carried_of s.carried; condition = s.trace.condition; decisions = s.trace.decisions; places = s.trace.places; unknowns = s.unknowns } };
 
-    ghost invariant = { λ s. IsSound (carried_of s.carried) s.condition s.domains s.unknowns };
+    ghost invariant = { λ s. IsSound (carried_of s.carried) s.trace.condition s.unknowns };
 }
 
 impl SymState {
@@ -56,22 +51,12 @@ impl SymState {
     pub fn fork(&self) -> Result<SymState, NoMemory>
         ensures { IfOk result (λ copy. copy ≡ self.now) }
     {
-        let layers = self.carried.layers.fork()?;
+        let trace = self.trace.fork()?;
         let scopes = self.carried.scopes.fork()?;
-        let condition = self.condition.fork()?;
-        let domains = self.domains.fork()?;
-        let Ok(decisions) = self.decisions.fork() else {
-            return Err(NoMemory);
-        };
-        let Ok(places) = self.places.fork() else {
-            return Err(NoMemory);
-        };
+        let layers = self.carried.layers.fork()?;
         Ok(SymState {
             carried: Carried { layers, scopes },
-            condition,
-            domains,
-            decisions,
-            places,
+            trace,
             unknowns: self.unknowns,
         })
     }
@@ -80,14 +65,14 @@ impl SymState {
     pub fn condition(&self) -> &PathCond
         ensures { result.now ≡ self.now.condition }
     {
-        &self.condition
+        self.trace.condition()
     }
 
     /// The domains of the condition.
     pub fn domains(&self) -> &Domains
         ensures { AreDomainsOf self.now.condition result.now }
     {
-        &self.domains
+        self.trace.domains()
     }
 
     /// Tags and header cells.
@@ -123,17 +108,14 @@ impl SymState {
     pub fn last_place(&self) -> Option<Place>
         ensures { result ≡ first self.now.places }
     {
-        self.places.top().copied()
+        self.trace.last_place()
     }
 
     /// The node of the port that was arrived at last; node 0 before that.
     pub(crate) fn node(&self) -> NodeId
         ensures { result ≡ node_of self.now.places }
     {
-        match self.places.top() {
-            None => NodeId(0),
-            Some(place) => place.node,
-        }
+        self.trace.node()
     }
 
     /// Where the code runs that the state has come to, in these turns.
@@ -145,5 +127,18 @@ impl SymState {
             node: self.node(),
             turns: bound,
         }
+    }
+}
+
+// Written out, and not derived, so that the proof of a function that lets one go sees a call.
+impl Drop for SymState {
+    fn drop(self) {
+        let SymState {
+            carried,
+            trace,
+            unknowns: _,
+        } = self;
+        drop(carried);
+        drop(trace);
     }
 }

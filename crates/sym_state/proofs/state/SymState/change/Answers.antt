@@ -18,7 +18,7 @@ use Rattle.sym_state.proofs.state.SymState.change.Goals as goal
 
 pub invariant_of-self : goal.invariant_of-self
 invariant_of-self c =
-    let widths = c.self.inside.condition.widths in
+    let widths = c.self.inside.trace.condition.widths in
     let o = terms c.self.inside.unknowns in
     let at = scene_of c.args.at.now in
     let s = carried_of c.self.inside.carried in
@@ -33,13 +33,12 @@ invariant_of-self c =
           (λ name addr. laws.created fits at name addr s held) (λ name addr. laws.set fits at name addr s held) (λ name. laws.destroyed fits at name s held)
           c.args.change)
           held;
-      domains = c.self.invariant.domains;
       known = c.self.invariant.known;
     }
 
 pub returns-clause-commutes : goal.returns-clause-commutes
 returns-clause-commutes c = λ v.
-    let widths = c.self.inside.condition.widths in
+    let widths = c.self.inside.trace.condition.widths in
     let unknowns = c.self.inside.unknowns in
     let o = terms unknowns in
     let p = numbers v unknowns in

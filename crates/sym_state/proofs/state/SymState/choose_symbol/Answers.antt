@@ -1,8 +1,9 @@
-use Rattle.std.proofs.Common.{◌≡◌, ℕ, List, [], ◌∷◌, ◌++◌, length, ap, sym, ◌∙◌, subst, arith, length-append}
+use Rattle.std.proofs.Common.{◌≡◌, ℕ, List, [], ◌∷◌, ◌++◌, length, ap, sym, subst, arith, length-append}
 use Rattle.job_items.specs.AtomRules.{width_of}
 use Rattle.lin_term.specs.Terms.{LinearTerm}
 use Rattle.path_cond.specs.Conditions.{Condition}
-use Rattle.interval_solver.specs.Domains.{AreDomainsOf, with_width}
+use Rattle.interval_solver.specs.Domains.{with_width}
+use Rattle.path_trace.specs.Traces.{Met}
 use Rattle.instr_steps.specs.Scenes.{scene_of}
 use Rattle.sefl_meaning.specs.Steps.{assigned}
 use Rattle.sefl_meaning.specs.Valued.{CarriedFits, Fits}
@@ -14,8 +15,8 @@ use Rattle.sym_state.proofs.state.SymState.choose_symbol.Goals as goal
 
 pub invariant_of-self-2 : goal.invariant_of-self-2
 invariant_of-self-2 c =
-    let old = c.self.inside.condition in
-    let next = c.in_ok-condition.condition in
+    let old = c.self.inside.trace.condition in
+    let next = c.in_ok-trace.trace.condition in
     let widths = old.widths in
     let at = scene_of c.args.at.now in
     let target = c.args.target.now in
@@ -23,9 +24,9 @@ invariant_of-self-2 c =
     let more = widths ++ w ∷ [] in
     let s = carried_of c.self.inside.carried in
     let term = c.in_ok-term.term in
-    let grown : next ≡ with_width old w = c.in_ok-condition.ensures in
+    let grown : next ≡ with_width old w = ap (λ (m : Met). m.condition) c.in_ok-trace.ensures in
     let same : next.widths ≡ more = ap (λ (k : Condition). k.widths) grown in
-    let is : term ≡ symbol_term w (length widths) = c.in_ok-term.ensures ∙ ap (symbol_term w) c.symbols.ensures in
+    let is : term ≡ symbol_term w (length widths) = c.in_ok-term.ensures in
     let keeps = c.terms_keep_types.ensures.symbols [] in
     let fits : CarriedFits (typed_fits more) s = c.steps_keep.ensures.weaker (typed_fits widths) (typed_fits more) s (λ n t h. keeps.wider widths w n t h) c.self.invariant.fits in
     let new : Fits (typed_fits more) w term = subst (λ (t : LinearTerm). Fits (typed_fits more) w t) (sym is) (keeps.unknown widths w) in
@@ -34,7 +35,5 @@ invariant_of-self-2 c =
       fits = subst (λ (l : List ℕ). CarriedFits (typed_fits l) (carried_of c.put.new.state)) (sym same)
           (left_by (CarriedFits (typed_fits more)) (assigned at target term s) c.put.result s (carried_of c.put.new.state) c.put.ensures
           (c.steps_keep.ensures.assigned (typed_fits more) at target term s fits at_target) fits);
-      domains = subst (λ (k : Condition). AreDomainsOf k c.in_ok-domains.domains) (sym grown)
-          (c.in_ok-domains.ensures old c.self.invariant.domains c.formulas_are_typed.ensures);
       known = let l : length next.widths ≡ length more = ap length same in let k = c.self.invariant.known in omega (arith, length-append widths (w ∷ []));
     }
