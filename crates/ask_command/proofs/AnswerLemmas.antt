@@ -15,15 +15,16 @@ use Rattle.symbolic_engine.specs.Exploring.{ExploredFor}
 use Rattle.question_meaning.specs.Laws.{IsOfInjection, KeptIsRight}
 use Rattle.question_meaning.specs.Placing.{Asks}
 use Rattle.question_meaning.specs.Questions.{Question, reach, invariant, visible}
-use Rattle.queries.specs.declared.kept.Kept.{Kept}
-use Rattle.queries.specs.declared.kept.Kept.TheVariants.{Found, LeftOpen}
-use Rattle.queries.specs.declared.placing.AskFault.{AskFault}
-use Rattle.queries.specs.declared.placing.AskFault.TheVariants.{NoPlace, NoField, NoMemory}
-use Rattle.queries.specs.declared.question.Question as code
-use Rattle.queries.specs.declared.subject.Subject.{Subject}
+use Rattle.path_questions.specs.declared.kept.Kept.{Kept}
+use Rattle.path_questions.specs.declared.kept.Kept.TheVariants.{Found, LeftOpen}
+use Rattle.path_questions.specs.declared.placing.AskFault.{AskFault}
+use Rattle.path_questions.specs.declared.placing.AskFault.TheVariants.{NoPlace, NoField, NoMemory}
+use Rattle.path_questions.specs.declared.question.Question as code
+use Rattle.path_questions.specs.declared.subject.Subject.{Subject}
+use Rattle.path_questions.specs.Asked.{AreAsked, AsksSome, IsBadAsk, question_seen}
+use Rattle.path_questions.specs.Known.{IsNothing, outcome_seen}
 use Rattle.queries.specs.Answers.{AreReplies, replies_of}
-use Rattle.queries.specs.Asked.{AreAsked, AsksSome, IsBadAsk, question_seen}
-use Rattle.queries.specs.Holding.{AreKept, AreOwn, IsAskingOf, IsNothing, outcome_seen}
+use Rattle.queries.specs.Holding.{AreKept, AreOwn, IsAskingOf}
 use Rattle.ask_command.specs.Answering.{AreAnswers, ending_of, refused_by}
 use Rattle.ask_command.specs.Asks.{AllAsk, IsAskRefusal}
 

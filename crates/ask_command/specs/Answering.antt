@@ -5,12 +5,12 @@ use Rattle.exact_records.specs.Packets.{AreExactFor}
 use Rattle.exact_records.specs.Records.{RecordTree}
 use Rattle.path_exec.specs.declared.exploration.Ended.{Ended}
 use Rattle.path_exec.specs.declared.exploration.Ended.TheVariants as ended
-use Rattle.queries.specs.declared.placing.AskFault.{AskFault}
-use Rattle.queries.specs.declared.placing.AskFault.TheVariants as asked
-use Rattle.queries.specs.declared.placing.BadAsk.{BadAsk}
-use Rattle.queries.specs.declared.question.Question.{Question}
+use Rattle.path_questions.specs.declared.placing.AskFault.{AskFault}
+use Rattle.path_questions.specs.declared.placing.AskFault.TheVariants as asked
+use Rattle.path_questions.specs.declared.placing.BadAsk.{BadAsk}
+use Rattle.path_questions.specs.declared.question.Question.{Question}
+use Rattle.path_questions.specs.Asked.{question_seen}
 use Rattle.queries.specs.Answers.{AreReplies, Reply}
-use Rattle.queries.specs.Asked.{question_seen}
 use Rattle.run_answers.specs.declared.ending.Ending.{Ending}
 use Rattle.run_answers.specs.declared.ending.Ending.TheVariants.{Done, Partial}
 use Rattle.run_answers.specs.declared.fault.OwnFault.{OwnFault}

@@ -7,11 +7,12 @@ use Rattle.path_records.specs.declared.records.Record.{Record}
 use Rattle.exact_records.specs.Records.{RecordTree}
 use Rattle.exact_records.specs.View.{record_tree, record_trees}
 use Rattle.question_meaning.specs.Telling.{saying}
-use Rattle.queries.specs.Asked.{question_seen}
-use Rattle.queries.specs.Holding.{AreKept, is_found}
-use Rattle.queries.specs.declared.kept.Kept.{Kept}
-use Rattle.queries.specs.declared.kept.Kept.TheVariants.{Found, LeftOpen}
-use Rattle.queries.specs.declared.question.Question as code
+use Rattle.path_questions.specs.Asked.{question_seen}
+use Rattle.path_questions.specs.Known.{is_found}
+use Rattle.path_questions.specs.declared.kept.Kept.{Kept}
+use Rattle.path_questions.specs.declared.kept.Kept.TheVariants.{Found, LeftOpen}
+use Rattle.path_questions.specs.declared.question.Question as code
+use Rattle.queries.specs.Holding.{AreKept}
 use Rattle.queries.proofs.KeptLemmas.{stays_found}
 
 module _ (net : Network) (i : Entry) (hops : ℕ) where

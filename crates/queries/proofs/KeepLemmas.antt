@@ -6,12 +6,13 @@ use Rattle.net_check.specs.Network.{Network, Entry}
 use Rattle.exact_records.specs.Records.{RecordTree}
 use Rattle.question_meaning.specs.Questions.{Question}
 use Rattle.question_meaning.specs.Telling.{IsKept, left_open, saying}
-use Rattle.queries.specs.Holding.{IsKeptOf, is_found, outcome_seen, outcome_with}
+use Rattle.path_questions.specs.Known.{is_found, outcome_seen}
+use Rattle.path_questions.specs.declared.judging.Judged.{Judged}
+use Rattle.path_questions.specs.declared.judging.Judged.TheVariants.{Hit, Open, RuledOut}
+use Rattle.path_questions.specs.declared.kept.Kept.{Kept}
+use Rattle.path_questions.specs.declared.kept.Kept.TheVariants.{Found, LeftOpen}
+use Rattle.queries.specs.Holding.{IsKeptOf, outcome_with}
 use Rattle.queries.specs.Judged.{IsSaid, IsSeenOf, SaysOf}
-use Rattle.queries.specs.declared.judging.Judged.{Judged}
-use Rattle.queries.specs.declared.judging.Judged.TheVariants.{Hit, Open, RuledOut}
-use Rattle.queries.specs.declared.kept.Kept.{Kept}
-use Rattle.queries.specs.declared.kept.Kept.TheVariants.{Found, LeftOpen}
 use Rattle.queries.specs.declared.seen.Seen.{Seen}
 use Rattle.queries.proofs.KeptLemmas.{hit_comes, open_comes, out_comes, stays_found}
 use Rattle.queries.proofs.Telling.{none_where_out}

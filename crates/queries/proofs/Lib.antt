@@ -1,15 +1,9 @@
-mod AskLemmas
-mod DecisionLemmas
 mod Every
-mod FieldLemmas
 mod FoundLemmas
-mod Going
-mod IdLemmas
 mod KeepLemmas
 mod KeptLemmas
 mod OneLemmas
 mod PlaceLemmas
-mod StateLemmas
 mod Stating
 mod TakenLemmas
 mod Telling

@@ -1,6 +1,7 @@
 -- Ports, and lists that are searched for one.
 use Rattle.std.proofs.Common.{◌≡◌, ◌∙◌, ℕ, zero, suc, ◌+◌, ◌-◌, ◌<◌, Bool, true, false, ◌==◌, ◌&&◌, true≢false, List, [], ◌∷◌, length, drop, get_or, slice_get, refl, sym, ap, subst, Option, Some, arith, if◌then◌else◌}
 use Rattle.std.proofs.lemmas.Bool.Decides.{nat_tests}
+use Rattle.std.proofs.lemmas.List.{drop_more}
 use Rattle.std.proofs.lemmas.Map.Views.{exact_unsigned_eq}
 use Rattle.sefl_syntax.specs.declared.net.Side.{Side}
 use Rattle.sefl_syntax.specs.declared.net.Side.TheVariants.{Inward, Outward}
@@ -8,7 +9,6 @@ use Rattle.sefl_meaning.specs.declared.walk.Place.{Place}
 use Rattle.question_meaning.specs.Questions.{same_place, same_side}
 use Rattle.queries.specs.declared.states.Stop.{Stop}
 use Rattle.queries.specs.Paths.{ends_with, has_place, noted_at}
-use Rattle.queries.proofs.FieldLemmas.{next_is}
 
 -- ---- the same port
 
@@ -74,6 +74,9 @@ else_is true x y e = absurd (true≢false e)
 else_is false x y e = refl
 
 -- ---- the next of a list
+
+next_is : {A : Type 0} (xs : List A) (n : ℕ) (x : A) → n < length xs → x ≡ get_or xs n x → drop n xs ≡ x ∷ drop (n + 1) xs
+next_is xs n x less is = drop_more xs n x less ∙ ap (λ y. y ∷ drop (n + 1) xs) (sym is)
 
 module _ (place : Place) (places : List Place) (n : ℕ) (p : Place) (less : n < length places) (is : p ≡ get_or places n p) where
   next_place : has_place place (drop n places) ≡ (if same_place place p then true else has_place place (drop (n + 1) places))

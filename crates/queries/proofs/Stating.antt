@@ -15,9 +15,10 @@ use Rattle.sym_state.specs.Symbolic.{Symbolic}
 use Rattle.symbolic_engine.specs.Exploring.{ArrivesBy, ArrivesIn, FollowsTo}
 use Rattle.question_meaning.specs.Formulas.{asked_left, asked_on, explored}
 use Rattle.question_meaning.specs.Questions.{Field, Question, reach, invariant, visible, ends_at, if_delivered, same_place, states_at}
+use Rattle.path_questions.specs.Asked.{look_of}
+use Rattle.path_questions.specs.declared.looking.Look.TheVariants.{AtEnd, OnArrivals}
 use Rattle.queries.specs.declared.states.PathRun.{PathRun}
 use Rattle.queries.specs.declared.states.Stop.{Stop}
-use Rattle.queries.specs.Asked.{looks_at, looks_at_end}
 use Rattle.queries.specs.Paths.{AreNoted, ArriveAt, AreStatesOf, IsPathRun, delivered_at, ends_with, has_place, noted_at, state_at_end}
 use Rattle.queries.proofs.PlaceLemmas.{by_test, else_false, is_same, not_true, same_is, then_false}
 use Rattle.queries.proofs.Ways.{none_some, same_way, some_same, start_is}
@@ -78,6 +79,17 @@ delivered_so Stopped place places b state c e k = refl
 delivered_so (Failed failure site) place places b state c e k = refl
 delivered_so Cut place places b state c e k = refl
 
+-- ---- where a question looks
+
+same_arrivals : {a b : Place} → OnArrivals a ≡ OnArrivals b → a ≡ b
+same_arrivals e = cc e
+
+same_end : {a b : Place} → AtEnd a ≡ AtEnd b → a ≡ b
+same_end e = cc e
+
+one_look : {a b : Place} → OnArrivals a ≡ AtEnd b → ⊥
+one_look e = cc e
+
 -- ---- the states of a question
 
 module _ (net : Network) (i : Entry) (hops : ℕ) where
@@ -99,20 +111,20 @@ module _ (net : Network) (i : Entry) (hops : ℕ) where
       ∙ (h.0 way leads ∙ ap (λ p. states_at p way.arrivals) (sym (same_is place s.place k))))
       (λ k f. noted_there place ds stops states h.1 f)
 
-  pub states_there : (q : Question) (place : Place) (run : PathRun) (r : IsPathRun net i hops run) (states : List Symbolic) → looks_at q ≡ Some place
+  pub states_there : (q : Question) (place : Place) (run : PathRun) (r : IsPathRun net i hops run) (states : List Symbolic) → look_of q ≡ OnArrivals place
       → ArriveAt net i hops place run.decisions.now states → AreStatesOf net i hops q run.decisions.now states
   states_there (reach own test) place run r states e h = λ way leads.
       let same = same_way net i hops run.decisions.now r.way way r.leads leads in
       h way leads
       ∙ (ap (λ (w : SymRoute). states_at place w.arrivals) (sym same)
-      ∙ (ap (λ p. states_at p r.way.arrivals) (sym (some_same e))
+      ∙ (ap (λ p. states_at p r.way.arrivals) (sym (same_arrivals e))
       ∙ (ap (asked_left (reach own test) r.way.arrivals) (sym r.ended) ∙ ap (asked_on (reach own test)) same)))
-  states_there (invariant own field) place run r states e h = absurd (none_some e)
+  states_there (invariant own field) place run r states e h = absurd (one_look (sym e))
   states_there (visible own field) place run r states e h = λ way leads.
       let same = same_way net i hops run.decisions.now r.way way r.leads leads in
       h way leads
       ∙ (ap (λ (w : SymRoute). states_at place w.arrivals) (sym same)
-      ∙ (ap (λ p. states_at p r.way.arrivals) (sym (some_same e))
+      ∙ (ap (λ p. states_at p r.way.arrivals) (sym (same_arrivals e))
       ∙ (ap (asked_left (visible own field) r.way.arrivals) (sym r.ended) ∙ ap (asked_on (visible own field)) same)))
 
   module _ (run : PathRun) (r : IsPathRun net i hops run) where
@@ -131,11 +143,11 @@ module _ (net : Network) (i : Entry) (hops : ℕ) where
         ∙ (ap (asked_left (invariant place field) r.way.arrivals) (sym r.ended)
         ∙ ap (asked_on (invariant place field)) same))
 
-    pub states_at_end : (q : Question) (place : Place) → looks_at_end q ≡ Some place → (states : List Symbolic) → states ≡ state_at_end run place
+    pub states_at_end : (q : Question) (place : Place) → look_of q ≡ AtEnd place → (states : List Symbolic) → states ≡ state_at_end run place
         → AreStatesOf net i hops q run.decisions.now states
-    states_at_end (reach own test) place looks states e = absurd (none_some looks)
-    states_at_end (invariant own field) place looks states e = ends_where own field states (e ∙ ap (state_at_end run) (sym (some_same looks)))
-    states_at_end (visible own field) place looks states e = absurd (none_some looks)
+    states_at_end (reach own test) place looks states e = absurd (one_look looks)
+    states_at_end (invariant own field) place looks states e = ends_where own field states (e ∙ ap (state_at_end run) (sym (same_end looks)))
+    states_at_end (visible own field) place looks states e = absurd (one_look looks)
 
     -- its decisions lead somewhere
     pub not_closed : ((t : SymTree) (ds : List Decision) (index : ℕ) → IsFirstClosed t ds index → route t ds ≡ None) → (index : ℕ)

@@ -1,26 +1,22 @@
 -- Records that are taken for all questions.
-use Rattle.std.proofs.Common.{◌≡◌, ◌∙◌, ℕ, ◌+◌, Bool, false, List, [], ◌∷◌, ◌++◌, length, sym, ap, subst, arith}
-use Rattle.std.proofs.lemmas.List.{length-append, length-map, map-append}
+use Rattle.std.proofs.Common.{◌≡◌, ◌∙◌, ℕ, ◌+◌, Bool, false, List, [], ◌∷◌, ◌++◌, length, sym, ap, subst}
+use Rattle.std.proofs.lemmas.List.{length-map, map-append}
 use Rattle.net_check.specs.Network.{Network, Entry}
 use Rattle.net_check.specs.Sound.{AreOfOneJob}
 use Rattle.path_records.specs.declared.records.Record.{Record}
 use Rattle.exact_records.specs.Records.{RecordTree}
 use Rattle.exact_records.specs.View.{record_tree, record_trees}
-use Rattle.queries.specs.Deciding.{entry_of, net_of}
+use Rattle.path_questions.specs.Deciding.{entry_of, net_of}
+use Rattle.path_questions.specs.declared.kept.Kept.{Kept}
+use Rattle.path_questions.specs.declared.question.Question.{Question}
+use Rattle.path_questions.specs.declared.subject.Subject.{Subject}
 use Rattle.queries.specs.Holding.{AreKept, AreOwn, IsAskingOf, IsReady, IsSameAsking}
 use Rattle.queries.specs.Judged.{IsSeenOf}
-use Rattle.queries.specs.declared.kept.Kept.{Kept}
-use Rattle.queries.specs.declared.question.Question.{Question}
 use Rattle.queries.specs.declared.seen.Seen.{Seen}
-use Rattle.queries.specs.declared.subject.Subject.{Subject}
+use Rattle.queries.proofs.FoundLemmas.{one_longer}
 
 pub trees_more : (items : List Record) (item : Record) → record_trees (items ++ item ∷ []) ≡ record_trees items ++ record_tree item ∷ []
 trees_more items item = map-append record_tree items (item ∷ [])
-
-one_more : (items : List Record) (item : Record) (count next : ℕ) → count ≡ length items → next ≡ count + 1 → next ≡ length (items ++ item ∷ [])
-one_more items item count next e h =
-    let l = length-append items (item ∷ []) in
-    omega (arith, e, h, l)
 
 module _ (net : Network) (i : Entry) (hops : ℕ) (qs : List Question) where
   -- one record more, for each question
@@ -29,7 +25,7 @@ module _ (net : Network) (i : Entry) (hops : ℕ) (qs : List Question) where
       → (items : List Record) → count ≡ length items → AreKept net i hops (record_trees items) qs old
       → (next ≡ length (items ++ item ∷ [])) × AreKept net i hops (record_trees (items ++ item ∷ [])) qs new
   taken item seen count next old new h s f items e k = (
-    one_more items item count next e h,
+    one_longer items item count next e h,
     subst (λ xs. AreKept net i hops xs qs new) (sym (trees_more items item))
         (f (record_trees items) (record_tree item) (e ∙ sym (length-map items record_tree)) s k),
   )

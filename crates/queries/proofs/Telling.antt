@@ -16,10 +16,10 @@ use Rattle.sym_state.specs.Symbolic.{Symbolic}
 use Rattle.question_meaning.specs.Formulas.{asked_on, condition_with, conditions_on, explored, formula_of}
 use Rattle.question_meaning.specs.Questions.{Question}
 use Rattle.question_meaning.specs.Telling.{HasRefutation, RulesItOut, ShowsNoHit}
-use Rattle.queries.specs.declared.judging.Judged.{Judged}
-use Rattle.queries.specs.declared.judging.Judged.TheVariants.{Hit, Open, RuledOut}
+use Rattle.path_questions.specs.declared.judging.Judged.{Judged}
+use Rattle.path_questions.specs.declared.judging.Judged.TheVariants.{Hit, Open, RuledOut}
+use Rattle.path_questions.specs.Deciding.{IsJudged, conditions_with}
 use Rattle.queries.specs.declared.states.PathRun.{PathRun}
-use Rattle.queries.specs.Deciding.{IsJudged, conditions_with}
 use Rattle.queries.specs.declared.seen.Seen.{Seen}
 use Rattle.queries.specs.declared.seen.Seen.TheVariants.{Path}
 use Rattle.queries.specs.declared.states.Stop.{Stop}

@@ -7,13 +7,13 @@ use Rattle.question_meaning.specs.Answers.{IsRight}
 use Rattle.question_meaning.specs.Placing.{Asks}
 use Rattle.question_meaning.specs.Questions.{Question, reach, invariant, visible}
 use Rattle.question_meaning.specs.Telling.{Outcome, found, left_open}
+use Rattle.path_questions.specs.declared.kept.Kept.{Kept}
+use Rattle.path_questions.specs.declared.question.Question as code
+use Rattle.path_questions.specs.Asked.{question_seen}
+use Rattle.path_questions.specs.Known.{outcome_seen}
 use Rattle.queries.specs.declared.answer.Answer.{Answer}
 use Rattle.queries.specs.declared.answer.Answer.TheVariants.{Yes, No, Unknown}
 use Rattle.queries.specs.declared.answer.Hit.{Hit}
-use Rattle.queries.specs.declared.kept.Kept.{Kept}
-use Rattle.queries.specs.declared.question.Question as code
-use Rattle.queries.specs.Asked.{question_seen}
-use Rattle.queries.specs.Holding.{outcome_seen}
 
 -- an answer: yes or no, with the number of a record and values, or without; or unknown, by the records of these numbers
 pub data Reply : Type 0 where

@@ -1,5 +1,5 @@
 -- What is kept of questions.
-use Rattle.std.specs.Prelude.{ℕ, zero, suc, ◌≡◌, Bool, false, true, List, [], ◌∷◌, ◌++◌, length}
+use Rattle.std.specs.Prelude.{ℕ, zero, suc, ◌≡◌, Bool, false, List, [], ◌∷◌, ◌++◌, length}
 use Rattle.std.specs.List.{AllByRecursion}
 use Rattle.net_check.specs.Network.{Network, Entry}
 use Rattle.net_check.specs.Sound.{AreOfOneJob}
@@ -9,19 +9,14 @@ use Rattle.exact_records.specs.View.{record_trees}
 use Rattle.question_meaning.specs.Laws.{IsOfInjection}
 use Rattle.question_meaning.specs.Questions.{Question}
 use Rattle.question_meaning.specs.Telling.{IsKept, Outcome, found, left_open, saying}
-use Rattle.queries.specs.Asked.{question_seen}
-use Rattle.queries.specs.Deciding.{entry_of, net_of}
-use Rattle.queries.specs.declared.judging.Judged.{Judged}
-use Rattle.queries.specs.declared.judging.Judged.TheVariants.{Hit, Open, RuledOut}
-use Rattle.queries.specs.declared.kept.Kept.{Kept}
-use Rattle.queries.specs.declared.kept.Kept.TheVariants.{Found, LeftOpen}
-use Rattle.queries.specs.declared.question.Question as code
-use Rattle.queries.specs.declared.subject.Subject.{Subject}
-
--- what is kept of a question
-abbrev pub outcome_seen : Kept → Outcome
-outcome_seen (Found number values) = found number values
-outcome_seen (LeftOpen numbers) = left_open numbers.items
+use Rattle.path_questions.specs.Asked.{question_seen}
+use Rattle.path_questions.specs.Deciding.{entry_of, net_of}
+use Rattle.path_questions.specs.Known.{outcome_seen}
+use Rattle.path_questions.specs.declared.judging.Judged.{Judged}
+use Rattle.path_questions.specs.declared.judging.Judged.TheVariants.{Hit, Open, RuledOut}
+use Rattle.path_questions.specs.declared.kept.Kept.{Kept}
+use Rattle.path_questions.specs.declared.question.Question as code
+use Rattle.path_questions.specs.declared.subject.Subject.{Subject}
 
 -- with one number more of records that leave the question open
 abbrev pub left_open_with : ℕ → Outcome → Outcome
@@ -33,15 +28,6 @@ abbrev pub outcome_with : ℕ → Judged → Outcome → Outcome
 outcome_with number (Hit values) outcome = found number values
 outcome_with number Open outcome = left_open_with number outcome
 outcome_with number RuledOut outcome = outcome
-
--- the question has its hit
-abbrev pub is_found : Kept → Bool
-is_found (Found number values) = true
-is_found (LeftOpen numbers) = false
-
-abbrev pub IsNothing : Kept → Type 0
-IsNothing (Found number values) = ⊥
-IsNothing (LeftOpen numbers) = numbers.items ≡ []
 
 -- the first ones have the first property, and the rest the other
 abbrev pub Partly : {Q K : Type 0} → (Q → K → Type 0) → (Q → K → Type 0) → ℕ → List Q → List K → Type 0

@@ -6,9 +6,9 @@ use Rattle.exact_records.specs.Exact.{IsUnexplored}
 use Rattle.exact_records.specs.Records.{RecordTree, path, pruned, unexplored}
 use Rattle.question_meaning.specs.Questions.{Question}
 use Rattle.question_meaning.specs.Telling.{LeavesItOpen, RulesItOut, ShowsHit, ShowsNoHit}
+use Rattle.path_questions.specs.declared.judging.Judged.{Judged}
+use Rattle.path_questions.specs.declared.judging.Judged.TheVariants.{Hit, Open, RuledOut}
 use Rattle.queries.specs.Paths.{AreNoted, IsPathRun}
-use Rattle.queries.specs.declared.judging.Judged.{Judged}
-use Rattle.queries.specs.declared.judging.Judged.TheVariants.{Hit, Open, RuledOut}
 use Rattle.queries.specs.declared.seen.Seen.{Seen}
 use Rattle.queries.specs.declared.seen.Seen.TheVariants.{Path, Untried, Nothing}
 

@@ -1,12 +1,11 @@
 //! Answers.
 
 ghost use Rattle.std.specs.Prelude.{◌≡◌, IfOk, length, map};
+ghost use Rattle.path_questions.specs.Asked.{question_seen};
+ghost use Rattle.path_questions.specs.Known.{outcome_seen};
 ghost use Rattle.queries.specs.Answers.{answer_seen, not_shown_reply, replies_of, reply_of, shown_reply};
-ghost use Rattle.queries.specs.Asked.{question_seen};
-ghost use Rattle.queries.specs.Holding.{outcome_seen};
 
-use crate::kept::Kept;
-use crate::question::Question;
+use path_questions::{Kept, Question};
 use refutation_check::Listed;
 use sn_width::{NoMemory, Num};
 use std::alloc::Global;

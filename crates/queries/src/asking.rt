@@ -3,15 +3,13 @@
 ghost use Rattle.std.specs.Prelude.{◌≡◌, ◌++◌, ◌∷◌, [], IfOk, List, length};
 ghost use Rattle.exact_records.specs.View.{record_trees};
 ghost use Rattle.path_records.specs.declared.records.Record.{Record as RecordOf};
-ghost use Rattle.queries.specs.Deciding.{entry_of, net_of};
+ghost use Rattle.path_questions.specs.Deciding.{entry_of, net_of};
 ghost use Rattle.queries.specs.Holding.{AreKept, IsReady, IsSameAsking};
 
 use crate::keeping::keep_all;
-use crate::kept::{Kept, are_found};
-use crate::question::Question;
 use crate::seen::see;
-use crate::subject::Subject;
 use path_exec::{Receiver, Took};
+use path_questions::{Kept, Question, Subject, are_found};
 use path_records::Record;
 use sn_width::NoMemory;
 use std::alloc::Global;
@@ -21,7 +19,7 @@ use std::marker::{Brand, PhantomData};
 pub trait Mark {
     ghost use Rattle.std.specs.Prelude.{ℕ, List};
     ghost use Rattle.net_check.specs.Network.{Entry, Network};
-    ghost use Rattle.queries.specs.declared.question.Question.{Question};
+    ghost use Rattle.path_questions.specs.declared.question.Question.{Question};
 
     ghost net: { Network };
 
@@ -108,11 +106,16 @@ impl<M: Mark> Receiver for Asking<'_, M> {
 
     fn take(&mut self, item: Record) -> Took {
         if self.failed {
+            drop(item);
             return Took::NoMemory;
         }
         match self.keep(&item) {
-            Ok(()) => Took::More,
+            Ok(()) => {
+                drop(item);
+                Took::More
+            }
             Err(_) => {
+                drop(item);
                 self.failed = true;
                 Took::NoMemory
             }

@@ -4,17 +4,15 @@ ghost use Rattle.std.specs.Prelude.{◌≡◌, ◌++◌, ◌∷◌, [], IfOk, Li
 ghost use Rattle.net_check.specs.Sound.{AreOfOneJob};
 ghost use Rattle.exact_records.specs.Records.{RecordTree};
 ghost use Rattle.question_meaning.specs.Laws.{IsOfInjection};
-ghost use Rattle.queries.specs.Asked.{question_seen};
-ghost use Rattle.queries.specs.Deciding.{entry_of, net_of};
+ghost use Rattle.path_questions.specs.Asked.{question_seen};
+ghost use Rattle.path_questions.specs.Deciding.{entry_of, net_of};
+ghost use Rattle.path_questions.specs.Known.{outcome_seen};
 ghost use Rattle.queries.specs.Judged.{IsSeenOf, IsWellSeen};
-ghost use Rattle.queries.specs.Holding.{AreKept, AreOwn, IsKeptOf, left_open_with, outcome_seen, outcome_with};
+ghost use Rattle.queries.specs.Holding.{AreKept, AreOwn, IsKeptOf, left_open_with, outcome_with};
 
-use crate::judging::Judged;
-use crate::kept::Kept;
-use crate::question::Question;
 use crate::saying::judge;
 use crate::seen::Seen;
-use crate::subject::Subject;
+use path_questions::{Judged, Kept, Question, Subject};
 use path_solver::laws::verdicts_on_trees_are_exact;
 use sn_width::NoMemory;
 use std::alloc::Global;

@@ -1,18 +1,17 @@
 //! What a record says of a question.
 
-ghost use Rattle.std.specs.Prelude.{◌≡◌, IfOk, Some};
+ghost use Rattle.std.specs.Prelude.{◌≡◌, IfOk};
 ghost use Rattle.net_check.specs.Sound.{AreOfOneJob};
 ghost use Rattle.question_meaning.specs.Laws.{IsOfInjection};
-ghost use Rattle.queries.specs.Asked.{looks_at, looks_at_end, question_seen};
-ghost use Rattle.queries.specs.Deciding.{entry_of, net_of};
+ghost use Rattle.path_questions.specs.Asked.{look_of, question_seen};
+ghost use Rattle.path_questions.specs.Deciding.{entry_of, net_of};
+ghost use Rattle.path_questions.specs.declared.looking.Look.TheVariants.{AtEnd, OnArrivals};
 ghost use Rattle.queries.specs.Paths.{AreNoted, AreStatesOf, IsJudgedOn, IsPathRun};
 ghost use Rattle.queries.specs.Judged.{IsWellSeen, SaysOf};
 
-use crate::judging::{Judged, judge_states};
-use crate::question::Question;
 use crate::seen::Seen;
 use crate::states::{PathRun, Stop, noted_at, state_at_end, states_at};
-use crate::subject::Subject;
+use path_questions::{Judged, Look, Question, Subject, judge_states, look_of};
 use question_meaning::laws::the_formulas_of_questions_are_typed;
 use sefl_meaning::Place;
 use sn_width::NoMemory;
@@ -56,7 +55,7 @@ fn judge_at(
     requires own { IsOfInjection (net_of subject.now) (entry_of subject.now) (question_seen question.now) }
     requires path { IsPathRun (net_of subject.now) (entry_of subject.now) subject.now.hops run.now }
     requires stops { AreNoted (net_of subject.now) (entry_of subject.now) subject.now.hops run.now.decisions.now stops.now }
-    requires looks { looks_at (question_seen question.now) ≡ Some place }
+    requires looks { look_of (question_seen question.now) ≡ OnArrivals place }
     ensures { IfOk result (IsJudgedOn (net_of subject.now) (entry_of subject.now) subject.now.hops (question_seen question.now) run.now.decisions.now) }
 {
     if let Some(states) = noted_at(stops, place) {
@@ -76,7 +75,7 @@ fn judge_at_end(
 ) -> Result<Judged, NoMemory>
     requires own { IsOfInjection (net_of subject.now) (entry_of subject.now) (question_seen question.now) }
     requires path { IsPathRun (net_of subject.now) (entry_of subject.now) subject.now.hops run.now }
-    requires looks { looks_at_end (question_seen question.now) ≡ Some place }
+    requires looks { look_of (question_seen question.now) ≡ AtEnd place }
     ensures { IfOk result (IsJudgedOn (net_of subject.now) (entry_of subject.now) subject.now.hops (question_seen question.now) run.now.decisions.now) }
 {
     let states = state_at_end(alloc, run, place)?;
@@ -97,10 +96,9 @@ fn judge_path(
     requires stops { AreNoted (net_of subject.now) (entry_of subject.now) subject.now.hops run.now.decisions.now stops.now }
     ensures { IfOk result (IsJudgedOn (net_of subject.now) (entry_of subject.now) subject.now.hops (question_seen question.now) run.now.decisions.now) }
 {
-    match question {
-        Question::Reach { place, .. } => judge_at(alloc, subject, question, run, stops, *place),
-        Question::Invariant { place, .. } => judge_at_end(alloc, subject, question, run, *place),
-        Question::Visible { place, .. } => judge_at(alloc, subject, question, run, stops, *place),
+    match look_of(question) {
+        Look::OnArrivals { place } => judge_at(alloc, subject, question, run, stops, place),
+        Look::AtEnd { place } => judge_at_end(alloc, subject, question, run, place),
     }
 }
 

@@ -1,29 +1,27 @@
 //! Records, as questions see them.
 
-ghost use Rattle.std.specs.Prelude.{◌≡◌, IfOk, IfSome, Some, length};
+ghost use Rattle.std.specs.Prelude.{◌≡◌, IfOk, IfSome, length};
 ghost use Rattle.net_check.specs.Sound.{AreOfOneJob};
 ghost use Rattle.exact_records.specs.View.{record_tree};
-ghost use Rattle.queries.specs.Asked.{looks_at, question_seen};
-ghost use Rattle.queries.specs.Deciding.{entry_of, net_of};
+ghost use Rattle.path_questions.specs.Asked.{look_of, question_seen};
+ghost use Rattle.path_questions.specs.Deciding.{entry_of, net_of};
+ghost use Rattle.path_questions.specs.declared.looking.Look.TheVariants.{OnArrivals};
 ghost use Rattle.queries.specs.Paths.{AreNoted, IsPathRun, LeadsSo, SeesPath};
 ghost use Rattle.queries.specs.Judged.{IsSeenOf, IsWellSeen};
 
-use crate::kept::Kept;
-use crate::question::Question;
-use crate::states::{PathRun, Stop, comes_to, end_of, lead, noted_at, states_at};
-use crate::subject::Subject;
+use crate::states::{PathRun, Stop, comes_to, end_of, noted_at, states_at};
 use lin_term::Term;
 use path_exec::FollowFault;
+use path_questions::{Kept, Look, Question, Subject, look_of};
 use path_records::Record;
 use sefl_meaning::laws::the_first_closed_decision_is_one;
 use sefl_meaning::{Decision, Place};
 use sn_width::NoMemory;
 use std::alloc::Global;
-use symbolic_engine::Led;
+use symbolic_engine::{Led, follow};
 use term_values::Formulas;
 
 /// A record, with what questions ask of it.
-#[derive(Drop)]
 pub(crate) enum Seen<'a> {
     /// A path, with its arrivals at some ports.
     Path { run: PathRun<'a>, stops: Vec<Stop> },
@@ -33,25 +31,30 @@ pub(crate) enum Seen<'a> {
     Nothing,
 }
 
-/// The port on whose arrivals the question looks.
-pub(crate) fn looks_at(question: &Question<'_>) -> Option<Place>
-    ensures { result ≡ looks_at (question_seen question.now) }
-{
-    match question {
-        Question::Reach { place, .. } => Some(*place),
-        Question::Invariant { .. } => None,
-        Question::Visible { place, .. } => Some(*place),
+// Written out, and not derived, so that the proof of a function that lets one go sees a call.
+impl Drop for Seen<'_> {
+    fn drop(self) {
+        match self {
+            Seen::Path { run, stops } => {
+                drop(run);
+                drop(stops);
+            }
+            Seen::Untried => {}
+            Seen::Nothing => {}
+        }
     }
 }
 
-/// The same, where no hit is known and the path's arrivals there are still to be noted.
+/// The port on whose arrivals the question looks, where it has no hit yet and the path's arrivals there are still to be noted.
 fn wanted(question: &Question<'_>, known: &Kept, run: &PathRun<'_>, stops: &[Stop]) -> Option<Place>
-    ensures { IfSome result (λ place. looks_at (question_seen question.now) ≡ Some place) }
+    ensures { IfSome result (λ place. look_of (question_seen question.now) ≡ OnArrivals place) }
 {
-    if let Kept::Found { .. } = known {
+    if known.is_found() {
         return None;
     }
-    let place = looks_at(question)?;
+    let Look::OnArrivals { place } = look_of(question) else {
+        return None;
+    };
     if noted_at(stops, place).is_some() || !comes_to(&run.places, place) {
         return None;
     }
@@ -94,15 +97,21 @@ fn path_of<'a>(
 {
     let Led { state, waits } = led;
     let Some(how) = end_of(waits) else {
+        drop(state);
         return Ok(None);
     };
-    let places = state.places(alloc)?;
-    Ok(Some(PathRun {
-        decisions,
-        state,
-        how,
-        places,
-    }))
+    match state.places(alloc) {
+        Ok(places) => Ok(Some(PathRun {
+            decisions,
+            state,
+            how,
+            places,
+        })),
+        Err(error) => {
+            drop(state);
+            Err(error)
+        }
+    }
 }
 
 /// The path that decisions lead along, which is followed once; None where they lead along none.
@@ -115,7 +124,13 @@ fn followed<'a>(
     ensures { IfOk result (SeesPath (net_of subject.now) (entry_of subject.now) subject.now.hops decisions.now) }
 {
     the_first_closed_decision_is_one::<Term, Formulas>();
-    match lead(alloc, subject, decisions) {
+    match follow(
+        alloc,
+        subject.net,
+        subject.injection,
+        subject.hops,
+        decisions,
+    ) {
         Ok(led) => path_of(alloc, subject, decisions, led),
         Err(FollowFault::Impossible { .. }) => Ok(None),
         Err(FollowFault::NoMemory) => Err(NoMemory),

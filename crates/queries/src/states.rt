@@ -1,26 +1,22 @@
 //! The states of a path that questions speak of.
 
-ghost use Rattle.std.specs.Prelude.{◌≡◌, ◌<◌, IfOk, option_map};
+ghost use Rattle.std.specs.Prelude.{◌≡◌, IfOk, option_map};
 ghost use Rattle.net_check.specs.Sound.{AreOfOneJob};
-ghost use Rattle.symbolic_engine.specs.Exploring.{ArrivedFor, FollowedFor};
-ghost use Rattle.queries.specs.Deciding.{entry_of, net_of};
+ghost use Rattle.path_questions.specs.Deciding.{entry_of, net_of};
 ghost use Rattle.queries.specs.Paths.{ArriveAt, IsPathRun, delivered_at, end_of, has_place, noted_at, state_at_end};
 
-use crate::subject::Subject;
 use lin_term::Term;
 use path_exec::FollowFault;
+use path_questions::Subject;
 use sefl_meaning::laws::the_first_closed_decision_is_one;
 use sefl_meaning::{Decision, End, Place};
-use sn_width::{NoMemory, Steps};
+use sn_width::NoMemory;
 use std::alloc::Global;
-use std::marker::Brand;
-use std::sync::ledger::{Blank, Ledger};
 use sym_state::SymState;
-use symbolic_engine::{Led, Waits, arrivals, follow};
+use symbolic_engine::{Waits, arrivals};
 use term_values::Formulas;
 
 /// A path: its decisions, its state at the end, how it ends, and the ports that it arrives at.
-#[derive(Drop)]
 pub(crate) struct PathRun<'a> {
     pub(crate) decisions: &'a [Decision],
     pub(crate) state: SymState,
@@ -28,73 +24,26 @@ pub(crate) struct PathRun<'a> {
     pub(crate) places: Vec<Place>,
 }
 
+// Written out, and not derived, so that the proof of a function that lets a path go sees a call.
+impl Drop for PathRun<'_> {
+    fn drop(self) {
+        let PathRun {
+            decisions: _,
+            state,
+            how,
+            places,
+        } = self;
+        drop(state);
+        drop(how);
+        drop(places);
+    }
+}
+
 /// A port, with the states in which a path arrives there.
 #[derive(Drop)]
 pub(crate) struct Stop {
     pub(crate) place: Place,
     pub(crate) states: Vec<SymState>,
-}
-
-/// Where decisions lead, with a counter of its own.
-fn follow_with<L: Ledger>(
-    alloc: Global,
-    subject: &Subject<'_>,
-    decisions: &[Decision],
-    blank: Blank,
-) -> Result<Led, FollowFault>
-    requires job { AreOfOneJob (net_of subject.now) (entry_of subject.now) }
-    requires name { blank.name ≡ L.name }
-    requires parts { blank.parts ≡ L.parts }
-    requires some { 0 < blank.parts }
-    ensures { FollowedFor (net_of subject.now) (entry_of subject.now) subject.now.hops decisions.now result }
-{
-    let mut steps = Steps::<L>::new(blank);
-    follow(
-        alloc,
-        subject.net,
-        subject.injection,
-        subject.hops,
-        decisions,
-        &mut steps,
-    )
-}
-
-/// Where decisions lead; or the first that is not offered.
-pub(crate) fn lead(
-    alloc: Global,
-    subject: &Subject<'_>,
-    decisions: &[Decision],
-) -> Result<Led, FollowFault>
-    requires { AreOfOneJob (net_of subject.now) (entry_of subject.now) }
-    ensures { FollowedFor (net_of subject.now) (entry_of subject.now) subject.now.hops decisions.now result }
-{
-    follow_with::<Brand>(alloc, subject, decisions, Blank::new(1))
-}
-
-/// Where decisions arrive at a port, with a counter of its own.
-fn arrivals_with<L: Ledger>(
-    alloc: Global,
-    subject: &Subject<'_>,
-    decisions: &[Decision],
-    place: Place,
-    blank: Blank,
-) -> Result<Vec<SymState>, FollowFault>
-    requires job { AreOfOneJob (net_of subject.now) (entry_of subject.now) }
-    requires name { blank.name ≡ L.name }
-    requires parts { blank.parts ≡ L.parts }
-    requires some { 0 < blank.parts }
-    ensures { ArrivedFor (net_of subject.now) (entry_of subject.now) subject.now.hops place decisions.now result }
-{
-    let mut steps = Steps::<L>::new(blank);
-    arrivals(
-        alloc,
-        subject.net,
-        subject.injection,
-        subject.hops,
-        decisions,
-        place,
-        &mut steps,
-    )
 }
 
 /// Whether the port is one of these.
@@ -124,7 +73,14 @@ pub(crate) fn states_at(
     if !comes_to(&run.places, place) {
         return Ok(Vec::new(alloc));
     }
-    match arrivals_with::<Brand>(alloc, subject, run.decisions, place, Blank::new(1)) {
+    match arrivals(
+        alloc,
+        subject.net,
+        subject.injection,
+        subject.hops,
+        run.decisions,
+        place,
+    ) {
         Ok(states) => Ok(states),
         Err(FollowFault::Impossible { .. }) => unreachable!(),
         Err(FollowFault::NoMemory) => Err(NoMemory),

@@ -1,6 +1,6 @@
 //! The runs that decisions guide.
 
-ghost use Rattle.std.specs.Prelude.{◌≡◌, map, IfOk};
+ghost use Rattle.std.specs.Prelude.{◌≡◌, ◌<◌, map, IfOk};
 ghost use Rattle.std.specs.List.{AllByRecursion};
 ghost use Rattle.net_check.specs.Network.{entry, network};
 ghost use Rattle.net_check.specs.Sound.{AreOfOneJob};
@@ -18,7 +18,7 @@ use sefl_meaning::{Decision, End, Place};
 use sn_width::{NoMemory, Steps};
 use std::alloc::Global;
 use std::marker::Brand;
-use std::sync::ledger::Ledger;
+use std::sync::ledger::{Blank, Ledger};
 use sym_state::SymState;
 
 /// What waits where decisions lead.
@@ -38,22 +38,21 @@ pub struct Led {
 }
 
 /// The state to which these decisions lead, and what waits there; or the first decision that is not offered.
-pub fn follow<L: Ledger>(
+pub fn follow(
     alloc: Global,
     net: &Net,
     injection: &Injection,
     hops: u32,
     decisions: &[Decision],
-    steps: &mut Steps<L>,
 ) -> Result<Led, FollowFault>
     requires { AreOfOneJob (network net.now) (entry injection.now) }
     ensures { FollowedFor (network net.now) (entry injection.now) hops decisions.now result }
 {
     let first = SymState::from_injection(alloc, net, injection)?;
-    follow_from::<Brand, L>(alloc, net, injection, hops, first, decisions, steps)
+    follow_from::<Brand, Brand>(alloc, net, injection, hops, first, decisions, Blank::new(1))
 }
 
-/// The same from the state that the injection begins with.
+/// The same from the state that the injection begins with, and with a counter of its own.
 fn follow_from<B: Origin, L: Ledger>(
     alloc: Global,
     net: &Net,
@@ -61,15 +60,19 @@ fn follow_from<B: Origin, L: Ledger>(
     hops: u32,
     first: SymState,
     decisions: &[Decision],
-    steps: &mut Steps<L>,
+    blank: Blank,
 ) -> Result<Led, FollowFault>
     requires net { network net.now ≡ B.net }
     requires explored { IsExplored (network net.now) (entry injection.now) hops B.start }
     requires first { IsFirstState B.start (network net.now) hops injection.now.node injection.now.raw.port first }
+    requires name { blank.name ≡ L.name }
+    requires parts { blank.parts ≡ L.parts }
+    requires some { 0 < blank.parts }
     ensures { FollowedFor (network net.now) (entry injection.now) hops decisions.now result }
 {
     let engine = Explorer::<B>::new(alloc, net, injection.place(), hops, first);
-    let next = path_exec::follow(alloc, &engine, decisions, steps)?;
+    let mut steps = Steps::<L>::new(blank);
+    let next = path_exec::follow(alloc, &engine, decisions, &mut steps)?;
     match next {
         Next::AtEnd { over } => {
             let Finished { run, how } = over;
@@ -88,23 +91,31 @@ fn follow_from<B: Origin, L: Ledger>(
 
 /// The states in which the run of these decisions arrives at the port, before the port's code, in order, each with the decisions,
 /// ports and condition up to that arrival; or the first decision that is not offered.
-pub fn arrivals<L: Ledger>(
+pub fn arrivals(
     alloc: Global,
     net: &Net,
     injection: &Injection,
     hops: u32,
     decisions: &[Decision],
     port: Place,
-    steps: &mut Steps<L>,
 ) -> Result<Vec<SymState>, FollowFault>
     requires { AreOfOneJob (network net.now) (entry injection.now) }
     ensures { ArrivedFor (network net.now) (entry injection.now) hops port decisions.now result }
 {
     let first = SymState::from_injection(alloc, net, injection)?;
-    arrivals_from::<Brand, L>(alloc, net, injection, hops, first, decisions, port, steps)
+    arrivals_from::<Brand, Brand>(
+        alloc,
+        net,
+        injection,
+        hops,
+        first,
+        decisions,
+        port,
+        Blank::new(1),
+    )
 }
 
-/// The same from the state that the injection begins with.
+/// The same from the state that the injection begins with, and with a counter of its own.
 fn arrivals_from<B: Origin, L: Ledger>(
     alloc: Global,
     net: &Net,
@@ -113,15 +124,19 @@ fn arrivals_from<B: Origin, L: Ledger>(
     first: SymState,
     decisions: &[Decision],
     port: Place,
-    steps: &mut Steps<L>,
+    blank: Blank,
 ) -> Result<Vec<SymState>, FollowFault>
     requires net { network net.now ≡ B.net }
     requires explored { IsExplored (network net.now) (entry injection.now) hops B.start }
     requires first { IsFirstState B.start (network net.now) hops injection.now.node injection.now.raw.port first }
+    requires name { blank.name ≡ L.name }
+    requires parts { blank.parts ≡ L.parts }
+    requires some { 0 < blank.parts }
     ensures { ArrivedFor (network net.now) (entry injection.now) hops port decisions.now result }
 {
     let engine = Explorer::<B>::new(alloc, net, injection.place(), hops, first);
-    let places = path_exec::arrivals(alloc, &engine, decisions, port, steps)?;
+    let mut steps = Steps::<L>::new(blank);
+    let places = path_exec::arrivals(alloc, &engine, decisions, port, &mut steps)?;
     let states = states_of(alloc, places)?;
     Ok(states)
 }

@@ -1,8 +1,8 @@
 use Rattle.std.proofs.Common.{◌∙◌, map, ap, sym, subst}
 use Rattle.net_check.specs.Network.{entry, network}
 use Rattle.sefl_syntax.specs.Views.{ask_tree}
+use Rattle.path_questions.specs.Asked.{AreAsked, IsBadAsk, question_seen}
 use Rattle.queries.specs.Answers.{answer_seen}
-use Rattle.queries.specs.Asked.{AreAsked, IsBadAsk, question_seen}
 use Rattle.ask_command.specs.Asks.{IsAskRefusal}
 use Rattle.ask_command.specs.Texts.{answers_text}
 use Rattle.ask_command.proofs.AnswerLemmas.{asked_all, bad_ask, own_of}

@@ -1,7 +1,7 @@
 use Rattle.std.proofs.Common.{◌≡◌, List, [], ◌∷◌, ◌++◌, length}
 use Rattle.exact_records.specs.Records.{RecordTree}
-use Rattle.queries.specs.Asked.{question_seen}
-use Rattle.queries.specs.Deciding.{entry_of, net_of}
+use Rattle.path_questions.specs.Asked.{question_seen}
+use Rattle.path_questions.specs.Deciding.{entry_of, net_of}
 use Rattle.queries.specs.Holding.{AreKept, IsKeptOf, Partly}
 use Rattle.queries.specs.Judged.{IsSeenOf}
 use Rattle.queries.proofs.keeping.keep_all.Given as goal

@@ -1,6 +1,6 @@
 use Rattle.std.proofs.Common.{sym}
-use Rattle.queries.specs.Asked.{question_seen}
-use Rattle.queries.specs.Deciding.{entry_of, net_of}
+use Rattle.path_questions.specs.Asked.{question_seen}
+use Rattle.path_questions.specs.Deciding.{entry_of, net_of}
 use Rattle.queries.proofs.Stating.{noted_there, states_there}
 use Rattle.queries.proofs.saying.judge_at.Goals as goal
 

@@ -1,6 +1,6 @@
 use Rattle.std.proofs.Common.{◌∙◌}
-use Rattle.queries.specs.Asked.{question_seen}
-use Rattle.queries.specs.Deciding.{entry_of, net_of}
+use Rattle.path_questions.specs.Asked.{question_seen}
+use Rattle.path_questions.specs.Deciding.{entry_of, net_of}
 use Rattle.queries.proofs.Stating.{states_at_end}
 use Rattle.queries.proofs.saying.judge_at_end.Goals as goal
 

@@ -1,8 +1,8 @@
 use Rattle.std.proofs.Common.{◌∙◌, ap}
 use Rattle.path_cond.specs.Seen.{seen}
 use Rattle.path_formula.specs.View.{view}
-use Rattle.queries.specs.Asked.{question_seen}
-use Rattle.queries.specs.Deciding.{entry_of, net_of}
+use Rattle.path_questions.specs.Asked.{question_seen}
+use Rattle.path_questions.specs.Deciding.{entry_of, net_of}
 use Rattle.queries.proofs.Telling.{judged_on, typed_there}
 use Rattle.queries.proofs.saying.judge_on.Goals as goal
 

@@ -1,4 +1,4 @@
-use Rattle.queries.specs.Deciding.{entry_of, net_of}
+use Rattle.path_questions.specs.Deciding.{entry_of, net_of}
 use Rattle.queries.proofs.Ways.{nowhere}
 use Rattle.queries.proofs.seen.followed.Goals as goal
 

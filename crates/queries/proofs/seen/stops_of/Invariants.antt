@@ -1,4 +1,4 @@
-use Rattle.queries.specs.Deciding.{entry_of, net_of}
+use Rattle.path_questions.specs.Deciding.{entry_of, net_of}
 use Rattle.queries.specs.Paths.{AreNoted}
 use Rattle.queries.proofs.seen.stops_of.Given as goal
 

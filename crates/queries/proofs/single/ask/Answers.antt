@@ -1,9 +1,9 @@
 use Rattle.sefl_syntax.specs.Views.{ask_tree}
 use Rattle.net_check.specs.Network.{entry, network}
 use Rattle.exact_records.specs.View.{record_trees}
+use Rattle.path_questions.specs.Asked.{question_seen}
+use Rattle.path_questions.specs.Known.{outcome_seen}
 use Rattle.queries.specs.Answers.{answer_seen}
-use Rattle.queries.specs.Asked.{question_seen}
-use Rattle.queries.specs.Holding.{outcome_seen}
 use Rattle.queries.proofs.OneLemmas.{answers_it, own_of}
 use Rattle.queries.proofs.single.ask.Goals as goal
 

@@ -1,6 +1,6 @@
 use Rattle.exact_records.specs.View.{record_tree}
-use Rattle.queries.specs.Asked.{question_seen}
-use Rattle.queries.specs.Deciding.{entry_of, net_of}
+use Rattle.path_questions.specs.Asked.{question_seen}
+use Rattle.path_questions.specs.Deciding.{entry_of, net_of}
 use Rattle.queries.proofs.KeepLemmas.{of_record}
 use Rattle.queries.proofs.single.keep_one.Goals as goal
 

@@ -2,8 +2,8 @@ use Rattle.std.proofs.Common.{◌∙◌, ◌+◌, ◌≤◌, [], length, take, r
 use Rattle.path_records.specs.declared.records.Record.{Record}
 use Rattle.exact_records.specs.View.{record_trees}
 use Rattle.question_meaning.specs.Telling.{IsKept, left_open, saying}
-use Rattle.queries.specs.Asked.{question_seen}
-use Rattle.queries.specs.Deciding.{entry_of, net_of}
+use Rattle.path_questions.specs.Asked.{question_seen}
+use Rattle.path_questions.specs.Deciding.{entry_of, net_of}
 use Rattle.queries.specs.Holding.{IsKeptOf}
 use Rattle.queries.proofs.OneLemmas.{count_so_far, next_told, nothing_told, taken_all}
 use Rattle.queries.proofs.single.told.Goals as goal

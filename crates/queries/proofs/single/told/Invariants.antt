@@ -1,7 +1,7 @@
 use Rattle.std.proofs.Common.{◌≡◌, take}
 use Rattle.exact_records.specs.View.{record_trees}
-use Rattle.queries.specs.Asked.{question_seen}
-use Rattle.queries.specs.Deciding.{entry_of, net_of}
+use Rattle.path_questions.specs.Asked.{question_seen}
+use Rattle.path_questions.specs.Deciding.{entry_of, net_of}
 use Rattle.queries.specs.Holding.{IsKeptOf}
 use Rattle.queries.proofs.single.told.Given as goal
 

@@ -1,6 +1,6 @@
 use Rattle.std.proofs.Common.{◌∙◌, sym, ap, subst, List}
 use Rattle.sym_state.specs.Symbolic.{Symbolic}
-use Rattle.queries.specs.Deciding.{entry_of, net_of}
+use Rattle.path_questions.specs.Deciding.{entry_of, net_of}
 use Rattle.queries.specs.Paths.{ArriveAt, has_place}
 use Rattle.queries.proofs.Stating.{arrive_at, arrive_nowhere, not_closed}
 use Rattle.queries.proofs.states.states_at.Goals as goal

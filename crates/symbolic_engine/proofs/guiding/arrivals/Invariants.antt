@@ -3,5 +3,9 @@ use Rattle.sym_state.specs.Beginning.{start_in}
 use Rattle.symbolic_engine.proofs.guiding.arrivals.Given as goal
 
 -- what this call explores
-abbrev pub ghosts-arrivals_from : goal.ghosts-arrivals_from
-ghosts-arrivals_from g a = record { net = network a.net.now; start = start_in (network a.net.now) (entry a.injection.now) a.hops a.first }
+abbrev pub ghosts-arrivals_from-B-Origin : goal.ghosts-arrivals_from-B-Origin
+ghosts-arrivals_from-B-Origin a = record { net = network a.net.now; start = start_in (network a.net.now) (entry a.injection.now) a.hops a.first }
+
+-- the counter of this call
+abbrev pub ghosts-arrivals_from-L-Ledger : goal.ghosts-arrivals_from-L-Ledger
+ghosts-arrivals_from-L-Ledger a = record { name = a.blank.name; parts = a.blank.parts }

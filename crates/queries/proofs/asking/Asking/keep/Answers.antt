@@ -1,7 +1,7 @@
 use Rattle.std.proofs.Common.{◌∙◌, ap, sym}
 use Rattle.std.specs.List.{list_all}
-use Rattle.queries.specs.Deciding.{entry_of, net_of}
-use Rattle.queries.specs.Holding.{is_found}
+use Rattle.path_questions.specs.Deciding.{entry_of, net_of}
+use Rattle.path_questions.specs.Known.{is_found}
 use Rattle.queries.proofs.FoundLemmas.{all_still_found, one_longer}
 use Rattle.queries.proofs.asking.Asking.keep.Goals as goal
 

@@ -1,0 +1,7 @@
+mod AllLemmas
+mod AskLemmas
+mod DecisionLemmas
+mod FieldLemmas
+mod Going
+mod IdLemmas
+mod StateLemmas
