@@ -1,6 +1,5 @@
 //! Runs that decisions guide.
 
-ghost use Rattle.std.specs.Prelude.{◌≡◌, ◌<◌};
 ghost use Rattle.net_check.specs.Network.{entry, network};
 ghost use Rattle.net_check.specs.Sound.{AreOfOneJob};
 
@@ -11,36 +10,17 @@ use path_exec::FollowFault;
 use path_exec::engine::Offer;
 use sefl_meaning::{Decision, End, Place};
 use sefl_syntax::Side;
-use sn_width::{NodeId, Steps};
+use sn_width::NodeId;
 use std::alloc::Global;
-use std::marker::Brand;
 use std::process::Abort;
-use std::sync::ledger::{Blank, Ledger};
 use sym_state::SymState;
 use symbolic_engine::{Led, Waits, arrivals, follow};
-
-/// Where decisions lead, with a new counter.
-fn followed<L: Ledger>(
-    alloc: Global,
-    job: &Accepted,
-    hops: u32,
-    decisions: &[Decision],
-    blank: Blank,
-) -> Result<Led, FollowFault>
-    requires job { AreOfOneJob (network job.now.net) (entry job.now.injection) }
-    requires name { blank.name ≡ L.name }
-    requires parts { blank.parts ≡ L.parts }
-    requires some { 0 < blank.parts }
-{
-    let mut steps = Steps::<L>::new(blank);
-    follow(alloc, &job.net, &job.injection, hops, decisions, &mut steps)
-}
 
 /// Where these decisions, which are offered, lead.
 pub fn led(rt: &impl Abort, alloc: Global, job: &Accepted, hops: u32, decisions: &[Decision]) -> Led
     requires { AreOfOneJob (network job.now.net) (entry job.now.injection) }
 {
-    match followed::<Brand>(alloc, job, hops, decisions, Blank::new(1)) {
+    match follow(alloc, &job.net, &job.injection, hops, decisions) {
         Ok(led) => led,
         Err(_) => panic!(rt; "not offered"),
     }
@@ -109,7 +89,7 @@ fn met(found: &Result<Led, FollowFault>) -> u64 {
 fn assert_led(rt: &impl Abort, alloc: Global, row: &Row) {
     let (text, hops, decisions, count, wanted) = row;
     let job = accepted(rt, alloc, text);
-    let found = followed::<Brand>(alloc, &job, *hops, decisions, Blank::new(1));
+    let found = follow(alloc, &job.net, &job.injection, *hops, decisions);
     let (what, number) = what_comes(&found);
     assert_eq!(rt; what, wanted.0);
     assert_eq!(rt; number, wanted.1);
@@ -122,31 +102,6 @@ fn decisions_lead_to_ends_and_to_questions(rt: HostRuntime) {
     for row in ROWS {
         assert_led(&rt, rt.alloc(), row);
     }
-}
-
-/// The states at a port, with a new counter.
-fn arrived<L: Ledger>(
-    alloc: Global,
-    job: &Accepted,
-    decisions: &[Decision],
-    port: Place,
-    blank: Blank,
-) -> Result<Vec<SymState>, FollowFault>
-    requires job { AreOfOneJob (network job.now.net) (entry job.now.injection) }
-    requires name { blank.name ≡ L.name }
-    requires parts { blank.parts ≡ L.parts }
-    requires some { 0 < blank.parts }
-{
-    let mut steps = Steps::<L>::new(blank);
-    arrivals(
-        alloc,
-        &job.net,
-        &job.injection,
-        3,
-        decisions,
-        port,
-        &mut steps,
-    )
 }
 
 /// A job, decisions, a port with number 0, and how often the run arrives there; None where the decisions are not offered.
@@ -169,7 +124,7 @@ fn assert_arrivals(rt: &impl Abort, alloc: Global, row: &Visit) {
         side: *side,
         port: 0,
     };
-    let states = arrived::<Brand>(alloc, &job, decisions, port, Blank::new(1)).ok();
+    let states = arrivals(alloc, &job.net, &job.injection, 3, decisions, port).ok();
     let_go(job);
     assert_eq!(rt; states.map(|states| states.len()), *wanted);
 }

@@ -1,10 +1,10 @@
 //! What texts are made into.
 
-use crate::jobs::{joined, repeated};
+use crate::jobs::{check_printed, joined, repeated, same_count};
 use sefl_builder::build;
 use sefl_lex::tokens;
-use sefl_syntax::{Job, print_job};
-use std::alloc::AllocGlobal;
+use sefl_syntax::Job;
+use std::alloc::Global;
 use std::process::Abort;
 
 /// A job in the first version of the text.
@@ -72,43 +72,68 @@ ask reach out b.0 with 1 == 1;
 ";
 
 /// The job that is made of a text, where one is.
-fn built(rt: &(impl Abort + AllocGlobal), text: &str) -> Option<Job> {
-    let found = tokens(rt.alloc(), text).expect(rt, "tokens");
-    build(rt.alloc(), text, &found).expect(rt, "memory")
+fn built(rt: &impl Abort, alloc: Global, text: &str) -> Option<Job> {
+    let found = tokens(alloc, text).expect(rt, "tokens");
+    build(alloc, text, &found).expect(rt, "memory")
 }
 
 /// Checks that a job is made of the text, with this text in the second version.
-fn check_printed(rt: &(impl Abort + AllocGlobal), text: &str, canonical: &str) {
-    let job = built(rt, text).expect(rt, "a job");
-    let printed = print_job(rt.alloc(), &job).expect(rt, "memory");
-    assert_eq!(rt; printed.as_str(), canonical);
+fn check_built(rt: &impl Abort, alloc: Global, text: &str, canonical: &str) {
+    let job = built(rt, alloc, text).expect(rt, "a job");
+    check_printed(rt, alloc, &job, canonical);
+    drop(job);
+}
+
+fn check_not_built(rt: &impl Abort, alloc: Global, text: &str) {
+    let job = built(rt, alloc, text);
+    assert!(rt; job.is_none());
+    drop(job);
 }
 
 #[test]
 fn jobs_are_made_of_their_texts(rt: HostRuntime) {
     for (text, canonical) in [(OLD, OLD_AS_NEW), (OLD_AS_NEW, OLD_AS_NEW), (NEW, NEW)] {
-        check_printed(&rt, text, canonical);
+        check_built(&rt, rt.alloc(), text, canonical);
     }
 }
 
 /// A job with a test within so many parentheses.
-fn nested(rt: &(impl Abort + AllocGlobal), count: u32) -> String {
-    let (open, close) = (repeated(rt, "(", count), repeated(rt, ")", count));
+fn nested(rt: &impl Abort, alloc: Global, count: u32) -> String {
+    let (open, close) = (
+        repeated(rt, alloc, "(", count),
+        repeated(rt, alloc, ")", count),
+    );
     let front = "symnet 2; inject a.0 { where ";
-    joined(rt, &[front, open.as_str(), "1", close.as_str(), " == 1; }"])
+    joined(
+        rt,
+        alloc,
+        &[front, open.as_str(), "1", close.as_str(), " == 1; }"],
+    )
 }
 
 #[test]
 fn parentheses_nest_to_64(rt: HostRuntime) {
     let canonical = "symnet 2;\ninject a.0 {\n  where 1 == 1;\n}\n";
-    check_printed(&rt, nested(&rt, 64).as_str(), canonical);
-    assert!(rt; built(&rt, nested(&rt, 65).as_str()).is_none());
+    let most = nested(&rt, rt.alloc(), 64);
+    check_built(&rt, rt.alloc(), most.as_str(), canonical);
+    let more = nested(&rt, rt.alloc(), 65);
+    check_not_built(&rt, rt.alloc(), more.as_str());
 }
 
 #[test]
 fn a_long_job_is_made_in_one_pass(rt: HostRuntime) {
-    let asks = repeated(&rt, " ask reach in a.0 with 1 in {1, 2};", 20_000);
-    let text = joined(&rt, &["symnet 2; inject a.0 { }", asks.as_str()]);
-    let job = built(&rt, text.as_str()).expect(&rt, "a job");
-    assert_eq!(rt; job.asks.len(), 20_000);
+    let asks = repeated(
+        &rt,
+        rt.alloc(),
+        " ask reach in a.0 with 1 in {1, 2};",
+        20_000,
+    );
+    let text = joined(
+        &rt,
+        rt.alloc(),
+        &["symnet 2; inject a.0 { }", asks.as_str()],
+    );
+    let job = built(&rt, rt.alloc(), text.as_str()).expect(&rt, "a job");
+    same_count(&rt, job.asks.len() as u64, 20_000);
+    drop(job);
 }

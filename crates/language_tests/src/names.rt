@@ -1,10 +1,10 @@
 //! The names and the patterns of a job.
 
-use crate::jobs::{job_of, name_of, text_of};
+use crate::jobs::{check, job_of, name_of, same_count, text_of};
 use job_names::{JobNames, names_of};
 use sefl_syntax::Name;
 use sn_width::{NameId, TagId};
-use std::alloc::AllocGlobal;
+use std::alloc::Global;
 use std::process::Abort;
 
 /// A For (item 3) that sets `c` and then has a For in it (5), behind a tag's instruction, and then a
@@ -14,8 +14,11 @@ const JOB: &str = "node r 1 -> 0 { in 0 { tag L4 = L3+8; \
     inject r.0 { tag L3 = L2+8; field head L3+8:8; where global b:8 == 0; } \
     ask visible global a:8 at in r.0;";
 
-fn names_of_example(rt: &(impl Abort + AllocGlobal)) -> JobNames {
-    names_of(rt.alloc(), &job_of(rt, JOB)).expect(rt, "memory")
+fn names_of_example(rt: &impl Abort, alloc: Global) -> JobNames {
+    let job = job_of(rt, alloc, JOB);
+    let names = names_of(alloc, &job).expect(rt, "memory");
+    drop(job);
+    names
 }
 
 fn is_meta(names: &JobNames, id: u32, text: &str) -> bool {
@@ -35,26 +38,27 @@ fn is_pattern(names: &JobNames, index: usize, text: &str, site: u64) -> bool {
 }
 
 fn check_order(rt: &impl Abort, names: &JobNames) {
-    assert_eq!(rt; names.meta_count(), 3);
-    assert_eq!(rt; names.tag_count(), 3);
+    same_count(rt, u64::from(names.meta_count()), 3);
+    same_count(rt, u64::from(names.tag_count()), 3);
     for (id, meta, tag) in [(0, "a", "L2"), (1, "b", "L3"), (2, "c", "L4")] {
-        assert!(rt; is_meta(names, id, meta), "{meta}");
-        assert!(rt; is_tag(names, id, tag), "{tag}");
+        check(rt, is_meta(names, id, meta), meta);
+        check(rt, is_tag(names, id, tag), tag);
     }
 }
 
 fn check_occurrences(rt: &impl Abort, names: &JobNames) {
-    assert_eq!(rt; names.pattern_count(), 2);
+    same_count(rt, names.pattern_count() as u64, 2);
     for (index, text, site) in [(0, "^opt", 3), (1, ".", 5)] {
-        assert!(rt; is_pattern(names, index, text, site), "{text}");
+        check(rt, is_pattern(names, index, text, site), text);
     }
 }
 
 #[test]
 fn names_are_ascending_and_patterns_in_order_of_first_occurrence(rt: HostRuntime) {
-    let names = names_of_example(&rt);
+    let names = names_of_example(&rt, rt.alloc());
     check_order(&rt, &names);
     check_occurrences(&rt, &names);
+    drop(names);
 }
 
 /// Whether the name has these ids, as that of metadata and of a tag.
@@ -62,23 +66,35 @@ fn has_ids(names: &JobNames, name: &Name, meta: Option<NameId>, tag: Option<TagI
     names.meta_id(name) == meta && names.tag_id(name) == tag
 }
 
-fn check_ids(rt: &(impl Abort + AllocGlobal), names: &JobNames) {
-    for (text, meta, tag) in [("c", Some(NameId(2)), None), ("L2", None, Some(TagId(0)))] {
-        let name = name_of(rt, text);
-        assert!(rt; has_ids(names, &name, meta, tag), "{text}");
-    }
+fn check_ids(
+    rt: &impl Abort,
+    alloc: Global,
+    names: &JobNames,
+    text: &str,
+    meta: Option<NameId>,
+    tag: Option<TagId>,
+) {
+    let name = name_of(rt, alloc, text);
+    check(rt, has_ids(names, &name, meta, tag), text);
 }
 
-fn check_patterns(rt: &(impl Abort + AllocGlobal), names: &JobNames) {
-    for (text, index) in [(".", Some(1)), ("opt", None)] {
-        let pattern = text_of(rt, text);
-        assert!(rt; names.pattern_index(&pattern) == index, "{text}");
-    }
+fn check_pattern(
+    rt: &impl Abort,
+    alloc: Global,
+    names: &JobNames,
+    text: &str,
+    index: Option<usize>,
+) {
+    let pattern = text_of(rt, alloc, text);
+    check(rt, names.pattern_index(&pattern) == index, text);
 }
 
 #[test]
 fn an_id_is_found_by_name(rt: HostRuntime) {
-    let names = names_of_example(&rt);
-    check_ids(&rt, &names);
-    check_patterns(&rt, &names);
+    let names = names_of_example(&rt, rt.alloc());
+    check_ids(&rt, rt.alloc(), &names, "c", Some(NameId(2)), None);
+    check_ids(&rt, rt.alloc(), &names, "L2", None, Some(TagId(0)));
+    check_pattern(&rt, rt.alloc(), &names, ".", Some(1));
+    check_pattern(&rt, rt.alloc(), &names, "opt", None);
+    drop(names);
 }

@@ -3,37 +3,42 @@
 ghost use Rattle.std.specs.Prelude.{None};
 ghost use Rattle.sn_edge.specs.Found.{OnBad};
 
-use crate::jobs::{job_of, joined, patterns_of};
+use crate::jobs::{check, job_of, joined, patterns_of, same_text};
 use job_names::{JobNames, names_of};
 use pattern_answers::{PatternAnswers, found_names};
 use sn_edge::{Found, MemPatterns, Patterns};
 use sn_width::NameId;
-use std::alloc::{AllocError, AllocGlobal, Global};
+use std::alloc::{AllocError, Global};
 use std::process::Abort;
 
 /// A packet with the metadata y and x.
 const TWO_FIELDS: &str = "field global y:8; field global x:8; ";
 
 /// The names of a job with two Fors, the items 2 and 3, and a packet with these fields.
-fn names_with(rt: &(impl Abort + AllocGlobal), fields: &str) -> JobNames {
+fn names_with(rt: &impl Abort, alloc: Global, fields: &str) -> JobNames {
     let net = "node r 1 -> 0 { in 0 { for v in \"^y\" { } for v in \".\" { } } } inject r.0 { ";
-    let job = job_of(rt, joined(rt, &[net, fields, "}"]).as_str());
-    names_of(rt.alloc(), &job).expect(rt, "memory")
+    let job = job_of(rt, alloc, joined(rt, alloc, &[net, fields, "}"]).as_str());
+    let names = names_of(alloc, &job).expect(rt, "memory");
+    drop(job);
+    names
 }
 
 /// Patterns of which `^y` finds y, `.` finds both names, and these are bad.
-fn table(rt: &(impl Abort + AllocGlobal), bad: &[&str]) -> MemPatterns {
-    patterns_of(rt, &[("^y", "y"), (".", "x"), (".", "y")], bad)
+fn table(rt: &impl Abort, alloc: Global, bad: &[&str]) -> MemPatterns {
+    patterns_of(rt, alloc, &[("^y", "y"), (".", "x"), (".", "y")], bad)
 }
 
 /// What the patterns answer for a job with these fields.
 fn answers_of<P: Patterns>(
-    rt: &(impl Abort + AllocGlobal),
+    rt: &impl Abort,
+    alloc: Global,
     fields: &str,
     patterns: &mut P,
 ) -> PatternAnswers {
-    let names = names_with(rt, fields);
-    found_names(rt.alloc(), &names, patterns).expect(rt, "memory")
+    let names = names_with(rt, alloc, fields);
+    let answers = found_names(alloc, &names, patterns).expect(rt, "memory");
+    drop(names);
+    answers
 }
 
 /// Whether the lists are those of `^y` and of `.`.
@@ -59,17 +64,28 @@ fn is_refused_at(answers: &PatternAnswers, place: u64) -> bool {
 
 #[test]
 fn each_pattern_finds_its_names_in_order(rt: HostRuntime) {
-    let mut patterns = table(&rt, &[]);
-    let answers = answers_of(&rt, TWO_FIELDS, &mut patterns);
+    let mut patterns = table(&rt, rt.alloc(), &[]);
+    let answers = answers_of(&rt, rt.alloc(), TWO_FIELDS, &mut patterns);
     assert!(rt; are_found(&answers));
+}
+
+/// Whether the second For's pattern is refused.
+fn check_refused(
+    rt: &impl Abort,
+    alloc: Global,
+    fields: &str,
+    patterns: &mut MemPatterns,
+    is_told: bool,
+) {
+    let answers = answers_of(rt, alloc, fields, patterns);
+    check(rt, is_refused_at(&answers, 3) == is_told, fields);
 }
 
 #[test]
 fn the_first_bad_pattern_is_told_with_its_site(rt: HostRuntime) {
-    let mut patterns = table(&rt, &["."]);
+    let mut patterns = table(&rt, rt.alloc(), &["."]);
     for (fields, is_told) in [(TWO_FIELDS, true), ("", false)] {
-        let answers = answers_of(&rt, fields, &mut patterns);
-        assert!(rt; is_refused_at(&answers, 3) == is_told, "{fields}");
+        check_refused(&rt, rt.alloc(), fields, &mut patterns, is_told);
     }
 }
 
@@ -107,7 +123,7 @@ impl Asked {
 fn each_pair_is_asked_once(rt: HostRuntime) {
     let pairs = String::new(rt.alloc());
     let mut patterns = Asked { pairs };
-    let answers = answers_of(&rt, TWO_FIELDS, &mut patterns);
+    let answers = answers_of(&rt, rt.alloc(), TWO_FIELDS, &mut patterns);
     assert!(rt; !is_refused_at(&answers, 0));
-    assert_eq!(rt; patterns.pairs.as_str(), "^y x ^y y . x . y ");
+    same_text(&rt, patterns.pairs.as_str(), "^y x ^y y . x . y ");
 }

@@ -1,8 +1,10 @@
 //! Ranges as memberships list them, and the sets that they keep.
 
+use crate::jobs::same_count;
 use sefl_syntax::RangeList;
+use sn_ranges::Ranges;
 use sn_width::{Num, Width};
-use std::alloc::AllocGlobal;
+use std::alloc::Global;
 use std::process::Abort;
 
 /// In no order; some overlap or touch, one is reversed, two are past 8 bits, and one of these past 16.
@@ -21,29 +23,29 @@ const LONG: &[(Num, Num)] = &[
 
 const SHORT: &[(Num, Num)] = &[(45, 60), (200, 300), (40, 50)];
 
-fn width_of(rt: &(impl Abort + AllocGlobal), bits: u8) -> Width {
+fn width_of(rt: &impl Abort, bits: u8) -> Width {
     Width::new(bits).expect(rt, "a width has 1 to 128 bits")
 }
 
 /// The ranges of a membership of so many bits.
-fn list_of(rt: &(impl Abort + AllocGlobal), bits: u8, listed: &[(Num, Num)]) -> RangeList {
-    let listed = Vec::from_slice(rt.alloc(), listed).expect(rt, "memory");
-    RangeList::new(rt.alloc(), width_of(rt, bits), listed).expect(rt, "memory")
+fn list_of(rt: &impl Abort, alloc: Global, bits: u8, listed: &[(Num, Num)]) -> RangeList {
+    let listed = Vec::from_slice(alloc, listed).expect(rt, "memory");
+    RangeList::new(alloc, width_of(rt, bits), listed).expect(rt, "memory")
 }
 
-fn assert_set(
-    rt: &(impl Abort + AllocGlobal),
-    ranges: &RangeList,
-    bits: u8,
-    wanted: &[(Num, Num)],
-) {
-    let set = ranges
-        .set(rt.alloc(), width_of(rt, bits))
-        .expect(rt, "memory");
-    assert_eq!(rt; set.len(), wanted.len());
+/// Whether these are the set's ranges.
+fn has_ranges(set: &Ranges, wanted: &[(Num, Num)]) -> bool {
     for (index, range) in wanted.iter().enumerate() {
-        assert_eq!(rt; set.range(index), Some(*range));
+        if set.range(index) != Some(*range) {
+            return false;
+        }
     }
+    set.len() == wanted.len()
+}
+
+fn assert_set(rt: &impl Abort, alloc: Global, ranges: &RangeList, bits: u8, wanted: &[(Num, Num)]) {
+    let set = ranges.set(alloc, width_of(rt, bits)).expect(rt, "memory");
+    assert!(rt; has_ranges(&set, wanted), "{bits} bits");
 }
 
 const AT_8_BITS: &[(Num, Num)] = &[(3, 7), (40, 60), (100, 103), (200, 255)];
@@ -52,14 +54,20 @@ const AT_16_BITS: &[(Num, Num)] = &[(3, 7), (40, 60), (100, 103), (200, 300), (6
 
 const AT_64_BITS: &[(Num, Num)] = &[(3, 7), (40, 60), (100, 103), (200, 300), (65_000, 70_000)];
 
+/// The sets of lists of so many bits.
+fn assert_sets(rt: &impl Abort, alloc: Global, bits: u8) {
+    let long = list_of(rt, alloc, bits, LONG);
+    assert_set(rt, alloc, &long, 8, AT_8_BITS);
+    assert_set(rt, alloc, &long, 16, AT_16_BITS);
+    assert_set(rt, alloc, &long, 64, AT_64_BITS);
+    let short = list_of(rt, alloc, bits, SHORT);
+    assert_set(rt, alloc, &short, 8, &[(40, 60), (200, 255)]);
+}
+
 #[test]
 fn lists_have_their_set_at_any_width(rt: HostRuntime) {
     for bits in [8, 16, 64, 128] {
-        let ranges = list_of(&rt, bits, LONG);
-        assert_set(&rt, &ranges, 8, AT_8_BITS);
-        assert_set(&rt, &ranges, 16, AT_16_BITS);
-        assert_set(&rt, &ranges, 64, AT_64_BITS);
-        assert_set(&rt, &list_of(&rt, bits, SHORT), 8, &[(40, 60), (200, 255)]);
+        assert_sets(&rt, rt.alloc(), bits);
     }
 }
 
@@ -84,41 +92,56 @@ const NUMBERS: &[Num] = &[
     Num::MAX,
 ];
 
-fn assert_members(rt: &impl Abort, ranges: &RangeList) {
+fn is_listed(listed: &[(Num, Num)], number: Num) -> bool {
+    for (first, last) in listed {
+        if *first <= number && number <= *last {
+            return true;
+        }
+    }
+    false
+}
+
+fn assert_member(rt: &impl Abort, ranges: &RangeList, number: Num) {
+    let wanted = is_listed(ranges.listed(), number);
+    assert!(rt; ranges.has(number) == wanted, "{number}");
+}
+
+fn assert_members(rt: &impl Abort, alloc: Global, bits: u8, listed: &[(Num, Num)]) {
+    let ranges = list_of(rt, alloc, bits, listed);
     for number in NUMBERS {
-        let number = *number;
-        let wanted = ranges
-            .listed()
-            .iter()
-            .any(|range| range.0 <= number && number <= range.1);
-        assert_eq!(rt; ranges.has(number), wanted, "{number}");
+        assert_member(rt, &ranges, *number);
     }
 }
 
 #[test]
 fn numbers_lie_in_a_listed_range(rt: HostRuntime) {
     for bits in [8, 16, 128] {
-        assert_members(&rt, &list_of(&rt, bits, LONG));
-        assert_members(&rt, &list_of(&rt, bits, SHORT));
+        assert_members(&rt, rt.alloc(), bits, LONG);
+        assert_members(&rt, rt.alloc(), bits, SHORT);
     }
 }
 
 /// So many ranges, the last one first.
-fn many(rt: &(impl Abort + AllocGlobal), count: u32) -> RangeList {
-    let mut listed = Vec::new(rt.alloc());
+fn many(rt: &impl Abort, alloc: Global, count: u32) -> RangeList {
+    let mut listed = Vec::new(alloc);
     for index in 0..count {
         let first = 4 * (Num::from(count) - Num::from(index));
         listed.push((first, first + 1)).expect(rt, "memory");
     }
-    RangeList::new(rt.alloc(), width_of(rt, 32), listed).expect(rt, "memory")
+    RangeList::new(alloc, width_of(rt, 32), listed).expect(rt, "memory")
+}
+
+/// The set has so many ranges.
+fn assert_length(rt: &impl Abort, alloc: Global, ranges: &RangeList, width: Width, wanted: u64) {
+    let set = ranges.set(alloc, width).expect(rt, "memory");
+    same_count(rt, set.len() as u64, wanted);
 }
 
 #[test]
 fn a_set_is_shared_by_all_who_ask_for_it(rt: HostRuntime) {
-    let ranges = many(&rt, 200_000);
+    let ranges = many(&rt, rt.alloc(), 200_000);
     let width = width_of(&rt, 32);
     for _ in 0..1_000_000 {
-        let set = ranges.set(rt.alloc(), width).expect(&rt, "memory");
-        assert_eq!(rt; set.len(), 200_000);
+        assert_length(&rt, rt.alloc(), &ranges, width, 200_000);
     }
 }

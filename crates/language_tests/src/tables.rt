@@ -1,10 +1,12 @@
 //! The tables of a net: nodes by name, codes by port, links by output port.
 
-use crate::jobs::{job_of, joined, name_of};
+ghost use Rattle.std.specs.Prelude.{◌<◌};
+
+use crate::jobs::{check, job_of, joined, name_of, repeated};
 use net_tables::NetTables;
-use sefl_syntax::{Name, RawNet, Side};
-use sn_width::{NodeId, Site};
-use std::alloc::AllocGlobal;
+use sefl_syntax::{Name, Side};
+use sn_width::NodeId;
+use std::alloc::Global;
 use std::fmt::Write;
 use std::process::Abort;
 
@@ -27,13 +29,17 @@ const NODES: &str = "node a 2 -> 2 { \
 const LINKS: &str = "link b.0 -> a.1; link a.0 -> none.0; link none.0 -> a.0; link a.1 -> b.0; \
     link a.1 -> t.0; ";
 
-fn tables_of(rt: &(impl Abort + AllocGlobal), net: &RawNet) -> NetTables {
-    NetTables::of(rt.alloc(), net).expect(rt, "memory")
+/// The tables of the net of a text.
+fn tables_of(rt: &impl Abort, alloc: Global, text: &str) -> NetTables {
+    let job = job_of(rt, alloc, text);
+    let tables = NetTables::of(alloc, &job.net).expect(rt, "memory");
+    drop(job);
+    tables
 }
 
-fn tables(rt: &(impl Abort + AllocGlobal)) -> NetTables {
-    let job = job_of(rt, joined(rt, &[NODES, LINKS, "inject a.0 { }"]).as_str());
-    tables_of(rt, &job.net)
+fn tables(rt: &impl Abort, alloc: Global) -> NetTables {
+    let text = joined(rt, alloc, &[NODES, LINKS, "inject a.0 { }"]);
+    tables_of(rt, alloc, text.as_str())
 }
 
 /// The site and the index of the code at a port.
@@ -42,43 +48,72 @@ fn place_of(tables: &NetTables, node: NodeId, side: Side, port: u32) -> Option<(
     Some((place.site.0, place.index))
 }
 
+const CODES: &[Row] = &[
+    (0, Side::Inward, 0, Some((1, 0))),
+    (0, Side::Outward, 1, Some((8, 1))),
+    (0, Side::Inward, 1, Some((9, 2))),
+    (0, Side::Outward, 0, None),
+    (1, Side::Inward, 0, None),
+    (2, Side::Outward, 0, Some((19, 0))),
+    (2, Side::Inward, 0, Some((21, 1))),
+    (2, Side::Inward, 1, None),
+    (4, Side::Inward, 0, None),
+];
+
+fn check_code(rt: &impl Abort, tables: &NetTables, row: Row) {
+    let (node, side, port, expected) = row;
+    let found = place_of(tables, NodeId(node), side, port);
+    assert!(rt; found == expected, "{node} {side} {port}");
+}
+
 #[test]
 fn codes_are_found_by_port(rt: HostRuntime) {
-    let tables = tables(&rt);
-    let rows: [Row; 9] = [
-        (0, Side::Inward, 0, Some((1, 0))),
-        (0, Side::Outward, 1, Some((8, 1))),
-        (0, Side::Inward, 1, Some((9, 2))),
-        (0, Side::Outward, 0, None),
-        (1, Side::Inward, 0, None),
-        (2, Side::Outward, 0, Some((19, 0))),
-        (2, Side::Inward, 0, Some((21, 1))),
-        (2, Side::Inward, 1, None),
-        (4, Side::Inward, 0, None),
-    ];
-    for (node, side, port, expected) in rows {
-        let found = place_of(&tables, NodeId(node), side, port);
-        assert!(rt; found == expected, "{node} {side} {port}");
+    let tables = tables(&rt, rt.alloc());
+    for row in CODES {
+        check_code(&rt, &tables, *row);
     }
+    drop(tables);
+}
+
+fn check_node(
+    rt: &impl Abort,
+    alloc: Global,
+    tables: &NetTables,
+    text: &str,
+    expected: Option<NodeId>,
+) {
+    let name = name_of(rt, alloc, text);
+    check(rt, tables.node_id(&name) == expected, text);
 }
 
 #[test]
 fn nodes_are_found_by_name(rt: HostRuntime) {
-    let tables = tables(&rt);
+    let tables = tables(&rt, rt.alloc());
     for (name, expected) in [
         ("a", Some(NodeId(0))),
         ("t", Some(NodeId(1))),
         ("b", Some(NodeId(2))),
         ("none", None),
     ] {
-        let found = tables.node_id(&name_of(&rt, name));
-        assert!(rt; found == expected, "{name}");
+        check_node(&rt, rt.alloc(), &tables, name, expected);
     }
+    drop(tables);
+}
+
+fn check_link(
+    rt: &impl Abort,
+    tables: &NetTables,
+    node: u32,
+    port: u32,
+    expected: Option<(NodeId, u32)>,
+) {
+    let found = tables.link_from(NodeId(node), port);
+    assert!(rt; found == expected, "{node} {port}");
 }
 
 #[test]
 fn links_are_found_by_output_port(rt: HostRuntime) {
-    let tables = tables(&rt);
+    let tables = tables(&rt, rt.alloc());
     for (node, port, expected) in [
         (0, 0, None),
         (0, 1, Some((NodeId(2), 0))),
@@ -86,24 +121,21 @@ fn links_are_found_by_output_port(rt: HostRuntime) {
         (2, 0, Some((NodeId(0), 1))),
         (2, 1, None),
     ] {
-        let found = tables.link_from(NodeId(node), port);
-        assert!(rt; found == expected, "{node} {port}");
+        check_link(&rt, &tables, node, port, expected);
     }
+    drop(tables);
 }
 
 /// The name of the node of a number.
-fn numbered(rt: &(impl Abort + AllocGlobal), number: u32) -> Name {
-    let text = format!(in rt.alloc(); "n{number}").expect(rt, "memory");
-    name_of(rt, text.as_str())
+fn numbered(rt: &impl Abort, alloc: Global, number: u32) -> Name {
+    let text = format!(in alloc; "n{number}").expect(rt, "memory");
+    name_of(rt, alloc, text.as_str())
 }
 
 /// The text of a node of each number, each with code of 30 instructions at an input port.
-fn numbered_nodes(rt: &(impl Abort + AllocGlobal), count: u32) -> String {
-    let mut code = String::new(rt.alloc());
-    for _ in 0..30 {
-        code.push_str("noop; ").expect(rt, "memory");
-    }
-    let mut text = String::new(rt.alloc());
+fn numbered_nodes(rt: &impl Abort, alloc: Global, count: u32) -> String {
+    let code = repeated(rt, alloc, "noop; ", 30);
+    let mut text = String::new(alloc);
     for number in 0..count {
         write!(text, "node n{number} 1 -> 1 {{ in 0 {{ {code}}} }} ").expect(rt, "memory");
     }
@@ -111,38 +143,42 @@ fn numbered_nodes(rt: &(impl Abort + AllocGlobal), count: u32) -> String {
 }
 
 /// The text of a link from the node of each number to the first.
-fn numbered_links(rt: &(impl Abort + AllocGlobal), count: u32) -> String {
-    let mut text = String::new(rt.alloc());
+fn numbered_links(rt: &impl Abort, alloc: Global, count: u32) -> String {
+    let mut text = String::new(alloc);
     for number in 0..count {
         write!(text, "link n{number}.0 -> n0.0; ").expect(rt, "memory");
     }
     text
 }
 
-fn large_tables(rt: &(impl Abort + AllocGlobal), count: u32) -> NetTables {
-    let nodes = numbered_nodes(rt, count);
-    let links = numbered_links(rt, count);
-    let text = joined(rt, &[nodes.as_str(), links.as_str(), "inject n0.0 { }"]);
-    tables_of(rt, &job_of(rt, text.as_str()).net)
+fn large_tables(rt: &impl Abort, alloc: Global, count: u32) -> NetTables {
+    let nodes = numbered_nodes(rt, alloc, count);
+    let links = numbered_links(rt, alloc, count);
+    let pieces = [nodes.as_str(), links.as_str(), "inject n0.0 { }"];
+    let text = joined(rt, alloc, &pieces);
+    tables_of(rt, alloc, text.as_str())
 }
 
-/// Whether the node of this number has its name, its code at this site, and its link to the first.
-fn is_numbered(tables: &NetTables, name: &Name, id: NodeId, site: Site) -> bool {
-    let place = tables.code_place(id, Side::Inward, 0);
+/// Whether the node has its name, its code at this site, and its link to the first.
+fn is_numbered(tables: &NetTables, name: &Name, id: NodeId, site: u32) -> bool {
     tables.node_id(name) == Some(id)
-        && place.map(|place| place.site) == Some(site)
+        && place_of(tables, id, Side::Inward, 0) == Some((site, 0))
         && tables.link_from(id, 0) == Some((NodeId(0), 0))
+}
+
+fn check_numbered(rt: &impl Abort, alloc: Global, tables: &NetTables, number: u32)
+    requires { number < 10000 }
+{
+    let name = numbered(rt, alloc, number);
+    let is_numbered = is_numbered(tables, &name, NodeId(number), number * 32 + 1);
+    assert!(rt; is_numbered, "{number}");
 }
 
 #[test]
 fn a_large_net_has_tables(rt: HostRuntime) {
-    let tables = large_tables(&rt, 10_000);
+    let tables = large_tables(&rt, rt.alloc(), 10_000);
     for number in 0..10_000u32 {
-        let name = numbered(&rt, number);
-        let site = Site(number * 32 + 1);
-        assert!(rt;
-            is_numbered(&tables, &name, NodeId(number), site),
-            "{number}"
-        );
+        check_numbered(&rt, rt.alloc(), &tables, number);
     }
+    drop(tables);
 }

@@ -3,7 +3,8 @@
 ghost use Rattle.net_check.specs.Network.{entry, network};
 ghost use Rattle.net_check.specs.Sound.{AreOfOneJob};
 
-use net_check::{Accepted, accept};
+use net_check::{Accepted, Net, accept};
+use path_formula::Formula;
 use sefl_meaning::{Place, Turn};
 use sefl_reader::read_job;
 use sefl_syntax::{Body, Cond, Instr, Job, Side};
@@ -34,9 +35,6 @@ pub fn accepted(rt: &impl Abort, alloc: Global, text: &str) -> Accepted
     }
 }
 
-/// Drops the job, which is proved once here and not in each caller.
-pub fn let_go(_job: Accepted) {}
-
 /// The code of the first box's first port.
 pub fn code_of(job: &Job) -> &[Instr] {
     let Some(first) = job.net.nodes.first() else {
@@ -51,11 +49,18 @@ pub fn code_of(job: &Job) -> &[Instr] {
     }
 }
 
+/// The state where the job is injected.
+fn injected(rt: &impl Abort, alloc: Global, job: &Accepted) -> SymState
+    requires { AreOfOneJob (network job.now.net) (entry job.now.injection) }
+{
+    SymState::from_injection(alloc, &job.net, &job.injection).expect(rt, "memory")
+}
+
 /// The state where the job is injected, arrived at its port.
 pub fn begun(rt: &impl Abort, alloc: Global, job: &Accepted) -> SymState
     requires { AreOfOneJob (network job.now.net) (entry job.now.injection) }
 {
-    let mut state = SymState::from_injection(alloc, &job.net, &job.injection).expect(rt, "memory");
+    let mut state = injected(rt, alloc, job);
     let (node, port) = job.injection.place();
     let side = Side::Inward;
     let place = Place { node, side, port };
@@ -72,6 +77,13 @@ pub fn answered(rt: &impl Abort, step: Result<(), StepFault>) -> Answer {
     }
 }
 
+/// The formula's truth at a packet.
+fn truth_at(formula: Formula, packet: &[Num]) -> Num {
+    let truth = Num::from(formula.truth(packet));
+    drop(formula);
+    truth
+}
+
 /// The truth of a condition on the terms at a packet.
 fn truth<L: Ledger>(
     rt: &impl Abort,
@@ -84,9 +96,31 @@ fn truth<L: Ledger>(
 ) -> Answer {
     let turns = Shared::empty();
     match state.test(alloc, &job.net, &turns, test, steps) {
-        Ok(formula) => Ok(Num::from(formula.truth(packet))),
+        Ok(formula) => Ok(truth_at(formula, packet)),
         Err(StepFault::Layout(fault)) => Err(fault),
         Err(StepFault::NoMemory) => panic!(rt; "memory"),
+    }
+}
+
+/// Runs an instruction that changes the state.
+fn step<L: Ledger>(
+    rt: &impl Abort,
+    alloc: Global,
+    net: &Net,
+    state: &mut SymState,
+    instr: &Instr,
+    steps: &mut Steps<L>,
+) -> Result<(), StepFault> {
+    let turns: Shared<Turn> = Shared::empty();
+    match instr {
+        Instr::Allocate(target) => state.allocate(alloc, net, &turns, target, steps),
+        Instr::Deallocate(target) => state.deallocate(alloc, net, &turns, target, steps),
+        Instr::Assign { target, value } => state.assign(alloc, net, &turns, target, value, steps),
+        Instr::AssignAny(target) => state.assign_any(alloc, net, &turns, target, steps),
+        Instr::CreateTag { name, addr } => state.create_tag(alloc, net, name, addr, steps),
+        Instr::SetTag { name, addr } => state.set_tag(alloc, net, name, addr, steps),
+        Instr::DestroyTag(name) => state.destroy_tag(alloc, net, name, steps),
+        _ => panic!(rt; "not one step"),
     }
 }
 
@@ -100,27 +134,8 @@ pub fn answer<L: Ledger>(
     packet: &[Num],
     steps: &mut Steps<L>,
 ) -> Answer {
-    let turns: Shared<Turn> = Shared::empty();
-    let net = &job.net;
     match instr {
-        Instr::Allocate(target) => {
-            answered(rt, state.allocate(alloc, net, &turns, target, steps))
-        }
-        Instr::Deallocate(target) => {
-            answered(rt, state.deallocate(alloc, net, &turns, target, steps))
-        }
-        Instr::Assign { target, value } => {
-            answered(rt, state.assign(alloc, net, &turns, target, value, steps))
-        }
-        Instr::AssignAny(target) => {
-            answered(rt, state.assign_any(alloc, net, &turns, target, steps))
-        }
-        Instr::CreateTag { name, addr } => {
-            answered(rt, state.create_tag(alloc, net, name, addr, steps))
-        }
-        Instr::SetTag { name, addr } => answered(rt, state.set_tag(alloc, net, name, addr, steps)),
-        Instr::DestroyTag(name) => answered(rt, state.destroy_tag(alloc, net, name, steps)),
         Instr::Constrain(test) => truth(rt, alloc, job, state, test, packet, steps),
-        _ => panic!(rt; "not one step"),
+        _ => answered(rt, step(rt, alloc, &job.net, state, instr, steps)),
     }
 }

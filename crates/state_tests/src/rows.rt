@@ -4,7 +4,7 @@ ghost use Rattle.std.specs.Prelude.{◌≡◌, ◌<◌};
 ghost use Rattle.net_check.specs.Network.{entry, network};
 ghost use Rattle.net_check.specs.Sound.{AreOfOneJob};
 
-use crate::here::{Answer, accepted, answer, answered, begun, code_of, job_of, let_go};
+use crate::here::{Answer, accepted, answer, answered, begun, code_of, job_of};
 use cell_stacks::Cell;
 use concrete_run::start;
 use instr_steps::{
@@ -18,7 +18,7 @@ use sefl_meaning::{Decision, State};
 use sefl_syntax::{Cond, Instr};
 use sn_ranges::Ranges;
 use sn_tree::Shared;
-use sn_width::{LayoutFault, NodeId, Num, StepFault, Steps, SymId};
+use sn_width::{LayoutFault, NameId, NodeId, Num, StepFault, Steps, SymId, TagId};
 use std::alloc::Global;
 use std::marker::Brand;
 use std::process::Abort;
@@ -71,6 +71,48 @@ const PASSED: &[(&str, &[&[&[(Num, Num)]]])] = &[
     ),
 ];
 
+/// A job, its text, and a packet.
+#[derive(Drop)]
+struct Case<'a> {
+    text: &'a str,
+    job: &'a Accepted,
+    packet: &'a [Num],
+}
+
+/// Asserts that it is so of the job of a text.
+fn check(rt: &impl Abort, holds: bool, text: &str) {
+    assert!(rt; holds, "{text}");
+}
+
+fn same_answer(rt: &impl Abort, found: Answer, wanted: Answer) {
+    assert!(rt; found == wanted);
+}
+
+/// Runs an instruction that changes the numbers, where the next choice has this number.
+fn step_in_numbers(
+    rt: &impl Abort,
+    alloc: Global,
+    o: &Numbers<'_>,
+    at: &Scene<'_>,
+    state: &mut State,
+    choice: usize,
+    instr: &Instr,
+) -> Result<(), StepFault> {
+    match instr {
+        Instr::Allocate(target) => allocate(alloc, at, state, target),
+        Instr::Deallocate(target) => deallocate(alloc, at, state, target),
+        Instr::Assign { target, value } => assign(alloc, o, at, state, target, value),
+        Instr::AssignAny(target) => {
+            let number = o.choice(width_of(target), choice);
+            put(alloc, at, state, target, number)
+        }
+        Instr::CreateTag { name, addr } => create_tag(alloc, at, state, name, addr),
+        Instr::SetTag { name, addr } => set_tag(alloc, at, state, name, addr),
+        Instr::DestroyTag(name) => destroy_tag(alloc, at, state, name),
+        _ => panic!(rt; "not one step"),
+    }
+}
+
 /// What an instruction answers on numbers, where the next choice has this number; of a Constrain the truth of its condition.
 fn answer_in_numbers(
     rt: &impl Abort,
@@ -82,20 +124,8 @@ fn answer_in_numbers(
     instr: &Instr,
 ) -> Answer {
     match instr {
-        Instr::Allocate(target) => answered(rt, allocate(alloc, at, state, target)),
-        Instr::Deallocate(target) => answered(rt, deallocate(alloc, at, state, target)),
-        Instr::Assign { target, value } => {
-            answered(rt, assign(alloc, o, at, state, target, value))
-        }
-        Instr::AssignAny(target) => {
-            let number = o.choice(width_of(target), choice);
-            answered(rt, put(alloc, at, state, target, number))
-        }
-        Instr::CreateTag { name, addr } => answered(rt, create_tag(alloc, at, state, name, addr)),
-        Instr::SetTag { name, addr } => answered(rt, set_tag(alloc, at, state, name, addr)),
-        Instr::DestroyTag(name) => answered(rt, destroy_tag(alloc, at, state, name)),
         Instr::Constrain(test) => truth_in_numbers(rt, alloc, o, at, state, test),
-        _ => panic!(rt; "not one step"),
+        _ => answered(rt, step_in_numbers(rt, alloc, o, at, state, choice, instr)),
     }
 }
 
@@ -112,6 +142,28 @@ fn truth_in_numbers(
         Err(StepFault::Layout(fault)) => Err(fault),
         Err(StepFault::NoMemory) => panic!(rt; "memory"),
     }
+}
+
+/// What an instruction answers on the numbers of a packet, where the next choice has this number.
+fn answer_at(
+    rt: &impl Abort,
+    alloc: Global,
+    case: &Case<'_>,
+    state: &mut State,
+    choice: usize,
+    instr: &Instr,
+) -> Answer {
+    let turns = Shared::empty();
+    let at = Scene {
+        net: &case.job.net,
+        node: NodeId(0),
+        turns: &turns,
+    };
+    let o = Numbers {
+        numbers: case.packet,
+        unknowns: case.job.injection.unknowns(),
+    };
+    answer_in_numbers(rt, alloc, &o, &at, state, choice, instr)
 }
 
 /// Whether the terms are the numbers at the packet.
@@ -133,23 +185,107 @@ fn is_same(term: &Option<Term>, number: Option<Num>, packet: &[Num]) -> bool {
     }
 }
 
-/// What is carried in terms is, at the packet, what is carried in numbers.
-fn assert_fields(rt: &impl Abort, alloc: Global, fields: &Fields, state: &State, packet: &[Num]) {
-    let tags = state.layers.tags(alloc).expect(rt, "memory");
-    assert!(rt; fields.tags == tags);
+fn assert_tags(rt: &impl Abort, alloc: Global, tags: &[(TagId, i32)], state: &State) {
+    let wanted = state.layers.tags(alloc).expect(rt, "memory");
+    assert!(rt; tags == wanted.as_slice());
+}
+
+/// Whether the terms of each address are the numbers there.
+fn are_heads(
+    terms: &[(i32, Vec<Cell<Term>>)],
+    numbers: &[(i32, Vec<Cell<&Num>>)],
+    packet: &[Num],
+) -> bool {
+    for ((address, terms), (wanted, numbers)) in terms.iter().zip(numbers) {
+        if *address != *wanted || !are_same(terms, numbers, packet) {
+            return false;
+        }
+    }
+    terms.len() == numbers.len()
+}
+
+fn assert_heads(rt: &impl Abort, alloc: Global, fields: &Fields, state: &State, packet: &[Num]) {
     let heads = state.layers.heads(alloc).expect(rt, "memory");
-    assert!(rt; fields.heads.len() == heads.len());
-    for ((address, terms), (wanted, numbers)) in fields.heads.iter().zip(&heads) {
-        assert!(rt; *address == *wanted);
-        assert!(rt; are_same(terms, numbers, packet));
+    assert!(rt; are_heads(&fields.heads, &heads, packet));
+}
+
+/// Whether the terms of each metadata are its numbers.
+fn are_metas(
+    terms: &[(Option<NodeId>, NameId, Vec<Cell<Term>>)],
+    numbers: &[(Option<NodeId>, NameId, Vec<Cell<&Num>>)],
+    packet: &[Num],
+) -> bool {
+    for ((owner, name, terms), (whose, wanted, numbers)) in terms.iter().zip(numbers) {
+        if *owner != *whose || *name != *wanted || !are_same(terms, numbers, packet) {
+            return false;
+        }
     }
+    terms.len() == numbers.len()
+}
+
+fn assert_metas(rt: &impl Abort, alloc: Global, fields: &Fields, state: &State, packet: &[Num]) {
     let metas = state.scopes.metas(alloc).expect(rt, "memory");
-    assert!(rt; fields.metas.len() == metas.len());
-    for ((owner, name, terms), (whose, wanted, numbers)) in fields.metas.iter().zip(&metas) {
-        assert!(rt; *owner == *whose);
-        assert!(rt; *name == *wanted);
-        assert!(rt; are_same(terms, numbers, packet));
+    assert!(rt; are_metas(&fields.metas, &metas, packet));
+}
+
+/// What is carried in terms is, at the packet, what is carried in numbers.
+fn assert_fields(
+    rt: &impl Abort,
+    alloc: Global,
+    terms: &SymState,
+    numbers: &State,
+    packet: &[Num],
+) {
+    let fields = terms.fields(alloc).expect(rt, "memory");
+    assert_tags(rt, alloc, &fields.tags, numbers);
+    assert_heads(rt, alloc, &fields, numbers, packet);
+    assert_metas(rt, alloc, &fields, numbers, packet);
+}
+
+/// The number of the next choice, behind an instruction with this answer.
+fn choice_after(choice: usize, instr: &Instr, answer: Answer) -> usize {
+    if matches!(instr, Instr::AssignAny(_)) && answer.is_ok() {
+        choice.saturating_add(1)
+    } else {
+        choice
     }
+}
+
+/// Runs code on terms and on the numbers of a packet.
+fn run_both<L: Ledger>(
+    rt: &impl Abort,
+    alloc: Global,
+    case: &Case<'_>,
+    code: &[Instr],
+    terms: &mut SymState,
+    numbers: &mut State,
+    steps: &mut Steps<L>,
+) {
+    let mut choice = 0;
+    for instr in code {
+        let wanted = answer_at(rt, alloc, case, numbers, choice, instr);
+        let found = answer(rt, alloc, case.job, terms, instr, case.packet, steps);
+        check(rt, found == wanted, case.text);
+        choice = choice_after(choice, instr, found);
+        assert_fields(rt, alloc, terms, numbers, case.packet);
+    }
+}
+
+/// Runs the job's code on both states.
+fn run_source<L: Ledger>(
+    rt: &impl Abort,
+    alloc: Global,
+    case: Case<'_>,
+    mut terms: SymState,
+    mut numbers: State,
+    steps: &mut Steps<L>,
+) {
+    let source = job_of(rt, alloc, case.text);
+    let code = code_of(&source);
+    run_both(rt, alloc, &case, code, &mut terms, &mut numbers, steps);
+    drop(source);
+    drop(terms);
+    drop(numbers);
 }
 
 /// Runs the code on terms and on the numbers of a packet.
@@ -161,31 +297,15 @@ fn assert_same<L: Ledger>(
     steps: &mut Steps<L>,
 ) {
     let job = accepted(rt, alloc, text);
-    let source = job_of(rt, alloc, text);
-    let mut terms = begun(rt, alloc, &job);
-    let mut numbers = started(rt, alloc, &job, packet);
-    let turns = Shared::empty();
-    let at = Scene {
-        net: &job.net,
-        node: NodeId(0),
-        turns: &turns,
+    let terms = begun(rt, alloc, &job);
+    let numbers = started(rt, alloc, &job, packet);
+    let case = Case {
+        text,
+        job: &job,
+        packet,
     };
-    let o = Numbers {
-        numbers: packet,
-        unknowns: job.injection.unknowns(),
-    };
-    let mut choice = 0;
-    for instr in code_of(&source) {
-        let wanted = answer_in_numbers(rt, alloc, &o, &at, &mut numbers, choice, instr);
-        let found = answer(rt, alloc, &job, &mut terms, instr, packet, steps);
-        assert!(rt; found == wanted, "{text}");
-        if matches!(instr, Instr::AssignAny(_)) && found.is_ok() {
-            choice = choice.saturating_add(1);
-        }
-        let fields = terms.fields(alloc).expect(rt, "memory");
-        assert_fields(rt, alloc, &fields, &numbers, packet);
-    }
-    let_go(job);
+    run_source(rt, alloc, case, terms, numbers, steps);
+    drop(job);
 }
 
 /// The packet where the job is injected.
@@ -198,16 +318,26 @@ fn started(rt: &impl Abort, alloc: Global, job: &Accepted, packet: &[Num]) -> St
     }
 }
 
-/// Each symbol has this domain.
-fn assert_domains(rt: &impl Abort, state: &SymState, wanted: &[&[(Num, Num)]]) {
-    assert!(rt; state.condition().symbols() == wanted.len() as u64);
-    for (symbol, ranges) in wanted.iter().enumerate() {
-        let domain = state
-            .domains()
-            .get(SymId(symbol as u64))
-            .expect(rt, "a symbol");
-        assert!(rt; has_ranges(domain, ranges));
+/// Whether the symbol is there and has this domain.
+fn has_domain(state: &SymState, symbol: usize, ranges: &[(Num, Num)]) -> bool {
+    match state.domains().get(SymId(symbol as u64)) {
+        None => false,
+        Some(domain) => has_ranges(domain, ranges),
     }
+}
+
+/// Whether each symbol has this domain.
+fn has_domains(state: &SymState, wanted: &[&[(Num, Num)]]) -> bool {
+    for (symbol, ranges) in wanted.iter().enumerate() {
+        if !has_domain(state, symbol, ranges) {
+            return false;
+        }
+    }
+    state.condition().symbols() == wanted.len() as u64
+}
+
+fn assert_domains(rt: &impl Abort, state: &SymState, wanted: &[&[(Num, Num)]]) {
+    assert!(rt; has_domains(state, wanted));
 }
 
 fn has_ranges(domain: &Ranges, wanted: &[(Num, Num)]) -> bool {
@@ -220,6 +350,23 @@ fn has_ranges(domain: &Ranges, wanted: &[(Num, Num)]) -> bool {
 }
 
 /// Lets each test of the code pass, and looks at the domains.
+fn pass_all<L: Ledger>(
+    rt: &impl Abort,
+    alloc: Global,
+    job: &Accepted,
+    code: &[Instr],
+    state: &mut SymState,
+    wanted: &[&[&[(Num, Num)]]],
+    steps: &mut Steps<L>,
+) {
+    assert!(rt; code.len() == wanted.len());
+    for (instr, domains) in code.iter().zip(wanted) {
+        pass(rt, alloc, job, state, test_of(rt, instr), steps);
+        assert_domains(rt, state, domains);
+    }
+}
+
+/// Lets each test of the job's code pass, and looks at the domains.
 fn assert_passed<L: Ledger>(
     rt: &impl Abort,
     alloc: Global,
@@ -231,12 +378,18 @@ fn assert_passed<L: Ledger>(
     let source = job_of(rt, alloc, text);
     let mut state = begun(rt, alloc, &job);
     let code = code_of(&source);
-    assert!(rt; code.len() == wanted.len());
-    for (instr, domains) in code.iter().zip(wanted) {
-        pass(rt, alloc, &job, &mut state, instr, steps);
-        assert_domains(rt, &state, domains);
+    pass_all(rt, alloc, &job, code, &mut state, wanted, steps);
+    drop(state);
+    drop(source);
+    drop(job);
+}
+
+/// The test of a Constrain.
+fn test_of<'a>(rt: &impl Abort, instr: &'a Instr) -> &'a Cond {
+    match instr {
+        Instr::Constrain(test) => test,
+        _ => panic!(rt; "no test"),
     }
-    let_go(job);
 }
 
 /// Lets a test pass.
@@ -245,12 +398,9 @@ fn pass<L: Ledger>(
     alloc: Global,
     job: &Accepted,
     state: &mut SymState,
-    instr: &Instr,
+    test: &Cond,
     steps: &mut Steps<L>,
 ) {
-    let Instr::Constrain(test) = instr else {
-        panic!(rt; "no test")
-    };
     let turns = Shared::empty();
     match state.test(alloc, &job.net, &turns, test, steps) {
         Ok(formula) => state
@@ -260,6 +410,28 @@ fn pass<L: Ledger>(
     }
 }
 
+/// Removes the cell in a copy, and reads it in both.
+fn remove_in_copy<L: Ledger>(
+    rt: &impl Abort,
+    alloc: Global,
+    job: &Accepted,
+    code: &[Instr],
+    state: &mut SymState,
+    steps: &mut Steps<L>,
+) {
+    let [remove, read] = code else {
+        panic!(rt; "two instructions")
+    };
+    let mut copy = state.fork().expect(rt, "memory");
+    let removed = answer(rt, alloc, job, &mut copy, remove, &[7], steps);
+    same_answer(rt, removed, Ok(0));
+    let kept = answer(rt, alloc, job, state, read, &[7], steps);
+    same_answer(rt, kept, Ok(1));
+    let lost = answer(rt, alloc, job, &mut copy, read, &[7], steps);
+    same_answer(rt, lost, Err(LayoutFault::NoField));
+    drop(copy);
+}
+
 /// The copy loses its cell, and the first state keeps it.
 fn assert_apart<L: Ledger>(rt: &impl Abort, alloc: Global, steps: &mut Steps<L>) {
     let text =
@@ -267,14 +439,50 @@ fn assert_apart<L: Ledger>(rt: &impl Abort, alloc: Global, steps: &mut Steps<L>)
     let job = accepted(rt, alloc, text);
     let source = job_of(rt, alloc, text);
     let mut state = begun(rt, alloc, &job);
-    let mut copy = state.fork().expect(rt, "memory");
-    let [remove, read] = code_of(&source) else {
-        panic!(rt; "two instructions")
-    };
-    assert!(rt; answer(rt, alloc, &job, &mut copy, remove, &[7], steps) == Ok(0));
-    assert!(rt; answer(rt, alloc, &job, &mut state, read, &[7], steps) == Ok(1));
-    assert!(rt; answer(rt, alloc, &job, &mut copy, read, &[7], steps) == Err(LayoutFault::NoField));
-    let_go(job);
+    remove_in_copy(rt, alloc, &job, code_of(&source), &mut state, steps);
+    drop(state);
+    drop(source);
+    drop(job);
+}
+
+/// Runs code whose instructions all do something, at the packet 9.
+fn run_all<L: Ledger>(
+    rt: &impl Abort,
+    alloc: Global,
+    job: &Accepted,
+    code: &[Instr],
+    state: &mut SymState,
+    steps: &mut Steps<L>,
+) {
+    for instr in code {
+        let found = answer(rt, alloc, job, state, instr, &[9], steps);
+        same_answer(rt, found, Ok(0));
+    }
+}
+
+/// The first metadata's first cell has symbol 0.
+fn assert_first_part(rt: &impl Abort, alloc: Global, state: &SymState) {
+    let fields = state.fields(alloc).expect(rt, "memory");
+    assert!(rt; first_part(&fields) == Some((SymId(0), 1)));
+}
+
+fn assert_decisions(rt: &impl Abort, alloc: Global, state: &SymState, wanted: &[Decision]) {
+    let decisions = state.decisions(alloc).expect(rt, "memory");
+    assert!(rt; decisions.as_slice() == wanted);
+}
+
+fn assert_place_count(rt: &impl Abort, alloc: Global, state: &SymState, wanted: usize) {
+    let places = state.places(alloc).expect(rt, "memory");
+    assert!(rt; places.len() == wanted);
+}
+
+/// Decides for the copies 2 and 0, which are listed in this order.
+fn decide_twice(rt: &impl Abort, alloc: Global, state: &mut SymState) {
+    state.copy(alloc, 2).expect(rt, "memory");
+    state.copy(alloc, 0).expect(rt, "memory");
+    assert_first_part(rt, alloc, state);
+    assert_decisions(rt, alloc, state, &[Decision::Copy(2), Decision::Copy(0)]);
+    assert_place_count(rt, alloc, state, 1);
 }
 
 /// The first choice of a packet without unknown fields is symbol 0; decisions are listed as they were made.
@@ -284,25 +492,44 @@ fn assert_first_choice<L: Ledger>(rt: &impl Abort, alloc: Global, steps: &mut St
     let job = accepted(rt, alloc, text);
     let source = job_of(rt, alloc, text);
     let mut state = begun(rt, alloc, &job);
-    for instr in code_of(&source) {
-        assert!(rt; answer(rt, alloc, &job, &mut state, instr, &[9], steps) == Ok(0));
-    }
-    state.copy(alloc, 2).expect(rt, "memory");
-    state.copy(alloc, 0).expect(rt, "memory");
-    let fields = state.fields(alloc).expect(rt, "memory");
-    assert!(rt; first_part(&fields) == Some((SymId(0), 1)));
-    let decisions = state.decisions(alloc).expect(rt, "memory");
-    assert!(rt; decisions.as_slice() == [Decision::Copy(2), Decision::Copy(0)].as_slice());
-    let places = state.places(alloc).expect(rt, "memory");
-    assert!(rt; places.len() == 1);
-    let_go(job);
+    run_all(rt, alloc, &job, code_of(&source), &mut state, steps);
+    decide_twice(rt, alloc, &mut state);
+    drop(state);
+    drop(source);
+    drop(job);
 }
 
 /// The first part of the term in the first metadata's first cell.
 fn first_part(fields: &Fields) -> Option<(SymId, Num)> {
-    let (_, _, cells) = fields.metas.first()?;
-    let term = cells.first()?.value.as_ref()?;
-    term.part(0)
+    match fields.metas.as_slice() {
+        [] => None,
+        [(_, _, cells), ..] => part_of(cells),
+    }
+}
+
+/// The first part of the term in the first cell.
+fn part_of(cells: &[Cell<Term>]) -> Option<(SymId, Num)> {
+    match cells {
+        [] => None,
+        [cell, ..] => match &cell.value {
+            None => None,
+            Some(term) => term.part(0),
+        },
+    }
+}
+
+fn run_same<L: Ledger>(rt: &impl Abort, alloc: Global, steps: &mut Steps<L>) {
+    for (text, packets) in SAME {
+        for packet in *packets {
+            assert_same(rt, alloc, text, packet, steps);
+        }
+    }
+}
+
+fn run_passed<L: Ledger>(rt: &impl Abort, alloc: Global, steps: &mut Steps<L>) {
+    for (text, domains) in PASSED {
+        assert_passed(rt, alloc, text, domains, steps);
+    }
 }
 
 fn run_rows<L: Ledger>(rt: &impl Abort, alloc: Global, blank: Blank)
@@ -311,14 +538,8 @@ fn run_rows<L: Ledger>(rt: &impl Abort, alloc: Global, blank: Blank)
     requires some { 0 < blank.parts }
 {
     let mut steps = Steps::<L>::new(blank);
-    for (text, packets) in SAME {
-        for packet in *packets {
-            assert_same(rt, alloc, text, packet, &mut steps);
-        }
-    }
-    for (text, domains) in PASSED {
-        assert_passed(rt, alloc, text, domains, &mut steps);
-    }
+    run_same(rt, alloc, &mut steps);
+    run_passed(rt, alloc, &mut steps);
     assert_apart(rt, alloc, &mut steps);
     assert_first_choice(rt, alloc, &mut steps);
 }
@@ -326,6 +547,26 @@ fn run_rows<L: Ledger>(rt: &impl Abort, alloc: Global, blank: Blank)
 #[test]
 fn states_over_terms_are_those_over_numbers(rt: HostRuntime) {
     run_rows::<Brand>(&rt, rt.alloc(), Blank::new(1));
+}
+
+/// Runs the two instructions of the code so often: one puts a cell on a stack, and the other is a test.
+fn grow<L: Ledger>(
+    rt: &impl Abort,
+    alloc: Global,
+    job: &Accepted,
+    code: &[Instr],
+    size: u32,
+    state: &mut SymState,
+    steps: &mut Steps<L>,
+) {
+    let [push, test] = code else {
+        panic!(rt; "two instructions")
+    };
+    for _ in 0..size {
+        let found = answer(rt, alloc, job, state, push, &[], steps);
+        same_answer(rt, found, Ok(0));
+        pass(rt, alloc, job, state, test_of(rt, test), steps);
+    }
 }
 
 /// A state with a stack of so many cells and a condition of so many formulas.
@@ -340,23 +581,27 @@ fn large<L: Ledger>(rt: &impl Abort, alloc: Global, size: u32, blank: Blank) -> 
     let job = accepted(rt, alloc, text);
     let source = job_of(rt, alloc, text);
     let mut state = begun(rt, alloc, &job);
-    let [push, test] = code_of(&source) else {
-        panic!(rt; "two instructions")
-    };
-    for _ in 0..size {
-        assert!(rt; answer(rt, alloc, &job, &mut state, push, &[], &mut steps) == Ok(0));
-        pass(rt, alloc, &job, &mut state, test, &mut steps);
-    }
-    let_go(job);
+    let code = code_of(&source);
+    grow(rt, alloc, &job, code, size, &mut state, &mut steps);
+    drop(source);
+    drop(job);
     state
+}
+
+fn fork_often(rt: &impl Abort, state: &SymState) {
+    for _ in 0..1_000_000 {
+        drop(state.fork().expect(rt, "memory"));
+    }
+}
+
+fn assert_length(rt: &impl Abort, state: &SymState, wanted: u64) {
+    assert!(rt; state.condition().len() == wanted);
 }
 
 #[test]
 fn a_large_state_is_forked_a_million_times(rt: HostRuntime) {
     let state = large::<Brand>(&rt, rt.alloc(), 100_000, Blank::new(1));
-    for _ in 0..1_000_000 {
-        let copy = state.fork().expect(&rt, "memory");
-        drop(copy);
-    }
-    assert!(rt; state.condition().len() == 100_000);
+    fork_often(&rt, &state);
+    assert_length(&rt, &state, 100_000);
+    drop(state);
 }

@@ -40,9 +40,6 @@ pub fn accepted(rt: &impl Abort, alloc: Global, text: &str) -> Accepted
     }
 }
 
-/// Drops the job, which is proved once here and not in each caller.
-pub fn let_go(_job: Accepted) {}
-
 /// A packet that carries nothing.
 pub fn nothing() -> State {
     State {

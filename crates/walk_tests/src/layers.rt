@@ -3,8 +3,9 @@
 mod plain;
 
 use crate::cells::{Act, Answer, answered, width_of};
+use crate::same::same_answer;
 use header_layers::{Cell, Layers, laws};
-use sn_width::{LayoutFault, NoMemory, Num, TagId, Width};
+use sn_width::{LayoutFault, Num, TagId, Width};
 use std::alloc::Global;
 use std::process::Abort;
 
@@ -61,137 +62,145 @@ pub fn assert_rows(rt: &impl Abort, alloc: Global, layers: &mut Layers<Num>, row
     for (row, (act, tag, offset, bits, wanted)) in rows.iter().enumerate() {
         let width = width_of(rt, *bits);
         let found = answer(rt, alloc, layers, *act, *tag, *offset, width);
-        assert!(rt; found == *wanted, "row {row}");
+        same_answer(rt, row, found, *wanted);
     }
 }
 
 pub fn assert_tag_rows(rt: &impl Abort, alloc: Global, layers: &mut Layers<Num>, rows: &[TagRow]) {
     for (row, (act, name, base, offset, wanted)) in rows.iter().enumerate() {
         let found = tag_answer(rt, alloc, layers, *act, *name, *base, *offset);
-        assert!(rt; found == *wanted, "row {row}");
+        same_answer(rt, row, found, *wanted);
     }
 }
 
 /// The listing of tags, as plain pairs.
-fn listed_tags(alloc: Global, layers: &Layers<Num>) -> Result<Vec<(u32, i32)>, NoMemory> {
+fn listed_tags(rt: &impl Abort, alloc: Global, layers: &Layers<Num>) -> Vec<(u32, i32)> {
+    let tags = layers.tags(alloc).expect(rt, "memory");
     let mut listed = Vec::new(alloc);
-    for (tag, address) in layers.tags(alloc)?.iter() {
-        listed.push((tag.0, *address))?;
+    for (tag, address) in tags.iter() {
+        listed.push((tag.0, *address)).expect(rt, "memory");
     }
-    Ok(listed)
+    listed
 }
 
 /// Puts the cells of an address behind those that are there.
 fn put_cells(
+    rt: &impl Abort,
     listed: &mut Vec<(i32, u8, Option<Num>)>,
     address: i32,
     cells: &[Cell<&Num>],
-) -> Result<(), NoMemory> {
+) {
     for cell in cells {
-        listed.push((address, cell.width.bits(), cell.value.copied()))?;
+        listed
+            .push((address, cell.width.bits(), cell.value.copied()))
+            .expect(rt, "memory");
     }
-    Ok(())
 }
 
 /// The listing of cells, as plain triples.
 fn listed_cells(
+    rt: &impl Abort,
     alloc: Global,
     layers: &Layers<Num>,
-) -> Result<Vec<(i32, u8, Option<Num>)>, NoMemory> {
+) -> Vec<(i32, u8, Option<Num>)> {
+    let heads = layers.heads(alloc).expect(rt, "memory");
     let mut listed = Vec::new(alloc);
-    for (address, cells) in layers.heads(alloc)?.iter() {
-        put_cells(&mut listed, *address, cells)?;
+    for (address, cells) in heads.iter() {
+        put_cells(rt, &mut listed, *address, cells);
     }
-    Ok(listed)
+    listed
 }
 
 /// Tag 0 at address 0, and a byte with the value 7 there.
 fn one_byte(rt: &impl Abort, alloc: Global) -> Layers<Num> {
-    let byte = width_of(rt, 8);
     let mut layers = Layers::new();
-    let tagged = layers.create_tag(alloc, TagId(0), None, 0);
-    assert!(rt; tagged == Ok(()));
-    let made = layers.allocate(alloc, TAG, 0, byte);
-    assert!(rt; made == Ok(()));
-    let set = layers.assign(alloc, TAG, 0, byte, 7);
-    assert!(rt; set == Ok(()));
+    let tags = [(TagAct::Create, TagId(0), None, 0, Ok(0))];
+    assert_tag_rows(rt, alloc, &mut layers, &tags);
+    let rows = [
+        (Act::Allocate, TAG, 0, 8, Ok(0)),
+        (Act::Assign(7), TAG, 0, 8, Ok(0)),
+    ];
+    assert_rows(rt, alloc, &mut layers, &rows);
     layers
 }
 
+const REFUSED: &[Row] = &[
+    (Act::Read, TAG, 4, 8, Err(LayoutFault::NoField)),
+    (Act::Deallocate, None, 0, 16, Err(LayoutFault::WidthDiffers)),
+    (Act::Allocate, Some(TagId(1)), 0, 8, Err(LayoutFault::NoTag)),
+    (
+        Act::Allocate,
+        TAG,
+        1_048_576,
+        8,
+        Err(LayoutFault::AddressRange),
+    ),
+    (Act::Allocate, TAG, 0, 16, Err(LayoutFault::WidthDiffers)),
+    (Act::Allocate, TAG, 4, 8, Err(LayoutFault::Overlap)),
+    (Act::Allocate, TAG, -4, 8, Err(LayoutFault::Overlap)),
+    (Act::Allocate, TAG, 8, 8, Ok(0)),
+    (Act::Allocate, TAG, -8, 8, Ok(0)),
+];
+
+const NO_TAG: &[TagRow] = &[(TagAct::Destroy, TagId(1), None, 0, Err(LayoutFault::NoTag))];
+
 #[test]
 fn calls_refuse_by_tag_range_field_width_and_overlap(rt: HostRuntime) {
-    let alloc = rt.alloc();
-    let mut layers = one_byte(&rt, alloc);
-    let rows = [
-        (Act::Read, TAG, 4, 8, Err(LayoutFault::NoField)),
-        (Act::Deallocate, None, 0, 16, Err(LayoutFault::WidthDiffers)),
-        (Act::Allocate, Some(TagId(1)), 0, 8, Err(LayoutFault::NoTag)),
-        (
-            Act::Allocate,
-            TAG,
-            1_048_576,
-            8,
-            Err(LayoutFault::AddressRange),
-        ),
-        (Act::Allocate, TAG, 0, 16, Err(LayoutFault::WidthDiffers)),
-        (Act::Allocate, TAG, 4, 8, Err(LayoutFault::Overlap)),
-        (Act::Allocate, TAG, -4, 8, Err(LayoutFault::Overlap)),
-        (Act::Allocate, TAG, 8, 8, Ok(0)),
-        (Act::Allocate, TAG, -8, 8, Ok(0)),
-    ];
-    let tags = [(TagAct::Destroy, TagId(1), None, 0, Err(LayoutFault::NoTag))];
-    assert_tag_rows(&rt, alloc, &mut layers, &tags);
-    assert_rows(&rt, alloc, &mut layers, &rows);
+    let mut layers = one_byte(&rt, rt.alloc());
+    assert_tag_rows(&rt, rt.alloc(), &mut layers, NO_TAG);
+    assert_rows(&rt, rt.alloc(), &mut layers, REFUSED);
 }
+
+const LOST: &[Row] = &[
+    (Act::Deallocate, TAG, 0, 8, Ok(0)),
+    (Act::Read, TAG, 0, 8, Err(LayoutFault::NoField)),
+];
+
+const KEPT: &[Row] = &[(Act::Read, TAG, 0, 8, Ok(7))];
 
 #[test]
 fn fork_keeps_what_its_copy_loses(rt: HostRuntime) {
-    let alloc = rt.alloc();
-    let mut layers = one_byte(&rt, alloc);
+    let mut layers = one_byte(&rt, rt.alloc());
     let mut copy = layers.fork().expect(&rt, "a copy");
-    let rows = [
-        (Act::Deallocate, TAG, 0, 8, Ok(0)),
-        (Act::Read, TAG, 0, 8, Err(LayoutFault::NoField)),
-    ];
-    assert_rows(&rt, alloc, &mut copy, &rows);
-    let kept = [(Act::Read, TAG, 0, 8, Ok(7))];
-    assert_rows(&rt, alloc, &mut layers, &kept);
+    assert_rows(&rt, rt.alloc(), &mut copy, LOST);
+    assert_rows(&rt, rt.alloc(), &mut layers, KEPT);
 }
+
+const OUTERMOST: &[Row] = &[
+    (Act::Allocate, None, -1_048_576, 8, Ok(0)),
+    (Act::Allocate, None, 1_048_575, 8, Ok(0)),
+    (
+        Act::Allocate,
+        None,
+        -1_048_577,
+        8,
+        Err(LayoutFault::AddressRange),
+    ),
+    (
+        Act::Allocate,
+        None,
+        1_048_576,
+        8,
+        Err(LayoutFault::AddressRange),
+    ),
+];
+
+const OUTERMOST_TAGS: &[TagRow] = &[
+    (TagAct::Create, TagId(3), None, -1_048_576, Ok(0)),
+    (
+        TagAct::Create,
+        TagId(4),
+        Some(TagId(3)),
+        -1,
+        Err(LayoutFault::AddressRange),
+    ),
+];
 
 #[test]
 fn addresses_end_at_two_to_the_twenty(rt: HostRuntime) {
-    let alloc = rt.alloc();
     let mut layers = Layers::new();
-    let rows = [
-        (Act::Allocate, None, -1_048_576, 8, Ok(0)),
-        (Act::Allocate, None, 1_048_575, 8, Ok(0)),
-        (
-            Act::Allocate,
-            None,
-            -1_048_577,
-            8,
-            Err(LayoutFault::AddressRange),
-        ),
-        (
-            Act::Allocate,
-            None,
-            1_048_576,
-            8,
-            Err(LayoutFault::AddressRange),
-        ),
-    ];
-    assert_rows(&rt, alloc, &mut layers, &rows);
-    let tags = [
-        (TagAct::Create, TagId(3), None, -1_048_576, Ok(0)),
-        (
-            TagAct::Create,
-            TagId(4),
-            Some(TagId(3)),
-            -1,
-            Err(LayoutFault::AddressRange),
-        ),
-    ];
-    assert_tag_rows(&rt, alloc, &mut layers, &tags);
+    assert_rows(&rt, rt.alloc(), &mut layers, OUTERMOST);
+    assert_tag_rows(&rt, rt.alloc(), &mut layers, OUTERMOST_TAGS);
 }
 
 /// All cells, as address, width and value.
@@ -201,92 +210,92 @@ fn assert_cells(
     layers: &Layers<Num>,
     wanted: &[(i32, u8, Option<Num>)],
 ) {
-    let listed = listed_cells(alloc, layers).expect(rt, "memory");
+    let listed = listed_cells(rt, alloc, layers);
     assert!(rt; listed.as_slice() == wanted);
 }
+
+const PUSHED: &[Row] = &[
+    (Act::Allocate, None, 0, 8, Ok(0)),
+    (Act::Assign(8), None, 0, 8, Ok(0)),
+    (Act::Allocate, None, 0, 8, Ok(0)),
+    (Act::Read, None, 0, 8, Err(LayoutFault::Unset)),
+];
+
+const REMOVED: &[Row] = &[
+    (Act::Deallocate, None, 0, 8, Ok(0)),
+    (Act::Deallocate, None, 0, 8, Ok(0)),
+    (Act::Read, None, 0, 8, Ok(7)),
+];
 
 #[test]
 fn three_cells_lie_on_one_another(rt: HostRuntime) {
-    let alloc = rt.alloc();
-    let mut layers = one_byte(&rt, alloc);
-    let pushed = [
-        (Act::Allocate, None, 0, 8, Ok(0)),
-        (Act::Assign(8), None, 0, 8, Ok(0)),
-        (Act::Allocate, None, 0, 8, Ok(0)),
-        (Act::Read, None, 0, 8, Err(LayoutFault::Unset)),
-    ];
-    assert_rows(&rt, alloc, &mut layers, &pushed);
+    let mut layers = one_byte(&rt, rt.alloc());
+    assert_rows(&rt, rt.alloc(), &mut layers, PUSHED);
     let listed = [(0, 8, Some(7)), (0, 8, Some(8)), (0, 8, None)];
-    assert_cells(&rt, alloc, &layers, &listed);
-    let removed = [
-        (Act::Deallocate, None, 0, 8, Ok(0)),
-        (Act::Deallocate, None, 0, 8, Ok(0)),
-        (Act::Read, None, 0, 8, Ok(7)),
-    ];
-    assert_rows(&rt, alloc, &mut layers, &removed);
+    assert_cells(&rt, rt.alloc(), &layers, &listed);
+    assert_rows(&rt, rt.alloc(), &mut layers, REMOVED);
 }
 
 fn assert_tags(rt: &impl Abort, alloc: Global, layers: &Layers<Num>, wanted: &[(u32, i32)]) {
-    let listed = listed_tags(alloc, layers).expect(rt, "memory");
+    let listed = listed_tags(rt, alloc, layers);
     assert!(rt; listed.as_slice() == wanted);
 }
+
+const PUSHED_TAGS: &[TagRow] = &[
+    (TagAct::Set, TagId(5), None, 112, Ok(0)),
+    (TagAct::Create, TagId(5), Some(TagId(5)), 160, Ok(0)),
+    (TagAct::Create, TagId(2), Some(TagId(5)), 1, Ok(0)),
+];
+
+const SET_TAGS: &[TagRow] = &[(TagAct::Set, TagId(5), Some(TagId(5)), 8, Ok(0))];
+
+const REMOVED_TAGS: &[TagRow] = &[
+    (TagAct::Destroy, TagId(5), None, 0, Ok(0)),
+    (TagAct::Destroy, TagId(5), None, 0, Ok(0)),
+    (TagAct::Destroy, TagId(5), None, 0, Err(LayoutFault::NoTag)),
+];
 
 #[test]
 fn tags_are_pushed_set_and_removed(rt: HostRuntime) {
     let alloc = rt.alloc();
     let mut layers = Layers::new();
-    let pushed = [
-        (TagAct::Set, TagId(5), None, 112, Ok(0)),
-        (TagAct::Create, TagId(5), Some(TagId(5)), 160, Ok(0)),
-        (TagAct::Create, TagId(2), Some(TagId(5)), 1, Ok(0)),
-    ];
-    assert_tag_rows(&rt, alloc, &mut layers, &pushed);
+    assert_tag_rows(&rt, alloc, &mut layers, PUSHED_TAGS);
     assert_tags(&rt, alloc, &layers, &[(2, 273), (5, 112), (5, 272)]);
-    let set = [(TagAct::Set, TagId(5), Some(TagId(5)), 8, Ok(0))];
-    assert_tag_rows(&rt, alloc, &mut layers, &set);
+    assert_tag_rows(&rt, alloc, &mut layers, SET_TAGS);
     assert_tags(&rt, alloc, &layers, &[(2, 273), (5, 112), (5, 280)]);
-    let removed = [
-        (TagAct::Destroy, TagId(5), None, 0, Ok(0)),
-        (TagAct::Destroy, TagId(5), None, 0, Ok(0)),
-        (TagAct::Destroy, TagId(5), None, 0, Err(LayoutFault::NoTag)),
-    ];
-    assert_tag_rows(&rt, alloc, &mut layers, &removed);
+    assert_tag_rows(&rt, alloc, &mut layers, REMOVED_TAGS);
+}
+
+/// One more byte at the address.
+fn push_byte(rt: &impl Abort, alloc: Global, layers: &mut Layers<Num>, address: i32) {
+    let made = layers.allocate(alloc, None, address, width_of(rt, 8));
+    assert!(rt; made.is_ok());
 }
 
 /// As many bytes at address 0, the top one with the value 7, and a byte at each of as many other addresses.
 fn many_bytes(rt: &impl Abort, alloc: Global, count: i32) -> Layers<Num> {
-    let byte = width_of(rt, 8);
     let mut layers = Layers::new();
     for place in 1..=count {
-        let address = place.saturating_mul(8);
-        layers
-            .allocate(alloc, None, 0, byte)
-            .ok()
-            .expect(rt, "memory");
-        layers
-            .allocate(alloc, None, address, byte)
-            .ok()
-            .expect(rt, "memory");
+        push_byte(rt, alloc, &mut layers, 0);
+        push_byte(rt, alloc, &mut layers, place.saturating_mul(8));
     }
+    let rows = [(Act::Assign(7), None, 0, 8, Ok(0))];
+    assert_rows(rt, alloc, &mut layers, &rows);
     layers
-        .assign(alloc, None, 0, byte, 7)
-        .ok()
-        .expect(rt, "memory");
-    layers
+}
+
+fn fork_often(rt: &impl Abort, layers: &Layers<Num>) {
+    for _ in 0..1_000_000 {
+        drop(layers.fork().expect(rt, "a copy"));
+    }
 }
 
 #[test]
 fn forks_of_many_cells_are_cheap(rt: HostRuntime) {
+    const TOP: &[Row] = &[(Act::Read, None, 0, 8, Ok(7))];
     let mut layers = many_bytes(&rt, rt.alloc(), 100_000);
-    for _ in 0..1_000_000 {
-        drop(layers.fork().expect(&rt, "a copy"));
-    }
-    assert_rows(
-        &rt,
-        rt.alloc(),
-        &mut layers,
-        &[(Act::Read, None, 0, 8, Ok(7))],
-    );
+    fork_often(&rt, &layers);
+    assert_rows(&rt, rt.alloc(), &mut layers, TOP);
 }
 
 #[test]

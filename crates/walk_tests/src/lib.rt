@@ -10,6 +10,8 @@ mod layers;
 #[cfg(test)]
 mod runs;
 #[cfg(test)]
+mod same;
+#[cfg(test)]
 mod scopes;
 #[cfg(test)]
 mod stacks;

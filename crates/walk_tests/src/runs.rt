@@ -1,6 +1,7 @@
 //! The walks of a packet.
 
-use crate::jobs::{accepted, let_go};
+use crate::jobs::accepted;
+use crate::same::{check, same_count, same_text};
 use concrete_run::{StartFault, WalkFault, start, walk_all, walk_one};
 use sefl_meaning::{Decision, End, Failure, Place, Walk};
 use sefl_syntax::Side;
@@ -69,29 +70,44 @@ fn walks(
 ) -> Result<Vec<Walk>, WalkFault> {
     let job = accepted(rt, alloc, text);
     let walks = walk_all(alloc, &job.net, &job.injection, values, hops, limit);
-    let_go(job);
+    drop(job);
     walks
 }
 
-/// All walks in short, with `;` behind each.
-fn lines(rt: &impl Abort, alloc: Global, text: &str, values: &[Num], hops: u32) -> String {
-    let walks = walks(rt, alloc, text, values, hops, 100)
-        .ok()
-        .expect(rt, "walks");
+/// Walks in short, with `;` behind each.
+fn written(rt: &impl Abort, alloc: Global, walks: &[Walk]) -> String {
     let mut out = String::new(alloc);
-    for walk in walks.iter() {
+    for walk in walks {
         put_walk(&mut out, walk).expect(rt, "memory");
         out.push_str(";").expect(rt, "memory");
     }
     out
 }
 
+/// All walks in short.
+fn lines(rt: &impl Abort, alloc: Global, text: &str, values: &[Num], hops: u32) -> String {
+    let walks = walks(rt, alloc, text, values, hops, 100)
+        .ok()
+        .expect(rt, "walks");
+    written(rt, alloc, walks.as_slice())
+}
+
+fn assert_lines(
+    rt: &impl Abort,
+    alloc: Global,
+    text: &str,
+    values: &[Num],
+    hops: u32,
+    wanted: &str,
+) {
+    let found = lines(rt, alloc, text, values, hops);
+    same_text(rt, found.as_str(), wanted);
+}
+
 #[test]
 fn ttl_forwards_or_dies(rt: HostRuntime) {
-    for (value, wanted) in [(1, "T 0<0 dead at 3;"), (2, "E 0<0 0>0 delivered;")] {
-        let found = lines(&rt, rt.alloc(), TTL, &[value], 16);
-        assert_eq!(rt; found.as_str(), wanted);
-    }
+    assert_lines(&rt, rt.alloc(), TTL, &[1], 16, "T 0<0 dead at 3;");
+    assert_lines(&rt, rt.alloc(), TTL, &[2], 16, "E 0<0 0>0 delivered;");
 }
 
 /// The job of a box with this code, whose packet has a byte 5 in the header at 0 and in the metadata m and n.
@@ -109,100 +125,110 @@ fn begins_with_fault(rt: &impl Abort, alloc: Global, lines: &str, number: &str) 
     lines.starts_with(wanted.as_str())
 }
 
+/// Code in the box, and the fault that its walk ends with at once.
+const FAULTS: &[(&str, &str)] = &[
+    ("allocate head T+0:8;", "1"),
+    ("allocate head 1048576:8;", "2"),
+    ("allocate head 0:16;", "4"),
+    ("allocate head 4:8;", "5"),
+    ("allocate global m:16;", "4"),
+    ("deallocate head 4:8;", "3"),
+    ("deallocate head 0:16;", "4"),
+    ("deallocate local m:8;", "7"),
+    ("set head 4:8 = 1;", "3"),
+    ("set global m:8 = head 0:8 + global x:8;", "7"),
+    ("set global x:8 = any;", "7"),
+    ("tag S = T+0;", "1"),
+    ("retag S = 1048576;", "2"),
+    ("untag S;", "1"),
+    ("constrain head 0:16 == 5;", "4"),
+    ("constrain true or global x:8 == 1;", "7"),
+    ("if not global x:8 == 1 { } else { }", "7"),
+    ("{ { noop; constrain global x:8 in {1, 2}; } }", "7"),
+];
+
+fn assert_fault(rt: &impl Abort, alloc: Global, code: &str, number: &str) {
+    let job = box_with(rt, alloc, code);
+    let found = lines(rt, alloc, job.as_str(), &[], 1);
+    let is_fault = begins_with_fault(rt, alloc, found.as_str(), number);
+    check(rt, is_fault, code);
+}
+
 #[test]
 fn instructions_have_their_faults(rt: HostRuntime) {
-    let alloc = rt.alloc();
-    for (code, end) in [
-        ("allocate head T+0:8;", "1"),
-        ("allocate head 1048576:8;", "2"),
-        ("allocate head 0:16;", "4"),
-        ("allocate head 4:8;", "5"),
-        ("allocate global m:16;", "4"),
-        ("deallocate head 4:8;", "3"),
-        ("deallocate head 0:16;", "4"),
-        ("deallocate local m:8;", "7"),
-        ("set head 4:8 = 1;", "3"),
-        ("set global m:8 = head 0:8 + global x:8;", "7"),
-        ("set global x:8 = any;", "7"),
-        ("tag S = T+0;", "1"),
-        ("retag S = 1048576;", "2"),
-        ("untag S;", "1"),
-        ("constrain head 0:16 == 5;", "4"),
-        ("constrain true or global x:8 == 1;", "7"),
-        ("if not global x:8 == 1 { } else { }", "7"),
-        ("{ { noop; constrain global x:8 in {1, 2}; } }", "7"),
-    ] {
-        let job = box_with(&rt, alloc, code);
-        let found = lines(&rt, alloc, job.as_str(), &[], 1);
-        assert!(rt;
-            begins_with_fault(&rt, alloc, found.as_str(), end),
-            "{code}"
-        );
+    for (code, number) in FAULTS {
+        assert_fault(&rt, rt.alloc(), code, number);
     }
+}
+
+/// Code in the box, and its walks in short, where the choices are 257 and 0.
+const CODES: &[(&str, &str)] = &[
+    (
+        "allocate global x:8; constrain global x:8 == 0;",
+        " 0<0 fault 6 at 3;",
+    ),
+    ("constrain head 0:8 - 6 == 255;", "P 0<0 stopped;"),
+    ("deallocate head 0:16;", " 0<0 fault 4 at 2;"),
+    (
+        "constrain head 0:8 != 5; fail \"x\";",
+        "B 0<0 constraint at 2;",
+    ),
+    (
+        "if head 0:8 == 5 { noop; } else { } fail \"x\";",
+        "T 0<0 x at 4;",
+    ),
+    (
+        "if head 0:8 < 5 { noop; noop; } else { noop; fail \"x\"; }",
+        "E 0<0 x at 6;",
+    ),
+    (
+        "for v in \"^m\" { constrain $v:8 == 5; }",
+        "PP 0<0 stopped;",
+    ),
+    (
+        "for v in \"^m\" { deallocate $v:8; } constrain global n:8 == 5;",
+        " 0<0 fault 7 at 4;",
+    ),
+    (
+        "for v in \"^m\" { constrain $v:8 == 5; deallocate global n:8; }",
+        "P 0<0 fault 7 at 3;",
+    ),
+    (
+        "for v in \"^m\" { for w in \"^m\" { deallocate $w:8; } }",
+        " 0<0 stopped;",
+    ),
+    (
+        "for v in \"^m\" { for w in \"^m\" { deallocate $w:8; } deallocate $v:8; }",
+        " 0<0 fault 7 at 5;",
+    ),
+    (
+        "for v in \"^m\" { set $v:8 = any; } constrain global m:8 == 1; constrain global n:8 == 0;",
+        "PP 0<0 stopped;",
+    ),
+    (
+        "for v in \"^x\" { fail \"y\"; } forward 0; fail \"x\";",
+        " 0<0 0>0 delivered;",
+    ),
+];
+
+fn assert_code(rt: &impl Abort, alloc: Global, code: &str, wanted: &str) {
+    let job = box_with(rt, alloc, code);
+    assert_lines(rt, alloc, job.as_str(), &[257], 1, wanted);
 }
 
 #[test]
 fn code_runs_as_it_should(rt: HostRuntime) {
-    let alloc = rt.alloc();
-    for (code, wanted) in [
-        (
-            "allocate global x:8; constrain global x:8 == 0;",
-            " 0<0 fault 6 at 3;",
-        ),
-        ("constrain head 0:8 - 6 == 255;", "P 0<0 stopped;"),
-        ("deallocate head 0:16;", " 0<0 fault 4 at 2;"),
-        (
-            "constrain head 0:8 != 5; fail \"x\";",
-            "B 0<0 constraint at 2;",
-        ),
-        (
-            "if head 0:8 == 5 { noop; } else { } fail \"x\";",
-            "T 0<0 x at 4;",
-        ),
-        (
-            "if head 0:8 < 5 { noop; noop; } else { noop; fail \"x\"; }",
-            "E 0<0 x at 6;",
-        ),
-        (
-            "for v in \"^m\" { constrain $v:8 == 5; }",
-            "PP 0<0 stopped;",
-        ),
-        (
-            "for v in \"^m\" { deallocate $v:8; } constrain global n:8 == 5;",
-            " 0<0 fault 7 at 4;",
-        ),
-        (
-            "for v in \"^m\" { constrain $v:8 == 5; deallocate global n:8; }",
-            "P 0<0 fault 7 at 3;",
-        ),
-        (
-            "for v in \"^m\" { for w in \"^m\" { deallocate $w:8; } }",
-            " 0<0 stopped;",
-        ),
-        (
-            "for v in \"^m\" { for w in \"^m\" { deallocate $w:8; } deallocate $v:8; }",
-            " 0<0 fault 7 at 5;",
-        ),
-        (
-            "for v in \"^m\" { set $v:8 = any; } constrain global m:8 == 1; constrain global n:8 == 0;",
-            "PP 0<0 stopped;",
-        ),
-        (
-            "for v in \"^x\" { fail \"y\"; } forward 0; fail \"x\";",
-            " 0<0 0>0 delivered;",
-        ),
-    ] {
-        let job = box_with(&rt, alloc, code);
-        let found = lines(&rt, alloc, job.as_str(), &[257], 1);
-        assert_eq!(rt; found.as_str(), wanted);
+    for (code, wanted) in CODES {
+        assert_code(&rt, rt.alloc(), code, wanted);
     }
 }
 
 const FORK: &str = "symnet 1; node a 1 -> 2 { in 0 { fork 0, 1, 1; } } inject a.0 { }";
 
 /// Why there are no walks, with a limit of one.
-fn refusal(rt: &impl Abort, alloc: Global, text: &str) -> Option<WalkFault> {
-    walks(rt, alloc, text, &[], 1, 1).err()
+fn assert_refusal(rt: &impl Abort, alloc: Global, text: &str, wanted: WalkFault) {
+    let refusal = walks(rt, alloc, text, &[], 1, 1).err();
+    assert!(rt; refusal == Some(wanted));
 }
 
 /// The walk with this one decision.
@@ -216,39 +242,50 @@ fn only_walk(
 ) -> Option<Walk> {
     let job = accepted(rt, alloc, text);
     let found = walk_one(alloc, &job.net, &job.injection, values, hops, &[decision]);
-    let_go(job);
+    drop(job);
     found.ok().expect(rt, "an answer")
 }
 
 /// The walk in short; nothing where there is none.
-fn line(rt: &impl Abort, alloc: Global, walk: Option<Walk>) -> String {
+fn line(rt: &impl Abort, alloc: Global, walk: &Option<Walk>) -> String {
     let mut out = String::new(alloc);
-    if let Some(walk) = &walk {
+    if let Some(walk) = walk {
         put_walk(&mut out, walk).expect(rt, "memory");
     }
     out
 }
 
+/// The walk with this one decision, in short.
+fn assert_line(
+    rt: &impl Abort,
+    alloc: Global,
+    text: &str,
+    values: &[Num],
+    hops: u32,
+    decision: Decision,
+    wanted: &str,
+) {
+    let walk = only_walk(rt, alloc, text, values, hops, decision);
+    let found = line(rt, alloc, &walk);
+    drop(walk);
+    same_text(rt, found.as_str(), wanted);
+}
+
 #[test]
 fn fork_has_a_copy_for_each_listed_port(rt: HostRuntime) {
-    let alloc = rt.alloc();
     let wanted = "0 0<0 0>0 delivered;1 0<0 0>1 delivered;2 0<0 0>1 delivered;";
-    let found = lines(&rt, alloc, FORK, &[], 1);
-    assert_eq!(rt; found.as_str(), wanted);
-    assert!(rt; refusal(&rt, alloc, FORK) == Some(WalkFault::TooMany { count: 2 }));
-    let third = only_walk(&rt, alloc, FORK, &[], 1, Decision::Copy(2));
-    let third = line(&rt, alloc, third);
-    assert_eq!(rt; third.as_str(), "2 0<0 0>1 delivered");
+    assert_lines(&rt, rt.alloc(), FORK, &[], 1, wanted);
+    let fault = WalkFault::TooMany { count: 2 };
+    assert_refusal(&rt, rt.alloc(), FORK, fault);
+    let third = "2 0<0 0>1 delivered";
+    assert_line(&rt, rt.alloc(), FORK, &[], 1, Decision::Copy(2), third);
 }
 
 #[test]
 fn one_walk_is_found_by_its_decisions(rt: HostRuntime) {
-    let alloc = rt.alloc();
-    for (decision, wanted) in [(Decision::Then, "T 0<0 dead at 3"), (Decision::Else, "")] {
-        let walk = only_walk(&rt, alloc, TTL, &[1], 16, decision);
-        let found = line(&rt, alloc, walk);
-        assert_eq!(rt; found.as_str(), wanted);
-    }
+    let dead = "T 0<0 dead at 3";
+    assert_line(&rt, rt.alloc(), TTL, &[1], 16, Decision::Then, dead);
+    assert_line(&rt, rt.alloc(), TTL, &[1], 16, Decision::Else, "");
 }
 
 const RING: &str = "symnet 1; node a 1 -> 1 { in 0 { allocate local m:8; forward 0; } }
@@ -256,25 +293,29 @@ node b 1 -> 1 { in 0 { forward 0; } out 0 { constrain true; } }
 link a.0 -> b.0; link b.0 -> a.0; inject a.0 { }";
 
 /// How many places the only walk arrives at.
-fn place_count(rt: &impl Abort, alloc: Global, text: &str, hops: u32) -> usize {
-    let walks = walks(rt, alloc, text, &[], hops, 1)
+fn place_count(rt: &impl Abort, walks: &[Walk]) -> usize {
+    walks.first().expect(rt, "a walk").places.len()
+}
+
+/// The ring's only walk with so many hops arrives at so many places.
+fn assert_places(rt: &impl Abort, alloc: Global, hops: u32, wanted: usize) {
+    let walks = walks(rt, alloc, RING, &[], hops, 1)
         .ok()
         .expect(rt, "walks");
-    let walk = walks.first().expect(rt, "a walk");
-    walk.places.len()
+    same_count(rt, place_count(rt, walks.as_slice()), wanted);
 }
 
 #[test]
 fn hops_count_input_ports(rt: HostRuntime) {
-    for (hops, wanted) in [
+    const ROWS: &[(u32, &str)] = &[
         (1, " 0<0 0>0 1<0 cut;"),
         (2, "P 0<0 0>0 1<0 1>0 0<0 cut;"),
         (3, "P 0<0 0>0 1<0 1>0 0<0 0>0 1<0 cut;"),
-    ] {
-        let found = lines(&rt, rt.alloc(), RING, &[], hops);
-        assert_eq!(rt; found.as_str(), wanted);
+    ];
+    for (hops, wanted) in ROWS {
+        assert_lines(&rt, rt.alloc(), RING, &[], *hops, wanted);
     }
-    assert_eq!(rt; place_count(&rt, rt.alloc(), RING, 256), 513);
+    assert_places(&rt, rt.alloc(), 256, 513);
 }
 
 const LOCAL: &str =
@@ -289,13 +330,10 @@ link a.0 -> b.0; link b.0 -> a.1; inject a.0 { }";
 
 #[test]
 fn locals_belong_to_their_box(rt: HostRuntime) {
-    for (text, hops, wanted) in [
-        (LOCAL, 2, " 0<0 0>0 1<0 fault 7 at 7;"),
-        (BACK, 3, "P 0<0 0>0 1<0 1>0 0<1 stopped;"),
-    ] {
-        let found = lines(&rt, rt.alloc(), text, &[], hops);
-        assert_eq!(rt; found.as_str(), wanted);
-    }
+    let fault = " 0<0 0>0 1<0 fault 7 at 7;";
+    assert_lines(&rt, rt.alloc(), LOCAL, &[], 2, fault);
+    let stopped = "P 0<0 0>0 1<0 1>0 0<1 stopped;";
+    assert_lines(&rt, rt.alloc(), BACK, &[], 3, stopped);
 }
 
 const WHERE: &str = "symnet 1; node a 1 -> 0 { in 0 { constrain global x:8 == 0; } }
@@ -305,22 +343,26 @@ inject a.0 { field global x:8; field global y:8 = 3; field global z:4; where glo
 fn started(rt: &impl Abort, alloc: Global, values: &[Num]) -> Option<StartFault> {
     let job = accepted(rt, alloc, WHERE);
     let fault = start(alloc, &job.net, &job.injection, values).err();
-    let_go(job);
+    drop(job);
     fault
+}
+
+fn assert_started(rt: &impl Abort, alloc: Global, values: &[Num], wanted: Option<StartFault>) {
+    assert!(rt; started(rt, alloc, values) == wanted, "{values:?}");
 }
 
 #[test]
 fn packets_meet_the_injection(rt: HostRuntime) {
-    let alloc = rt.alloc();
-    let fault = StartFault::Short { needed: 2 };
-    assert!(rt; started(&rt, alloc, &[300]) == Some(fault));
-    for (values, wanted) in [
-        ([3, 16], Some(StartFault::ValueTooWide { field: 1 })),
-        ([4, 0], Some(StartFault::WhereFalse { index: 0 })),
-        ([3, 0], Some(StartFault::WhereFalse { index: 1 })),
-        ([3, 1], None),
-    ] {
-        assert!(rt; started(&rt, alloc, &values) == wanted);
+    const ROWS: &[(&[Num], Option<StartFault>)] = &[
+        (&[300], Some(StartFault::Short { needed: 2 })),
+        (&[3, 16], Some(StartFault::ValueTooWide { field: 1 })),
+        (&[4, 0], Some(StartFault::WhereFalse { index: 0 })),
+        (&[3, 0], Some(StartFault::WhereFalse { index: 1 })),
+        (&[3, 1], None),
+    ];
+    for (values, wanted) in ROWS {
+        assert_started(&rt, rt.alloc(), values, *wanted);
     }
-    assert!(rt; refusal(&rt, alloc, WHERE) == Some(WalkFault::Start { fault }));
+    let fault = StartFault::Short { needed: 2 };
+    assert_refusal(&rt, rt.alloc(), WHERE, WalkFault::Start { fault });
 }

@@ -2,13 +2,14 @@
 
 use crate::cells::{Answer, answered, width_of};
 use crate::jobs::{accepted, job_of, nothing};
+use crate::same::check;
 use instr_steps::{
     Numbers, Scene, allocate, assign, create_tag, deallocate, destroy_tag, put, reduced, set_tag,
     truth_of, value_of, width_of as width_at,
 };
-use net_check::Net;
+use net_check::{Accepted, Net};
 use sefl_meaning::{State, Turn};
-use sefl_syntax::{Body, Instr, Job, Name, NodeDecl, Target};
+use sefl_syntax::{Body, Cond, Instr, Job, Name, Target};
 use sn_tree::Shared;
 use sn_width::{LayoutFault, NameId, NodeId, Num, StepFault};
 use std::alloc::Global;
@@ -20,22 +21,18 @@ const JOB: &str = "symnet 1; node a 1 -> 0 { } inject a.0 { tag T = 100; field g
 /// A packet in the box, in the turns of the Fors round it.
 #[derive(Drop)]
 struct Here {
-    net: Net,
+    job: Accepted,
     turns: Shared<Turn>,
     state: State,
 }
 
-fn net(rt: &impl Abort, alloc: Global) -> Net {
-    accepted(rt, alloc, JOB).net
+fn at_start(rt: &impl Abort, alloc: Global, turns: Shared<Turn>) -> Here {
+    Here {
+        job: accepted(rt, alloc, JOB),
+        turns,
+        state: nothing(),
+    }
 }
-
-fn at_start(net: Net, turns: Shared<Turn>) -> Here {
-    let state = nothing();
-    Here { net, turns, state }
-}
-
-/// Drops the packet and its net, which is proved once here and not in each test.
-fn let_go(_here: Here) {}
 
 /// The job of a box with one instruction.
 fn job(rt: &impl Abort, alloc: Global, instruction: &str) -> Job {
@@ -69,12 +66,10 @@ fn numbers() -> Numbers<'static> {
     }
 }
 
-/// The answer of an evaluation.
-fn evaluated<T>(rt: &impl Abort, found: Result<T, StepFault>) -> Result<T, LayoutFault> {
-    match found {
-        Ok(value) => Ok(value),
-        Err(StepFault::Layout(fault)) => Err(fault),
-        Err(StepFault::NoMemory) => panic!(rt; "memory"),
+fn layout_fault(rt: &impl Abort, fault: StepFault) -> LayoutFault {
+    match fault {
+        StepFault::Layout(fault) => fault,
+        StepFault::NoMemory => panic!(rt; "memory"),
     }
 }
 
@@ -97,36 +92,62 @@ fn answer(
     state: &mut State,
     instr: &Instr,
 ) -> Answer {
+    match instr {
+        Instr::Constrain(test) => truth(rt, alloc, at, state, test),
+        _ => answered(rt, step(rt, alloc, at, state, instr)),
+    }
+}
+
+/// Runs an instruction that changes the packet.
+fn step(
+    rt: &impl Abort,
+    alloc: Global,
+    at: &Scene<'_>,
+    state: &mut State,
+    instr: &Instr,
+) -> Result<(), StepFault> {
     let o = numbers();
     match instr {
-        Instr::Allocate(target) => answered(rt, allocate(alloc, at, state, target)),
-        Instr::Deallocate(target) => answered(rt, deallocate(alloc, at, state, target)),
-        Instr::Assign { target, value } => {
-            answered(rt, assign(alloc, &o, at, state, target, value))
-        },
+        Instr::Allocate(target) => allocate(alloc, at, state, target),
+        Instr::Deallocate(target) => deallocate(alloc, at, state, target),
+        Instr::Assign { target, value } => assign(alloc, &o, at, state, target, value),
         Instr::AssignAny(target) => {
             let choice = o.choice(width_at(target), 0);
-            answered(rt, put(alloc, at, state, target, choice))
+            put(alloc, at, state, target, choice)
         },
-        Instr::CreateTag { name, addr } => answered(rt, create_tag(alloc, at, state, name, addr)),
-        Instr::SetTag { name, addr } => answered(rt, set_tag(alloc, at, state, name, addr)),
-        Instr::DestroyTag(name) => answered(rt, destroy_tag(alloc, at, state, name)),
-        Instr::Constrain(test) => {
-            let truth = evaluated(rt, truth_of(alloc, &o, at, state, test))?;
-            Ok(Num::from(truth))
-        },
+        Instr::CreateTag { name, addr } => create_tag(alloc, at, state, name, addr),
+        Instr::SetTag { name, addr } => set_tag(alloc, at, state, name, addr),
+        Instr::DestroyTag(name) => destroy_tag(alloc, at, state, name),
         _ => panic!(rt; "not one step"),
     }
 }
 
+/// What a condition is, 1 for true.
+fn truth(rt: &impl Abort, alloc: Global, at: &Scene<'_>, state: &State, test: &Cond) -> Answer {
+    match truth_of(alloc, &numbers(), at, state, test) {
+        Ok(truth) => Ok(Num::from(truth)),
+        Err(fault) => Err(layout_fault(rt, fault)),
+    }
+}
+
+/// What an instruction does with the packet.
+fn done(rt: &impl Abort, alloc: Global, here: &mut Here, instr: &Instr) -> Answer {
+    let Here { job, turns, state } = here;
+    answer(rt, alloc, &scene(&job.net, 0, turns), state, instr)
+}
+
+/// Runs the instruction of the text, which has this answer.
+fn assert_step(rt: &impl Abort, alloc: Global, here: &mut Here, text: &str, wanted: Answer) {
+    let job = job(rt, alloc, text);
+    let instr = first_of(&job).expect(rt, "an instruction");
+    check(rt, done(rt, alloc, here, instr) == wanted, text);
+    drop(job);
+}
+
 /// Runs instructions, each with its answer.
 fn assert_steps(rt: &impl Abort, alloc: Global, here: &mut Here, steps: &[(&str, Answer)]) {
-    let Here { net, turns, state } = here;
     for (text, wanted) in steps {
-        let job = job(rt, alloc, text);
-        let instr = first_of(&job).expect(rt, "an instruction");
-        let found = answer(rt, alloc, &scene(net, 0, turns), state, instr);
-        assert!(rt; found == *wanted, "{text}");
+        assert_step(rt, alloc, here, text, *wanted);
     }
 }
 
@@ -135,19 +156,33 @@ fn value(rt: &impl Abort, alloc: Global, here: &Here, node: u32, instr: &Instr) 
     let Instr::Assign { value, .. } = instr else {
         panic!(rt; "not an assignment")
     };
-    let at = scene(&here.net, node, &here.turns);
+    let at = scene(&here.job.net, node, &here.turns);
     let width = width_of(rt, 8);
-    let found = value_of(alloc, &numbers(), &at, &here.state, width, value);
-    evaluated(rt, found)
+    match value_of(alloc, &numbers(), &at, &here.state, width, value) {
+        Ok(value) => Ok(value),
+        Err(fault) => Err(layout_fault(rt, fault)),
+    }
+}
+
+/// What is assigned, at 8 bits, in the box with this number.
+fn assert_value(
+    rt: &impl Abort,
+    alloc: Global,
+    here: &Here,
+    node: u32,
+    text: &str,
+    wanted: Answer,
+) {
+    let job = job(rt, alloc, text);
+    let instr = first_of(&job).expect(rt, "an instruction");
+    check(rt, value(rt, alloc, here, node, instr) == wanted, text);
+    drop(job);
 }
 
 /// What is assigned, at 8 bits, in the boxes with these numbers.
 fn assert_values(rt: &impl Abort, alloc: Global, here: &Here, rows: &[(u32, &str, Answer)]) {
     for (node, text, wanted) in rows {
-        let job = job(rt, alloc, text);
-        let instr = first_of(&job).expect(rt, "an instruction");
-        let found = value(rt, alloc, here, *node, instr);
-        assert!(rt; found == *wanted, "{text}");
+        assert_value(rt, alloc, here, *node, text, *wanted);
     }
 }
 
@@ -158,22 +193,25 @@ fn assert_tag(rt: &impl Abort, alloc: Global, here: &Here, wanted: i32) {
     assert_eq!(rt; tag.1, wanted);
 }
 
+const CREATED: &[(&str, Answer)] = &[
+    ("tag T = T+8;", Err(LayoutFault::NoTag)),
+    ("retag T = 100;", Ok(0)),
+    ("tag T = T+8;", Ok(0)),
+];
+
+const UNTAGGED: &[(&str, Answer)] = &[("untag T;", Ok(0))];
+
+const DESTROYED: &[(&str, Answer)] = &[("untag T;", Ok(0)), ("untag T;", Err(LayoutFault::NoTag))];
+
 #[test]
 fn tags_are_created_set_and_destroyed(rt: HostRuntime) {
-    let alloc = rt.alloc();
-    let mut here = at_start(net(&rt, alloc), Shared::empty());
-    let created = [
-        ("tag T = T+8;", Err(LayoutFault::NoTag)),
-        ("retag T = 100;", Ok(0)),
-        ("tag T = T+8;", Ok(0)),
-    ];
-    assert_steps(&rt, alloc, &mut here, &created);
-    assert_tag(&rt, alloc, &here, 108);
-    assert_steps(&rt, alloc, &mut here, &[("untag T;", Ok(0))]);
-    assert_tag(&rt, alloc, &here, 100);
-    let destroyed = [("untag T;", Ok(0)), ("untag T;", Err(LayoutFault::NoTag))];
-    assert_steps(&rt, alloc, &mut here, &destroyed);
-    let_go(here);
+    let mut here = at_start(&rt, rt.alloc(), Shared::empty());
+    assert_steps(&rt, rt.alloc(), &mut here, CREATED);
+    assert_tag(&rt, rt.alloc(), &here, 108);
+    assert_steps(&rt, rt.alloc(), &mut here, UNTAGGED);
+    assert_tag(&rt, rt.alloc(), &here, 100);
+    assert_steps(&rt, rt.alloc(), &mut here, DESTROYED);
+    drop(here);
 }
 
 /// The target of an allocation.
@@ -184,82 +222,98 @@ fn allocated<'a>(rt: &impl Abort, job: &'a Job) -> &'a Target {
     target
 }
 
+/// Puts 7 into the cell, which has 8 bits.
+fn put_seven(rt: &impl Abort, alloc: Global, here: &mut Here, cell: &Target) {
+    let Here { job, turns, state } = here;
+    let step = put(alloc, &scene(&job.net, 0, turns), state, cell, 7);
+    assert!(rt; step == Ok(()));
+}
+
 /// Puts 7 into the header cell.
 fn assert_put(rt: &impl Abort, alloc: Global, here: &mut Here) {
     let job = job(rt, alloc, "allocate head T+8:8;");
     let cell = allocated(rt, &job);
     assert!(rt; width_at(cell) == width_of(rt, 8));
-    let at = scene(&here.net, 0, &here.turns);
-    let step = put(alloc, &at, &mut here.state, cell, 7);
-    assert!(rt; step == Ok(()));
+    put_seven(rt, alloc, here, cell);
+    drop(job);
 }
+
+const READ: &str = "set global m:8 = head T+8:8;";
+
+const MADE: &[(&str, Answer)] = &[("retag T = 100;", Ok(0)), ("allocate head T+8:8;", Ok(0))];
+
+const UNSET: &[(u32, &str, Answer)] = &[(0, READ, Err(LayoutFault::Unset))];
+
+const SUMMED: &[(&str, Answer)] = &[("set head T+8:8 = 300 - 1 + head T+8:8;", Ok(0))];
+
+const SUM: &[(u32, &str, Answer)] = &[(0, READ, Ok(50))];
+
+const REMOVED: &[(&str, Answer)] = &[
+    ("deallocate head T+8:8;", Ok(0)),
+    ("deallocate head T+8:8;", Err(LayoutFault::NoField)),
+];
 
 #[test]
 fn a_header_cell_is_allocated_assigned_and_removed(rt: HostRuntime) {
-    let alloc = rt.alloc();
-    let mut here = at_start(net(&rt, alloc), Shared::empty());
-    let made = [("retag T = 100;", Ok(0)), ("allocate head T+8:8;", Ok(0))];
-    assert_steps(&rt, alloc, &mut here, &made);
-    let read = "set global m:8 = head T+8:8;";
-    let unset = [(0, read, Err(LayoutFault::Unset))];
-    assert_values(&rt, alloc, &here, &unset);
-    assert_put(&rt, alloc, &mut here);
-    let set = [("set head T+8:8 = 300 - 1 + head T+8:8;", Ok(0))];
-    assert_steps(&rt, alloc, &mut here, &set);
-    assert_values(&rt, alloc, &here, &[(0, read, Ok(50))]);
-    let removed = [
-        ("deallocate head T+8:8;", Ok(0)),
-        ("deallocate head T+8:8;", Err(LayoutFault::NoField)),
-    ];
-    assert_steps(&rt, alloc, &mut here, &removed);
-    let_go(here);
+    let mut here = at_start(&rt, rt.alloc(), Shared::empty());
+    assert_steps(&rt, rt.alloc(), &mut here, MADE);
+    assert_values(&rt, rt.alloc(), &here, UNSET);
+    assert_put(&rt, rt.alloc(), &mut here);
+    assert_steps(&rt, rt.alloc(), &mut here, SUMMED);
+    assert_values(&rt, rt.alloc(), &here, SUM);
+    assert_steps(&rt, rt.alloc(), &mut here, REMOVED);
+    drop(here);
 }
+
+const CHOSEN: &[(&str, Answer)] = &[("allocate local m:8;", Ok(0)), ("set $v:8 = any;", Ok(0))];
+
+const OF_VARIABLE: &[(u32, &str, Answer)] = &[
+    (0, "set global m:8 = local m:8;", Ok(2)),
+    (0, "set global m:8 = $v:8;", Ok(2)),
+    (1, "set global m:8 = local m:8;", Err(LayoutFault::NoMeta)),
+    (0, "set global m:8 = global m:8;", Err(LayoutFault::NoMeta)),
+];
 
 #[test]
 fn a_variable_stands_for_metadata_of_its_box(rt: HostRuntime) {
-    let alloc = rt.alloc();
-    let turns = turn(&rt, alloc);
-    let mut here = at_start(net(&rt, alloc), turns);
-    let set = [("allocate local m:8;", Ok(0)), ("set $v:8 = any;", Ok(0))];
-    assert_steps(&rt, alloc, &mut here, &set);
-    let rows = [
-        (0, "set global m:8 = local m:8;", Ok(2)),
-        (0, "set global m:8 = $v:8;", Ok(2)),
-        (1, "set global m:8 = local m:8;", Err(LayoutFault::NoMeta)),
-        (0, "set global m:8 = global m:8;", Err(LayoutFault::NoMeta)),
-    ];
-    assert_values(&rt, alloc, &here, &rows);
-    let_go(here);
+    let mut here = at_start(&rt, rt.alloc(), turn(&rt, rt.alloc()));
+    assert_steps(&rt, rt.alloc(), &mut here, CHOSEN);
+    assert_values(&rt, rt.alloc(), &here, OF_VARIABLE);
+    drop(here);
+}
+
+fn same(rt: &impl Abort, found: Num, wanted: Num) {
+    assert_eq!(rt; found, wanted);
 }
 
 /// The number at the place, and the choice of that number, at 8 bits.
 fn assert_numbers(rt: &impl Abort, place: usize, number: Num, choice: Num) {
     let width = width_of(rt, 8);
-    assert_eq!(rt; numbers().number_at(width, place), number);
-    assert_eq!(rt; numbers().choice(width, place), choice);
+    same(rt, numbers().number_at(width, place), number);
+    same(rt, numbers().choice(width, place), choice);
 }
 
 #[test]
 fn numbers_are_reduced_and_are_0_past_the_end(rt: HostRuntime) {
-    assert_eq!(rt; reduced(width_of(&rt, 8), 300), 44);
+    same(&rt, reduced(width_of(&rt, 8), 300), 44);
     for (place, number, choice) in [(0, 5, 2), (1, 2, 0), (2, 0, 0), (usize::MAX, 0, 0)] {
         assert_numbers(&rt, place, number, choice);
     }
 }
 
+const CONDITIONS: &[(&str, Answer)] = &[
+    (
+        "constrain true or global m:8 < 4;",
+        Err(LayoutFault::NoMeta),
+    ),
+    ("constrain 4 < 4 or 4 in {2..4};", Ok(1)),
+    ("constrain not 5 in {2..4} and 3 < 4;", Ok(1)),
+    ("constrain 1 in {2..4} and true;", Ok(0)),
+];
+
 #[test]
 fn every_atom_of_a_condition_is_evaluated(rt: HostRuntime) {
-    let alloc = rt.alloc();
-    let mut here = at_start(net(&rt, alloc), Shared::empty());
-    let tests = [
-        (
-            "constrain true or global m:8 < 4;",
-            Err(LayoutFault::NoMeta),
-        ),
-        ("constrain 4 < 4 or 4 in {2..4};", Ok(1)),
-        ("constrain not 5 in {2..4} and 3 < 4;", Ok(1)),
-        ("constrain 1 in {2..4} and true;", Ok(0)),
-    ];
-    assert_steps(&rt, alloc, &mut here, &tests);
-    let_go(here);
+    let mut here = at_start(&rt, rt.alloc(), Shared::empty());
+    assert_steps(&rt, rt.alloc(), &mut here, CONDITIONS);
+    drop(here);
 }

@@ -1,6 +1,6 @@
 //! Each rule broken alone, and which of two is told.
 
-use super::asked::check_all;
+use super::asked::{Broken, check_all};
 use job_items::{Rule, Which};
 
 /// A node `a` with two ports on each side, one of which has empty code: what follows is item 2.
@@ -11,7 +11,7 @@ const INJECT: &str = " inject a.0 { }";
 
 #[test]
 fn instructions_are_checked(rt: HostRuntime) {
-    let rows = [
+    const ROWS: &[(&str, Broken)] = &[
         ("forward 2;", Some((2, Rule::PortRange))),
         ("fork 0, 2;", Some((2, Rule::PortRange))),
         ("fork 1, 1;", None),
@@ -29,12 +29,18 @@ fn instructions_are_checked(rt: HostRuntime) {
         ("constrain head 0:8 in {300..5};", Some((2, Rule::TooWide))),
         ("constrain $x:8 == 256;", Some((2, Rule::TooWide))),
     ];
-    check_all(&rt, "node a 2 -> 2 { in 1 { ", &rows, " } } inject a.0 { }");
+    check_all(
+        &rt,
+        rt.alloc(),
+        "node a 2 -> 2 { in 1 { ",
+        ROWS,
+        " } } inject a.0 { }",
+    );
 }
 
 #[test]
 fn output_ports_do_not_forward(rt: HostRuntime) {
-    let rows = [
+    const ROWS: &[(&str, Broken)] = &[
         ("forward 0;", Some((2, Rule::OutForward))),
         // Of two rules of an item the first is told.
         ("forward 5;", Some((2, Rule::PortRange))),
@@ -42,15 +48,16 @@ fn output_ports_do_not_forward(rt: HostRuntime) {
     ];
     check_all(
         &rt,
+        rt.alloc(),
         "node a 2 -> 2 { out 1 { ",
-        &rows,
+        ROWS,
         " } } inject a.0 { }",
     );
 }
 
 #[test]
 fn loops_bind_their_variables(rt: HostRuntime) {
-    let rows = [
+    const ROWS: &[(&str, Broken)] = &[
         (
             "for x in \"opt\" { for y in \"opt\" { allocate $x:8; } }",
             None,
@@ -68,14 +75,18 @@ fn loops_bind_their_variables(rt: HostRuntime) {
             Some((4, Rule::NestedFor)),
         ),
     ];
-    check_all(&rt, "node a 2 -> 2 { in 1 { ", &rows, " } } inject a.0 { }");
+    check_all(
+        &rt,
+        rt.alloc(),
+        "node a 2 -> 2 { in 1 { ",
+        ROWS,
+        " } } inject a.0 { }",
+    );
 }
 
 #[test]
 fn nodes_and_links_are_checked(rt: HostRuntime) {
-    let which = Which::Ports;
-    let count = 1_025;
-    let rows = [
+    const NODES: &[(&str, Broken)] = &[
         (
             "node a 1 -> 0 { } node a 1 -> 0 { }",
             Some((1, Rule::TwiceNode)),
@@ -93,11 +104,17 @@ fn nodes_and_links_are_checked(rt: HostRuntime) {
         ),
         (
             "node a 1025 -> 1026 { } node a 1 -> 0 { }",
-            Some((0, Rule::Limit { which, count })),
+            Some((
+                0,
+                Rule::Limit {
+                    which: Which::Ports,
+                    count: 1_025,
+                },
+            )),
         ),
     ];
-    check_all(&rt, "", &rows, INJECT);
-    let rows = [
+    check_all(&rt, rt.alloc(), "", NODES, INJECT);
+    const LINKS: &[(&str, Broken)] = &[
         ("link a.0 -> b.0;", Some((2, Rule::NoNode))),
         ("link b.0 -> a.0;", Some((2, Rule::NoNode))),
         ("link a.0 -> a.2;", Some((2, Rule::PortRange))),
@@ -108,12 +125,12 @@ fn nodes_and_links_are_checked(rt: HostRuntime) {
             Some((3, Rule::TwoLinks)),
         ),
     ];
-    check_all(&rt, PLAIN, &rows, INJECT);
+    check_all(&rt, rt.alloc(), PLAIN, LINKS, INJECT);
 }
 
 #[test]
 fn packets_enter_by_a_port(rt: HostRuntime) {
-    let rows = [
+    const ROWS: &[(&str, Broken)] = &[
         ("} } inject a.2 { }", Some((2, Rule::PortRange))),
         ("} } inject b.2 { }", Some((2, Rule::NoNode))),
         // Of two items the first is told.
@@ -122,12 +139,12 @@ fn packets_enter_by_a_port(rt: HostRuntime) {
             Some((2, Rule::EmptyFork)),
         ),
     ];
-    check_all(&rt, "node a 2 -> 2 { in 1 { ", &rows, "");
+    check_all(&rt, rt.alloc(), "node a 2 -> 2 { in 1 { ", ROWS, "");
 }
 
 #[test]
 fn packets_have_tags_and_fields(rt: HostRuntime) {
-    let rows = [
+    const ROWS: &[(&str, Broken)] = &[
         ("tag L = 1048576;", Some((3, Rule::BadAddress))),
         ("tag L = 1048575; tag M = L+1;", Some((4, Rule::BadAddress))),
         ("tag L = L+0;", Some((3, Rule::Unbound))),
@@ -156,12 +173,18 @@ fn packets_have_tags_and_fields(rt: HostRuntime) {
         // Of two rules of an item the first is told.
         ("field head M+0:8 = 256;", Some((3, Rule::TooWide))),
     ];
-    check_all(&rt, "node a 2 -> 2 { in 1 { } } inject a.0 { ", &rows, " }");
+    check_all(
+        &rt,
+        rt.alloc(),
+        "node a 2 -> 2 { in 1 { } } inject a.0 { ",
+        ROWS,
+        " }",
+    );
 }
 
 #[test]
 fn packets_have_tests(rt: HostRuntime) {
-    let rows = [
+    const ROWS: &[(&str, Broken)] = &[
         ("head 8:8 == 255", None),
         ("head 8:8 == 256", Some((5, Rule::TooWide))),
         ("head 8:16 == 1", Some((5, Rule::WidthMismatch))),
@@ -170,12 +193,12 @@ fn packets_have_tests(rt: HostRuntime) {
         ("head 8:8 in {5..3}", Some((5, Rule::BadRanges))),
     ];
     let before = "node a 2 -> 2 { in 1 { } } inject a.0 { tag L = 4; field head L+4:8; where ";
-    check_all(&rt, before, &rows, "; }");
+    check_all(&rt, rt.alloc(), before, ROWS, "; }");
 }
 
 #[test]
 fn asks_are_checked(rt: HostRuntime) {
-    let rows = [
+    const ROWS: &[(&str, Broken)] = &[
         ("ask reach in q.0 with global m:8 == 255;", None),
         (
             "ask reach in q.0 with global m:8 == 256;",
@@ -190,5 +213,11 @@ fn asks_are_checked(rt: HostRuntime) {
             Some((4, Rule::Unbound)),
         ),
     ];
-    check_all(&rt, "node a 2 -> 2 { in 1 { } } inject a.0 { } ", &rows, "");
+    check_all(
+        &rt,
+        rt.alloc(),
+        "node a 2 -> 2 { in 1 { } } inject a.0 { } ",
+        ROWS,
+        "",
+    );
 }

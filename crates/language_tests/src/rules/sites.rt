@@ -3,6 +3,8 @@
 use super::asked::{Broken, check, check_all};
 use crate::jobs::joined;
 use job_items::Rule;
+use std::alloc::Global;
+use std::process::Abort;
 
 /// Node `a` (item 0) with code (1): an If (2) with a block of two instructions (3 to 5), and else a
 /// For of one (6, 7) and one more (8).
@@ -11,17 +13,17 @@ const NESTED: &str = "node a 2 -> 2 { in 1 { if true { { noop; noop; } } else { 
 
 #[test]
 fn items_stand_behind_blocks(rt: HostRuntime) {
-    let rows = [
+    const ROWS: &[(&str, Broken)] = &[
         ("forward 9; } } inject a.0 { }", Some((9, Rule::PortRange))),
         ("noop; } } inject a.0 { }", None),
         ("noop; } } inject a.9 { }", Some((10, Rule::PortRange))),
     ];
-    check_all(&rt, NESTED, &rows, "");
+    check_all(&rt, rt.alloc(), NESTED, ROWS, "");
 }
 
 #[test]
 fn items_stand_within_blocks(rt: HostRuntime) {
-    let rows = [
+    const ROWS: &[(&str, Broken)] = &[
         (
             "if true { { noop; forward 9; } } else { forward 9; }",
             Some((5, Rule::PortRange)),
@@ -35,7 +37,13 @@ fn items_stand_within_blocks(rt: HostRuntime) {
             Some((3, Rule::TooWide)),
         ),
     ];
-    check_all(&rt, "node a 2 -> 2 { in 1 { ", &rows, " } } inject a.0 { }");
+    check_all(
+        &rt,
+        rt.alloc(),
+        "node a 2 -> 2 { in 1 { ",
+        ROWS,
+        " } } inject a.0 { }",
+    );
 }
 
 /// Node `a` (item 0) with code at two ports (1 to 4), and nodes `b` and `c` without code (5, 6).
@@ -48,6 +56,9 @@ const LINKS: &str = "link a.1 -> b.0; link b.0 -> c.0; ";
 /// The injection (9) with a tag (10).
 const INJECT: &str = "inject a.0 { tag L = 0; ";
 
+/// The same by a port that is not there.
+const BAD_INJECT: &str = "inject a.2 { tag L = 0; ";
+
 /// Two fields (11, 12).
 const FIELDS: &str = "field head 0:8; field global m:8; ";
 
@@ -57,10 +68,15 @@ const TEST: &str = "where head 0:8 == 1; ";
 /// Two asks (14, 15).
 const ASKS: &str = "} ask reach in q.0; ask reach in q.0 with head 0:8 == 1; ";
 
+/// Checks what the job of these pieces breaks.
+fn check_pieces(rt: &impl Abort, alloc: Global, pieces: &[&str], broken: Broken) {
+    let text = joined(rt, alloc, pieces);
+    check(rt, alloc, text.as_str(), broken);
+}
+
 #[test]
 fn each_kind_of_item_has_sites(rt: HostRuntime) {
-    let port = "inject a.2 { tag L = 0; ";
-    let rows: [(&[&str], Broken); 9] = [
+    const ROWS: &[(&[&str], Broken)] = &[
         (&[NODES, LINKS, INJECT, FIELDS, TEST, ASKS], None),
         (
             &[
@@ -87,7 +103,7 @@ fn each_kind_of_item_has_sites(rt: HostRuntime) {
             Some((9, Rule::PortRange)),
         ),
         (
-            &[NODES, LINKS, port, FIELDS, TEST, ASKS],
+            &[NODES, LINKS, BAD_INJECT, FIELDS, TEST, ASKS],
             Some((9, Rule::PortRange)),
         ),
         (
@@ -151,7 +167,7 @@ fn each_kind_of_item_has_sites(rt: HostRuntime) {
             Some((16, Rule::TooWide)),
         ),
     ];
-    for (pieces, broken) in rows {
-        check(&rt, joined(&rt, pieces).as_str(), broken);
+    for (pieces, broken) in ROWS {
+        check_pieces(&rt, rt.alloc(), pieces, *broken);
     }
 }

@@ -2,8 +2,9 @@
 
 use super::{listed_cells, listed_tags};
 use crate::cells::width_of;
+use crate::same::same_count;
 use header_layers::Layers;
-use sn_width::{NoMemory, Num, StepFault, TagId, Width};
+use sn_width::{Num, StepFault, TagId, Width};
 use std::alloc::Global;
 use std::process::Abort;
 
@@ -221,22 +222,21 @@ fn step(alloc: Global, layers: &mut Layers<Num>, call: Call, width: Width) -> Re
 }
 
 /// The pairs ascending by tag, those of a tag in the order in which they came.
-fn sorted_tags(alloc: Global, tags: &[(u32, i32)]) -> Result<Vec<(u32, i32)>, NoMemory> {
-    let mut sorted = Vec::new(alloc);
-    sorted.extend_from_slice(tags)?;
-    sorted.sort_by_key(|pair| pair.0)?;
-    Ok(sorted)
+fn sorted_tags(rt: &impl Abort, alloc: Global, tags: &[(u32, i32)]) -> Vec<(u32, i32)> {
+    let mut sorted = Vec::from_slice(alloc, tags).expect(rt, "memory");
+    sorted.sort_by_key(|pair| pair.0).expect(rt, "memory");
+    sorted
 }
 
 /// The cells ascending by address, those of an address in the order in which they came.
 fn sorted_cells(
+    rt: &impl Abort,
     alloc: Global,
     cells: &[(i32, u8, Option<Num>)],
-) -> Result<Vec<(i32, u8, Option<Num>)>, NoMemory> {
-    let mut sorted = Vec::new(alloc);
-    sorted.extend_from_slice(cells)?;
-    sorted.sort_by_key(|cell| cell.0)?;
-    Ok(sorted)
+) -> Vec<(i32, u8, Option<Num>)> {
+    let mut sorted = Vec::from_slice(alloc, cells).expect(rt, "memory");
+    sorted.sort_by_key(|cell| cell.0).expect(rt, "memory");
+    sorted
 }
 
 /// The layers, the lists that tell the same, the number that the next call is made of, and each kind
@@ -266,6 +266,10 @@ fn note(rt: &impl Abort, both: &mut Both, kind: u32, answer: Result<Num, u8>) {
     }
 }
 
+fn check_same(rt: &impl Abort, answer: Result<Num, u8>, wanted: Result<Num, u8>) {
+    assert!(rt; answer == wanted);
+}
+
 /// Does the next call on both, which answer the same.
 fn answer(rt: &impl Abort, alloc: Global, both: &mut Both) {
     let call = call_of(both.number);
@@ -273,21 +277,21 @@ fn answer(rt: &impl Abort, alloc: Global, both: &mut Both) {
     let width = width_of(rt, call.bits);
     let answer = step(alloc, &mut both.layers, call, width);
     let wanted = plain_step(rt, &mut both.plain, call);
-    assert!(rt; answer == wanted);
+    check_same(rt, answer, wanted);
     note(rt, both, call.kind, answer);
 }
 
 /// The listing of tags is that of the list.
 fn assert_tags(rt: &impl Abort, alloc: Global, both: &Both) {
-    let listed = listed_tags(alloc, &both.layers).expect(rt, "memory");
-    let wanted = sorted_tags(alloc, &both.plain.tags).expect(rt, "memory");
+    let listed = listed_tags(rt, alloc, &both.layers);
+    let wanted = sorted_tags(rt, alloc, &both.plain.tags);
     assert!(rt; listed == wanted);
 }
 
 /// The listing of cells is that of the list.
 fn assert_cells(rt: &impl Abort, alloc: Global, both: &Both) {
-    let listed = listed_cells(alloc, &both.layers).expect(rt, "memory");
-    let wanted = sorted_cells(alloc, &both.plain.cells).expect(rt, "memory");
+    let listed = listed_cells(rt, alloc, &both.layers);
+    let wanted = sorted_cells(rt, alloc, &both.plain.cells);
     assert!(rt; listed == wanted);
 }
 
@@ -315,5 +319,5 @@ fn calls_answer_as_on_plain_lists(rt: HostRuntime) {
         }
     }
     // Each success and each fault that a kind of call can have: 5 twice, 5, 5, 6, 3, 3 and 2.
-    assert_eq!(rt; both.seen.len(), 34);
+    same_count(&rt, both.seen.len(), 34);
 }
