@@ -1,6 +1,6 @@
 //! Persistent stacks and maps.
 
-use sn_tree::{NoMemory, Shared, Tree};
+use sn_tree::{Shared, Tree};
 use std::alloc::Global;
 use std::process::Abort;
 
@@ -31,7 +31,7 @@ fn second(stack: &Shared<u32>) -> Option<u32> {
 
 fn assert_members(rt: &impl Abort, alloc: Global, stack: &Shared<u32>, wanted: &[u32]) {
     let members: Vec<u32> = stack.iter().copied().collect(alloc).expect(rt, "memory");
-    assert_eq!(rt; members.as_slice(), wanted);
+    same_all(rt, members.as_slice(), wanted);
 }
 
 fn value(tree: &Tree<u32, u32>, key: u32) -> Option<u32> {
@@ -46,27 +46,39 @@ fn below(tree: &Tree<u32, u32>, key: u32) -> Option<u32> {
     Some(*tree.below(&key)?.0)
 }
 
-fn keys_of(alloc: Global, tree: &Tree<u32, u32>) -> Result<Vec<u32>, NoMemory> {
+fn keys_of(rt: &impl Abort, alloc: Global, tree: &Tree<u32, u32>) -> Vec<u32> {
+    let pairs = tree.pairs(alloc).expect(rt, "memory");
     let mut keys = Vec::new(alloc);
-    for (key, _) in tree.pairs(alloc)? {
-        keys.push(*key)?;
+    for (key, _) in pairs {
+        keys.push(*key).expect(rt, "memory");
     }
-    Ok(keys)
+    keys
+}
+
+/// Asserts that the numbers are the same.
+fn same_all(rt: &impl Abort, found: &[u32], wanted: &[u32]) {
+    assert_eq!(rt; found, wanted);
+}
+
+/// Asserts that the member or the key is the same.
+fn same(rt: &impl Abort, found: Option<u32>, wanted: Option<u32>) {
+    assert_eq!(rt; found, wanted);
 }
 
 fn assert_keys(rt: &impl Abort, alloc: Global, tree: &Tree<u32, u32>, wanted: &[u32]) {
-    let keys = keys_of(alloc, tree).expect(rt, "memory");
-    assert_eq!(rt; keys.as_slice(), wanted);
+    let keys = keys_of(rt, alloc, tree);
+    same_all(rt, keys.as_slice(), wanted);
 }
 
-fn count(rt: &impl Abort, alloc: Global, tree: &Tree<u32, u32>) -> usize {
-    tree.pairs(alloc).expect(rt, "memory").count()
+fn check_count(rt: &impl Abort, alloc: Global, tree: &Tree<u32, u32>, wanted: usize) {
+    let pairs = tree.pairs(alloc).expect(rt, "memory");
+    assert_eq!(rt; pairs.count(), wanted);
 }
 
 #[test]
 fn stack_of_a_million_members_is_dropped(rt: HostRuntime) {
     let stack = stack_of(&rt, rt.alloc(), 1_000_000);
-    assert_eq!(rt; top(&stack), Some(999_999));
+    same(&rt, top(&stack), Some(999_999));
 }
 
 /// The stack with 7 on top.
@@ -75,16 +87,20 @@ fn with_seven(rt: &impl Abort, alloc: Global, stack: &Shared<u32>) -> Shared<u32
     copy.push(alloc, 7).expect(rt, "memory")
 }
 
+fn check_empty(rt: &impl Abort, stack: &Shared<u32>, wanted: bool) {
+    assert!(rt; stack.is_empty() == wanted);
+}
+
 #[test]
 fn stack_shows_its_members_from_the_newest_down(rt: HostRuntime) {
     let alloc = rt.alloc();
     let old = stack_of(&rt, alloc, 2);
     let new = with_seven(&rt, alloc, &old);
     assert_members(&rt, alloc, &new, &[7, 1, 0]);
-    assert_eq!(rt; top(&old), Some(1));
-    assert_eq!(rt; second(&new), Some(1));
-    assert!(rt; Shared::<u32>::empty().is_empty());
-    assert!(rt; !old.is_empty());
+    same(&rt, top(&old), Some(1));
+    same(&rt, second(&new), Some(1));
+    check_empty(&rt, &Shared::empty(), true);
+    check_empty(&rt, &old, false);
 }
 
 /// The key 2 with 20, and then 1 with 10.
@@ -97,12 +113,12 @@ fn two_keys(rt: &impl Abort, alloc: Global) -> Tree<u32, u32> {
 fn tree_of_two_keys(rt: HostRuntime) {
     let alloc = rt.alloc();
     let old = two_keys(&rt, alloc);
-    assert_eq!(rt; above(&old, 1), Some(2));
-    assert_eq!(rt; below(&old, 1), None);
+    same(&rt, above(&old, 1), Some(2));
+    same(&rt, below(&old, 1), None);
     let new = old.without(alloc, &2).expect(&rt, "memory");
     assert_keys(&rt, alloc, &new, &[1]);
     assert_keys(&rt, alloc, &old, &[1, 2]);
-    assert_eq!(rt; value(&old, 2), Some(20));
+    same(&rt, value(&old, 2), Some(20));
 }
 
 /// The tree without the even keys below 10,000.
@@ -119,8 +135,13 @@ fn fork_of_ten_thousand_keys_keeps_them(rt: HostRuntime) {
     let alloc = rt.alloc();
     let tree = tree_of(&rt, alloc, 10_000);
     let copy = without_evens(&rt, alloc, &tree);
-    assert_eq!(rt; count(&rt, alloc, &copy), 5_000);
-    assert_eq!(rt; count(&rt, alloc, &tree), 10_000);
+    check_count(&rt, alloc, &copy, 5_000);
+    check_count(&rt, alloc, &tree, 10_000);
+}
+
+fn fork_both(rt: &impl Abort, tree: &Tree<u32, u32>, stack: &Shared<u32>) {
+    drop(tree.fork().expect(rt, "a copy"));
+    drop(stack.fork().expect(rt, "a copy"));
 }
 
 #[test]
@@ -129,8 +150,7 @@ fn forks_of_large_values_are_cheap(rt: HostRuntime) {
     let tree = tree_of(&rt, alloc, 100_000);
     let stack = stack_of(&rt, alloc, 100_000);
     for _ in 0..1_000_000 {
-        drop(tree.fork().expect(&rt, "a copy"));
-        drop(stack.fork().expect(&rt, "a copy"));
+        fork_both(&rt, &tree, &stack);
     }
-    assert_eq!(rt; value(&tree, 99_999), Some(99_999));
+    same(&rt, value(&tree, 99_999), Some(99_999));
 }

@@ -4,8 +4,9 @@ ghost use Rattle.std.specs.Prelude.{◌≡◌, ◌<◌};
 ghost use Rattle.net_check.specs.Network.{entry, network};
 ghost use Rattle.net_check.specs.Sound.{AreOfOneJob};
 
-use net_check::{Accepted, accept};
+use net_check::{Accepted, Net, accept};
 use path_records::Record;
+use record_text::record_text;
 use sefl_reader::read_job;
 use sefl_syntax::Job;
 use sn_edge::MemPatterns;
@@ -15,6 +16,21 @@ use std::marker::Brand;
 use std::process::Abort;
 use std::sync::ledger::{Blank, Ledger};
 use symbolic_engine::explore;
+
+/// Asserts that it is so of the case that is named. This and the next two are proved once here, and not in each caller.
+pub fn check(rt: &impl Abort, holds: bool, case: &str) {
+    assert!(rt; holds, "{case}");
+}
+
+/// Asserts that the numbers are the same.
+pub fn same(rt: &impl Abort, found: u64, wanted: u64) {
+    assert_eq!(rt; found, wanted);
+}
+
+/// Asserts that the texts are the same.
+pub fn same_text(rt: &impl Abort, found: &str, wanted: &str) {
+    assert_eq!(rt; found, wanted);
+}
 
 /// Puts so many of these texts behind it.
 pub fn put(rt: &impl Abort, text: &mut String, piece: &str, count: u32) {
@@ -49,8 +65,10 @@ pub fn accepted(rt: &impl Abort, alloc: Global, text: &str) -> Accepted
     }
 }
 
-/// Drops the job, which is proved once here and not in each caller.
-pub fn let_go(_job: Accepted) {}
+/// The text of a record.
+pub fn text_of(rt: &impl Abort, alloc: Global, net: &Net, record: &Record) -> String {
+    record_text(alloc, net, record).expect(rt, "memory")
+}
 
 /// The records of a job, with a new counter.
 fn counted<L: Ledger>(

@@ -4,16 +4,17 @@ ghost use Rattle.std.specs.Prelude.{◌<◌};
 ghost use Rattle.net_check.specs.Network.{entry, network};
 ghost use Rattle.net_check.specs.Sound.{AreOfOneJob};
 
-use crate::jobs::{accepted, let_go, put, records_of};
+use crate::jobs::{accepted, put, records_of, same};
 use crate::runs::led;
 use cell_stacks::Cell;
 use concrete_run::{WalkFault, walk_all, walk_one};
 use lin_term::Term;
 use net_check::Accepted;
+use path_cond::PathCond;
 use path_records::{Fields, Record};
-use refutation_check::{Refutation, Verdict, check, lawful};
+use refutation_check::{Cause, Refutation, Verdict, check, lawful};
 use sefl_meaning::{Decision, End, Failure, Place, State, Walk};
-use sn_width::Num;
+use sn_width::{NameId, NodeId, Num, TagId};
 use std::alloc::Global;
 use std::process::Abort;
 
@@ -161,41 +162,70 @@ fn is_same(term: &Option<Term>, number: Option<Num>, packet: &[Num]) -> bool {
     }
 }
 
+fn assert_tags(rt: &impl Abort, alloc: Global, tags: &[(TagId, i32)], state: &State) {
+    let wanted = state.layers.tags(alloc).expect(rt, "memory");
+    assert!(rt; tags == wanted.as_slice());
+}
+
+/// Whether the terms of each address are the numbers there.
+fn are_heads(
+    terms: &[(i32, Vec<Cell<Term>>)],
+    numbers: &[(i32, Vec<Cell<&Num>>)],
+    packet: &[Num],
+) -> bool {
+    for ((address, terms), (wanted, numbers)) in terms.iter().zip(numbers) {
+        if *address != *wanted || !are_same(terms, numbers, packet) {
+            return false;
+        }
+    }
+    terms.len() == numbers.len()
+}
+
+fn assert_heads(rt: &impl Abort, alloc: Global, fields: &Fields, state: &State, packet: &[Num]) {
+    let heads = state.layers.heads(alloc).expect(rt, "memory");
+    assert!(rt; are_heads(&fields.heads, &heads, packet));
+}
+
+/// Whether the terms of each metadata are its numbers.
+fn are_metas(
+    terms: &[(Option<NodeId>, NameId, Vec<Cell<Term>>)],
+    numbers: &[(Option<NodeId>, NameId, Vec<Cell<&Num>>)],
+    packet: &[Num],
+) -> bool {
+    for ((owner, name, terms), (whose, wanted, numbers)) in terms.iter().zip(numbers) {
+        if *owner != *whose || *name != *wanted || !are_same(terms, numbers, packet) {
+            return false;
+        }
+    }
+    terms.len() == numbers.len()
+}
+
+fn assert_metas(rt: &impl Abort, alloc: Global, fields: &Fields, state: &State, packet: &[Num]) {
+    let metas = state.scopes.metas(alloc).expect(rt, "memory");
+    assert!(rt; are_metas(&fields.metas, &metas, packet));
+}
+
 /// The fields are, at the packet, what is carried in numbers.
 fn assert_fields(rt: &impl Abort, alloc: Global, fields: &Fields, state: &State, packet: &[Num]) {
-    let tags = state.layers.tags(alloc).expect(rt, "memory");
-    assert!(rt; fields.tags == tags);
-    let heads = state.layers.heads(alloc).expect(rt, "memory");
-    assert!(rt; fields.heads.len() == heads.len());
-    for ((address, terms), (wanted, numbers)) in fields.heads.iter().zip(&heads) {
-        assert!(rt; *address == *wanted);
-        assert!(rt; are_same(terms, numbers, packet));
-    }
-    let metas = state.scopes.metas(alloc).expect(rt, "memory");
-    assert!(rt; fields.metas.len() == metas.len());
-    for ((owner, name, terms), (whose, wanted, numbers)) in fields.metas.iter().zip(&metas) {
-        assert!(rt; *owner == *whose);
-        assert!(rt; *name == *wanted);
-        assert!(rt; are_same(terms, numbers, packet));
-    }
+    assert_tags(rt, alloc, &fields.tags, state);
+    assert_heads(rt, alloc, fields, state, packet);
+    assert_metas(rt, alloc, fields, state, packet);
 }
 
-/// The walk is the one of the path: its decisions, its places, its end, and what is carried there.
-fn assert_walk(
-    rt: &impl Abort,
-    alloc: Global,
-    walk: &Walk,
-    places: &[Place],
-    end: &End,
-    fields: &Fields,
-    packet: &[Num],
-) {
+/// The walk has these decisions, places and end.
+fn assert_route(rt: &impl Abort, walk: &Walk, decisions: &[Decision], places: &[Place], end: &End) {
+    assert!(rt; walk.decisions.len() == decisions.len());
     assert!(rt; walk.places.as_slice() == places);
     assert!(rt; walk.end == *end);
-    assert_fields(rt, alloc, fields, &walk.state, packet);
 }
 
-/// Whether the record is one of the walk's decisions; then it is its path.
+/// The walk does not begin with the decisions.
+fn assert_other(rt: &impl Abort, walk: &Walk, decisions: &[Decision]) {
+    assert!(rt; !walk.decisions.starts_with(decisions));
+}
+
+/// Whether the record is one of the walk's decisions; then it is its path: its decisions, its places, its end, and what is
+/// carried there.
 fn shows(rt: &impl Abort, alloc: Global, record: &Record, walk: &Walk, packet: &[Num]) -> bool {
     match record {
         Record::Path {
@@ -208,12 +238,12 @@ fn shows(rt: &impl Abort, alloc: Global, record: &Record, walk: &Walk, packet: &
             if !walk.decisions.starts_with(decisions) {
                 return false;
             }
-            assert!(rt; walk.decisions.len() == decisions.len());
-            assert_walk(rt, alloc, walk, places, end, fields, packet);
+            assert_route(rt, walk, decisions, places, end);
+            assert_fields(rt, alloc, fields, &walk.state, packet);
             true
         }
         Record::Pruned { decisions, .. } => {
-            assert!(rt; !walk.decisions.starts_with(decisions));
+            assert_other(rt, walk, decisions);
             false
         }
         Record::Unexplored { decisions } => walk.decisions.starts_with(decisions),
@@ -222,13 +252,13 @@ fn shows(rt: &impl Abort, alloc: Global, record: &Record, walk: &Walk, packet: &
 
 /// One record shows the walk.
 fn assert_shown(rt: &impl Abort, alloc: Global, records: &[Record], walk: &Walk, packet: &[Num]) {
-    let mut count: u32 = 0;
+    let mut count: u64 = 0;
     for record in records {
         if shows(rt, alloc, record, walk, packet) {
             count = count.saturating_add(1);
         }
     }
-    assert_eq!(rt; count, 1);
+    same(rt, count, 1);
 }
 
 /// The walks of a packet; none where it does not meet the injection.
@@ -260,6 +290,22 @@ fn assert_packet(
     }
 }
 
+/// The walk of these values with these decisions.
+fn walk_of(
+    rt: &impl Abort,
+    alloc: Global,
+    job: &Accepted,
+    decisions: &[Decision],
+    values: &[Num],
+) -> Walk
+    requires { AreOfOneJob (network job.now.net) (entry job.now.injection) }
+{
+    match walk_one(alloc, &job.net, &job.injection, values, HOPS, decisions) {
+        Ok(Some(walk)) => walk,
+        _ => panic!(rt; "no walk"),
+    }
+}
+
 /// The values take the path.
 fn assert_taken(
     rt: &impl Abort,
@@ -271,10 +317,14 @@ fn assert_taken(
 )
     requires { AreOfOneJob (network job.now.net) (entry job.now.injection) }
 {
-    match walk_one(alloc, &job.net, &job.injection, values, HOPS, decisions) {
-        Ok(Some(walk)) => assert!(rt; shows(rt, alloc, record, &walk, values)),
-        _ => panic!(rt; "no walk"),
-    }
+    let walk = walk_of(rt, alloc, job, decisions, values);
+    assert!(rt; shows(rt, alloc, record, &walk, values));
+    drop(walk);
+}
+
+fn assert_accepted(rt: &impl Abort, alloc: Global, condition: &PathCond, refutation: &Refutation) {
+    let accepted = check(alloc, refutation, condition).expect(rt, "memory");
+    assert!(rt; accepted);
 }
 
 /// The refutation is accepted.
@@ -288,8 +338,17 @@ fn assert_refuted(
     requires { AreOfOneJob (network job.now.net) (entry job.now.injection) }
 {
     let led = led(rt, alloc, job, HOPS, decisions);
-    let accepted = check(alloc, refutation, led.state.condition()).expect(rt, "memory");
-    assert!(rt; accepted);
+    assert_accepted(rt, alloc, led.state.condition(), refutation);
+    drop(led);
+}
+
+fn assert_holds(rt: &impl Abort, condition: &PathCond, values: &[Num]) {
+    assert!(rt; condition.holds(values));
+}
+
+fn assert_licensed(rt: &impl Abort, alloc: Global, condition: &PathCond, cause: &Cause) {
+    let licensed = lawful(alloc, cause, condition).expect(rt, "memory");
+    assert!(rt; licensed);
 }
 
 /// The verdict is true of the condition where the decisions lead.
@@ -305,12 +364,10 @@ fn assert_verdict(
     let led = led(rt, alloc, job, HOPS, decisions);
     let condition = led.state.condition();
     match verdict {
-        Verdict::Sat { values } => assert!(rt; condition.holds(values.as_slice())),
-        Verdict::Undecided { cause } => {
-            let licensed = lawful(alloc, cause, condition).expect(rt, "memory");
-            assert!(rt; licensed);
-        }
+        Verdict::Sat { values } => assert_holds(rt, condition, values.as_slice()),
+        Verdict::Undecided { cause } => assert_licensed(rt, alloc, condition, cause),
     }
+    drop(led);
 }
 
 /// What came up: records by their kind, those that tell of something undecided, and walks.
@@ -406,25 +463,56 @@ fn assert_before(
     }
 }
 
-/// Each packet walks one path on every fork, and what each record tells is so. Under a limit each walk is shown by one
-/// record still.
-fn assert_job(rt: &impl Abort, alloc: Global, text: &str, tally: &mut Tally) {
-    let job = accepted(rt, alloc, text);
-    let records = records_of(rt, alloc, &job, HOPS, 100_000);
-    for record in records.iter() {
-        assert_record(rt, alloc, &job, record);
+/// What each record tells is so.
+fn assert_records(
+    rt: &impl Abort,
+    alloc: Global,
+    job: &Accepted,
+    records: &[Record],
+    tally: &mut Tally,
+)
+    requires { AreOfOneJob (network job.now.net) (entry job.now.injection) }
+{
+    for record in records {
+        assert_record(rt, alloc, job, record);
         count(tally, kind_of(record));
         if is_open(record) {
             count(tally, UNDECIDED);
         }
     }
-    let few = records_of(rt, alloc, &job, HOPS, 3);
+}
+
+/// Each packet walks one path on every fork.
+fn assert_packets(
+    rt: &impl Abort,
+    alloc: Global,
+    job: &Accepted,
+    records: &[Record],
+    few: &[Record],
+    tally: &mut Tally,
+)
+    requires { AreOfOneJob (network job.now.net) (entry job.now.injection) }
+{
     for number in 0..=255u8 {
         let packet = packet_of(number);
-        assert_packet(rt, alloc, &job, &records, &packet, tally);
-        assert_packet(rt, alloc, &job, &few, &packet, tally);
+        assert_packet(rt, alloc, job, records, &packet, tally);
+        assert_packet(rt, alloc, job, few, &packet, tally);
     }
-    let_go(job);
+}
+
+/// Each packet walks one path on every fork, and what each record tells is so. Under a limit each walk is shown by one
+/// record still.
+fn assert_job(rt: &impl Abort, alloc: Global, text: &str, tally: &mut Tally) {
+    let job = accepted(rt, alloc, text);
+    let records = records_of(rt, alloc, &job, HOPS, 100_000);
+    assert_records(rt, alloc, &job, records.as_slice(), tally);
+    let few = records_of(rt, alloc, &job, HOPS, 3);
+    assert_packets(rt, alloc, &job, records.as_slice(), few.as_slice(), tally);
+    drop(job);
+}
+
+fn assert_tally(rt: &impl Abort, tally: Tally, wanted: Tally) {
+    assert_eq!(rt; tally, wanted);
 }
 
 #[test]
@@ -436,5 +524,5 @@ fn each_packet_walks_one_path_on_every_fork(rt: HostRuntime) {
         let text = job_text(&rt, rt.alloc(), number);
         assert_job(&rt, rt.alloc(), text.as_str(), &mut tally);
     }
-    assert_eq!(rt; tally, [25, 74, 72, 21, 63, 19, 52, 0, 56, 29_242]);
+    assert_tally(&rt, tally, [25, 74, 72, 21, 63, 19, 52, 0, 56, 29_242]);
 }

@@ -1,10 +1,9 @@
 //! Rows of jobs, with the texts of their records.
 
-use crate::jobs::{accepted, let_go, records_of};
+use crate::jobs::{accepted, check, records_of, same, text_of};
 use crate::tables::{BOXES, FAULTS, LIMITS, PAIRS, Row, SIMPLE, Shown, VALUES};
 use net_check::Net;
 use path_records::Record;
-use record_text::record_text;
 use std::alloc::Global;
 use std::process::Abort;
 
@@ -16,20 +15,25 @@ fn is_shown(text: &str, shown: Shown) -> bool {
     }
 }
 
+/// The record has the text that is shown.
+fn assert_text(rt: &impl Abort, alloc: Global, net: &Net, record: &Record, shown: Shown) {
+    let found = text_of(rt, alloc, net, record);
+    check(rt, is_shown(found.as_str(), shown), found.as_str());
+}
+
 /// Each record has the text that is shown.
 fn assert_texts(rt: &impl Abort, alloc: Global, net: &Net, records: &[Record], wanted: &[Shown]) {
     for (record, shown) in records.iter().zip(wanted) {
-        let found = record_text(alloc, net, record).expect(rt, "memory");
-        assert!(rt; is_shown(found.as_str(), *shown), "{found}");
+        assert_text(rt, alloc, net, record, *shown);
     }
-    assert_eq!(rt; records.len(), wanted.len());
+    same(rt, records.len() as u64, wanted.len() as u64);
 }
 
 fn assert_row(rt: &impl Abort, alloc: Global, row: &Row) {
     let job = accepted(rt, alloc, row.job);
     let records = records_of(rt, alloc, &job, row.hops, row.limit);
     assert_texts(rt, alloc, &job.net, &records, row.records);
-    let_go(job);
+    drop(job);
 }
 
 fn assert_rows(rt: &impl Abort, alloc: Global, rows: &[Row]) {

@@ -3,7 +3,7 @@
 ghost use Rattle.net_check.specs.Network.{entry, network};
 ghost use Rattle.net_check.specs.Sound.{AreOfOneJob};
 
-use crate::jobs::{accepted, let_go};
+use crate::jobs::{accepted, same, same_text};
 use crate::tables::{FORK, RING, TTL};
 use net_check::Accepted;
 use path_exec::FollowFault;
@@ -86,15 +86,28 @@ fn met(found: &Result<Led, FollowFault>) -> u64 {
     }
 }
 
+/// Where decisions lead in the job of a text.
+fn lead(
+    rt: &impl Abort,
+    alloc: Global,
+    text: &str,
+    hops: u32,
+    decisions: &[Decision],
+) -> Result<Led, FollowFault> {
+    let job = accepted(rt, alloc, text);
+    let found = follow(alloc, &job.net, &job.injection, hops, decisions);
+    drop(job);
+    found
+}
+
 fn assert_led(rt: &impl Abort, alloc: Global, row: &Row) {
     let (text, hops, decisions, count, wanted) = row;
-    let job = accepted(rt, alloc, text);
-    let found = follow(alloc, &job.net, &job.injection, *hops, decisions);
+    let found = lead(rt, alloc, text, *hops, decisions);
     let (what, number) = what_comes(&found);
-    assert_eq!(rt; what, wanted.0);
-    assert_eq!(rt; number, wanted.1);
-    assert_eq!(rt; met(&found), *count);
-    let_go(job);
+    same_text(rt, what, wanted.0);
+    same(rt, number, wanted.1);
+    same(rt, met(&found), *count);
+    drop(found);
 }
 
 #[test]
@@ -116,17 +129,36 @@ const VISITS: &[Visit] = &[
     (RING, &[], 1, Side::Inward, Some(2)),
 ];
 
+/// The states at a port of the job of a text.
+fn arrived(
+    rt: &impl Abort,
+    alloc: Global,
+    text: &str,
+    decisions: &[Decision],
+    port: Place,
+) -> Result<Vec<SymState>, FollowFault> {
+    let job = accepted(rt, alloc, text);
+    let states = arrivals(alloc, &job.net, &job.injection, 3, decisions, port);
+    drop(job);
+    states
+}
+
+fn count_of(found: &Result<Vec<SymState>, FollowFault>) -> Option<usize> {
+    match found {
+        Ok(states) => Some(states.len()),
+        Err(_) => None,
+    }
+}
+
 fn assert_arrivals(rt: &impl Abort, alloc: Global, row: &Visit) {
     let (text, decisions, node, side, wanted) = row;
-    let job = accepted(rt, alloc, text);
     let port = Place {
         node: NodeId(*node),
         side: *side,
         port: 0,
     };
-    let states = arrivals(alloc, &job.net, &job.injection, 3, decisions, port).ok();
-    let_go(job);
-    assert_eq!(rt; states.map(|states| states.len()), *wanted);
+    let found = arrived(rt, alloc, text, decisions, port);
+    assert_eq!(rt; count_of(&found), *wanted);
 }
 
 #[test]

@@ -4,12 +4,11 @@ ghost use Rattle.std.specs.Prelude.{◌≡◌, ◌<◌, []};
 ghost use Rattle.net_check.specs.Network.{entry, network};
 ghost use Rattle.net_check.specs.Sound.{AreOfOneJob};
 
-use crate::jobs::{accepted, let_go, put, records_of};
+use crate::jobs::{accepted, put, records_of, same, same_text, text_of};
 use crate::tables::{FORK, TTL};
 use net_check::{Accepted, Net};
 use path_exec::{Ended, Receiver, Took};
 use path_records::Record;
-use record_text::record_text;
 use sefl_meaning::Decision;
 use sn_width::Steps;
 use std::alloc::Global;
@@ -42,10 +41,14 @@ impl Receiver for Stopping {
 
     fn take(&mut self, item: Record) -> Took {
         let Some(stops) = self.stops.checked_add(1) else {
+            drop(item);
             return Took::NoMemory;
         };
         match self.items.push(item) {
-            Err(_) => Took::NoMemory,
+            Err(failed) => {
+                drop(failed);
+                Took::NoMemory
+            }
             Ok(()) => {
                 if self.items.len() <= self.last {
                     return Took::More;
@@ -77,22 +80,42 @@ fn explored<L: Ledger>(
     explore_into(alloc, &job.net, &job.injection, 16, limit, out, &mut steps).expect(rt, "memory")
 }
 
+/// The records have the same text.
+fn assert_record(rt: &impl Abort, alloc: Global, net: &Net, wanted: &Record, record: &Record) {
+    let wanted = text_of(rt, alloc, net, wanted);
+    let found = text_of(rt, alloc, net, record);
+    same_text(rt, found.as_str(), wanted.as_str());
+}
+
 /// The second list is the front of the first, by the records' texts.
 fn assert_front(rt: &impl Abort, alloc: Global, net: &Net, all: &[Record], front: &[Record]) {
     for (wanted, record) in all.iter().zip(front) {
-        let wanted = record_text(alloc, net, wanted).expect(rt, "memory");
-        let found = record_text(alloc, net, record).expect(rt, "memory");
-        assert!(rt; found == wanted);
+        assert_record(rt, alloc, net, wanted, record);
     }
 }
 
 /// The number of an end: 0 whole, 1 partial, 2 stopped.
-fn number_of(ended: Ended) -> u8 {
+fn number_of(ended: Ended) -> u64 {
     match ended {
         Ended::Whole => 0,
         Ended::Partial => 1,
         Ended::Stopped => 2,
     }
+}
+
+/// How an exploration ends, and after how many of all records, where the receiver stops with the record of the number.
+fn stop_of(all: usize, last: usize, end: u64) -> (u64, usize) {
+    if last < all {
+        (2, last + 1)
+    } else {
+        (end, all)
+    }
+}
+
+/// Asserts how an exploration ended, and after how many records.
+fn assert_end(rt: &impl Abort, ended: Ended, count: usize, wanted: (u64, usize)) {
+    same(rt, number_of(ended), wanted.0);
+    same(rt, count as u64, wanted.1 as u64);
 }
 
 /// Stops with the record of the number, where there is one; else the exploration ends so.
@@ -103,7 +126,7 @@ fn assert_stop(
     limit: u32,
     all: &[Record],
     last: usize,
-    end: u8,
+    end: u64,
 )
     requires { AreOfOneJob (network job.now.net) (entry job.now.injection) }
 {
@@ -114,23 +137,17 @@ fn assert_stop(
         stops: 0,
     };
     let ended = explored::<Brand>(rt, alloc, job, limit, &mut out, Blank::new(1));
-    let (count, wanted) = if last < all.len() {
-        (last + 1, 2)
-    } else {
-        (all.len(), end)
-    };
-    assert_eq!(rt; number_of(ended), wanted);
-    assert_eq!(rt; out.items.len(), count);
+    assert_end(rt, ended, out.items.len(), stop_of(all.len(), last, end));
     assert_front(rt, alloc, &job.net, all, &out.items);
 }
 
-fn assert_stops(rt: &impl Abort, alloc: Global, text: &str, limit: u32, end: u8) {
+fn assert_stops(rt: &impl Abort, alloc: Global, text: &str, limit: u32, end: u64) {
     let job = accepted(rt, alloc, text);
     let all = records_of(rt, alloc, &job, 16, limit);
     for last in 0..=all.len() {
         assert_stop(rt, alloc, &job, limit, &all, last, end);
     }
-    let_go(job);
+    drop(job);
 }
 
 /// A refuted side, an undecided path and a Fork.
@@ -184,8 +201,8 @@ fn assert_wide(rt: &impl Abort, records: &[Record]) {
         }
         number = number.saturating_add(1);
     }
-    assert_eq!(rt; number, 65_536);
-    assert_eq!(rt; work, 501_025);
+    same(rt, u64::from(number), 65_536);
+    same(rt, u64::from(work), 501_025);
 }
 
 /// Running what the paths share once for each of them would take more than 32,000,000,000 steps.
@@ -196,5 +213,5 @@ fn many_paths_share_what_comes_before_them(rt: HostRuntime) {
     let job = accepted(&rt, alloc, text.as_str());
     let records = records_of(&rt, alloc, &job, 16, 100_000);
     assert_wide(&rt, &records);
-    let_go(job);
+    drop(job);
 }

@@ -19,6 +19,3 @@ pub fn accepted(rt: &impl Abort, alloc: Global, text: &str) -> Accepted {
         Err(_) => panic!(rt; "not accepted"),
     }
 }
-
-/// Drops the job, which is proved once here and not in each caller.
-pub fn let_go(_job: Accepted) {}

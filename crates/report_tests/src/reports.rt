@@ -1,6 +1,6 @@
 //! Reports, read by the names of a net.
 
-use crate::jobs::{accepted, let_go};
+use crate::jobs::accepted;
 use crate::texts::{
     ALL, ALL_JOB, CARRIED, CELLS, HEAD, ODD, OTHERS, READ_BACK, RECORDS, Row, TTL, TTL_JOB,
     TTL_ROWS, VERDICTS,
@@ -10,8 +10,8 @@ use path_report::{Report, ReportFault, read_report, report_text};
 use std::alloc::Global;
 use std::process::Abort;
 
-fn text_of(rt: &impl Abort, alloc: Global, net: &Net, report: &Report) -> String {
-    report_text(alloc, net, report).expect(rt, "memory")
+fn text_of(rt: &impl Abort, alloc: Global, net: &Net, report: Report) -> String {
+    report_text(alloc, net, &report).expect(rt, "memory")
 }
 
 fn copied(rt: &impl Abort, alloc: Global, text: &str) -> String {
@@ -21,7 +21,7 @@ fn copied(rt: &impl Abort, alloc: Global, text: &str) -> String {
 /// The text of the report that is read; the first place that has not its shape; or `no JSON`.
 fn found(rt: &impl Abort, alloc: Global, net: &Net, bytes: &[u8]) -> String {
     match read_report(alloc, net, bytes) {
-        Ok(report) => text_of(rt, alloc, net, &report),
+        Ok(report) => text_of(rt, alloc, net, report),
         Err(ReportFault::NotReport { pointer }) => pointer,
         Err(ReportFault::NotJson) => copied(rt, alloc, "no JSON"),
         Err(ReportFault::NoMemory) => panic!(rt; "memory"),
@@ -51,13 +51,17 @@ fn changed(rt: &impl Abort, alloc: Global, text: &str, row: Row) -> String {
     format!(in alloc; "{before}{new}{behind}").expect(rt, "memory")
 }
 
+fn assert_row(rt: &impl Abort, alloc: Global, net: &Net, text: &str, row: Row) {
+    let text = changed(rt, alloc, text, row);
+    assert_told(rt, alloc, net, text.as_str(), row.2);
+}
+
 fn assert_rows(rt: &impl Abort, alloc: Global, job: &str, text: &str, rows: &[Row]) {
     let job = accepted(rt, alloc, job);
     for row in rows {
-        let text = changed(rt, alloc, text, *row);
-        assert_told(rt, alloc, &job.net, text.as_str(), row.2);
+        assert_row(rt, alloc, &job.net, text, *row);
     }
-    let_go(job);
+    drop(job);
 }
 
 /// What becomes of changes in the report of the TTL.
@@ -117,39 +121,58 @@ fn report_of(rt: &impl Abort, alloc: Global, net: &Net, text: &str) -> Report {
     }
 }
 
+fn same(rt: &impl Abort, found: u64, wanted: u64) {
+    assert_eq!(rt; found, wanted);
+}
+
+/// What the report tells beside its records.
+fn check_ttl(rt: &impl Abort, report: &Report) {
+    same(rt, u64::from(report.hops), 16);
+    same(rt, u64::from(report.limit), 10_000);
+    same(rt, report.records.len() as u64, 2);
+    same(rt, report.refuted, 0);
+    assert!(rt; report.complete);
+}
+
 #[test]
 fn the_ttl_report_is_read(rt: HostRuntime) {
     let alloc = rt.alloc();
     let job = accepted(&rt, alloc, TTL_JOB);
     let report = report_of(&rt, alloc, &job.net, TTL);
-    let_go(job);
-    assert_eq!(rt; report.hops, 16);
-    assert_eq!(rt; report.limit, 10_000);
-    assert_eq!(rt; report.records.len(), 2);
-    assert_eq!(rt; report.refuted, 0);
-    assert!(rt; report.complete);
+    drop(job);
+    check_ttl(&rt, &report);
 }
 
 /// The report without its last bytes is no JSON, except where only its last line end is missing.
+fn assert_front(rt: &impl Abort, alloc: Global, net: &Net, text: &str, front: &[u8]) {
+    let found = found(rt, alloc, net, front);
+    let count = front.len();
+    let told = if count + 1 < text.len() {
+        "no JSON"
+    } else {
+        "same"
+    };
+    assert!(rt; is_told(found.as_str(), text, told), "{count}: {found}");
+}
+
 fn assert_cut_off(rt: &impl Abort, alloc: Global, job: &str, text: &str) {
     let job = accepted(rt, alloc, job);
     let bytes = text.as_bytes();
     for count in 0..bytes.len() {
-        let found = found(rt, alloc, &job.net, bytes.split_at(count).0);
-        let told = if count + 1 < bytes.len() {
-            "no JSON"
-        } else {
-            "same"
-        };
-        assert!(rt; is_told(found.as_str(), text, told), "{count}: {found}");
+        assert_front(rt, alloc, &job.net, text, bytes.split_at(count).0);
     }
-    let_go(job);
+    drop(job);
 }
 
 #[test]
 fn reports_that_are_cut_off_are_no_json(rt: HostRuntime) {
     assert_cut_off(&rt, rt.alloc(), TTL_JOB, TTL);
     assert_cut_off(&rt, rt.alloc(), ALL_JOB, ALL);
+}
+
+fn assert_no_json(rt: &impl Abort, alloc: Global, net: &Net, bytes: &[u8]) {
+    let found = found(rt, alloc, net, bytes);
+    assert_eq!(rt; found.as_str(), "no JSON");
 }
 
 /// So many of these texts, one after another.
@@ -166,9 +189,16 @@ fn other_texts_are_told(rt: HostRuntime) {
     for (text, told) in OTHERS {
         assert_told(&rt, alloc, &job.net, text, told);
     }
-    let found = found(&rt, alloc, &job.net, &[123, 255, 125]);
-    assert_eq!(rt; found.as_str(), "no JSON");
-    let_go(job);
+    assert_no_json(&rt, alloc, &job.net, &[123, 255, 125]);
+    drop(job);
+}
+
+/// A million of the one text and of the other are no JSON.
+fn assert_million(rt: &impl Abort, alloc: Global, net: &Net, open: &str, close: &str) {
+    let mut text = String::new(alloc);
+    put_times(rt, &mut text, open, 1_000_000);
+    put_times(rt, &mut text, close, 1_000_000);
+    assert_no_json(rt, alloc, net, text.as_bytes());
 }
 
 #[test]
@@ -176,11 +206,7 @@ fn a_million_open_brackets_are_no_json(rt: HostRuntime) {
     let alloc = rt.alloc();
     let job = accepted(&rt, alloc, TTL_JOB);
     for (open, close) in [("[", ""), ("[", "]"), ("{\"hops\":", ""), ("[[],", "")] {
-        let mut text = String::new(alloc);
-        put_times(&rt, &mut text, open, 1_000_000);
-        put_times(&rt, &mut text, close, 1_000_000);
-        let found = found(&rt, alloc, &job.net, text.as_bytes());
-        assert_eq!(rt; found.as_str(), "no JSON");
+        assert_million(&rt, alloc, &job.net, open, close);
     }
-    let_go(job);
+    drop(job);
 }
