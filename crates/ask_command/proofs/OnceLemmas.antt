@@ -9,9 +9,9 @@ use Rattle.sefl_syntax.specs.Trees.{AskTree}
 use Rattle.net_check.specs.Network.{Network, Entry, unknown_width}
 use Rattle.question_meaning.specs.Placing.{Asks, HasNoField, IsFieldFrom, IsMisplaced, IsNotInjected}
 use Rattle.question_meaning.specs.Questions.{Field, Question, reach, invariant, visible}
-use Rattle.run_answers.specs.Runs.{Outcome, text, refused}
-use Rattle.run_answers.specs.declared.fault.OwnFault.{OwnFault}
-use Rattle.run_answers.specs.declared.fault.OwnFault.TheVariants.{BadAsk}
+use Rattle.command_edge.specs.Puts.{Outcome, text, refused}
+use Rattle.command_edge.specs.declared.fault.OwnFault.{OwnFault}
+use Rattle.command_edge.specs.declared.fault.OwnFault.TheVariants.{BadAsk}
 use Rattle.ask_command.specs.Asks.{AllAsk, AnswersOf, IsBadBy, IsFirstBad}
 
 abbrev IsOutward : Side → Type 0

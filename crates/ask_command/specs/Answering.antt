@@ -11,10 +11,10 @@ use Rattle.path_questions.specs.declared.placing.BadAsk.{BadAsk}
 use Rattle.path_questions.specs.declared.question.Question.{Question}
 use Rattle.path_questions.specs.Asked.{question_seen}
 use Rattle.queries.specs.Answers.{AreReplies, Reply}
-use Rattle.run_answers.specs.declared.ending.Ending.{Ending}
-use Rattle.run_answers.specs.declared.ending.Ending.TheVariants.{Done, Partial}
-use Rattle.run_answers.specs.declared.fault.OwnFault.{OwnFault}
-use Rattle.run_answers.specs.declared.fault.OwnFault.TheVariants as own
+use Rattle.command_edge.specs.declared.ending.Ending.{Ending}
+use Rattle.command_edge.specs.declared.ending.Ending.TheVariants.{Done, Partial}
+use Rattle.command_edge.specs.declared.fault.OwnFault.{OwnFault}
+use Rattle.command_edge.specs.declared.fault.OwnFault.TheVariants as own
 use Rattle.explore_command.specs.Explores.{IsEnding}
 
 -- the refusal of a question

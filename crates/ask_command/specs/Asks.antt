@@ -8,10 +8,10 @@ use Rattle.question_meaning.specs.Placing.{Asks, IsMisplaced, IsNotInjected}
 use Rattle.question_meaning.specs.Questions.{Question}
 use Rattle.queries.specs.Answers.{AreReplies, Reply}
 use Rattle.run_answers.specs.Inputs.{Given, a_net}
-use Rattle.run_answers.specs.Runs.{Outcome, text, refused}
-use Rattle.run_answers.specs.declared.ending.Ending.{Ending}
-use Rattle.run_answers.specs.declared.fault.OwnFault.{OwnFault}
-use Rattle.run_answers.specs.declared.fault.OwnFault.TheVariants.{BadAsk, NoMemory}
+use Rattle.command_edge.specs.Puts.{Outcome, text, refused}
+use Rattle.command_edge.specs.declared.ending.Ending.{Ending}
+use Rattle.command_edge.specs.declared.fault.OwnFault.{OwnFault}
+use Rattle.command_edge.specs.declared.fault.OwnFault.TheVariants.{BadAsk, NoMemory}
 use Rattle.explore_command.specs.Explores.{IsEnding}
 use Rattle.ask_command.specs.Texts.{answers_text}
 

@@ -12,6 +12,7 @@ ghost use Rattle.ask_command.specs.Asks.{IsAnswersText, IsAskRefusal};
 ghost use Rattle.ask_command.specs.Answering.{AreAnswers, ending_of, fault_of};
 
 use crate::text::answers_text;
+use command_edge::{Ending, OwnFault};
 use net_check::Accepted;
 use path_exec::Ended;
 use queries::{
@@ -19,7 +20,6 @@ use queries::{
     questions_of,
 };
 use question_meaning::laws::kept_outcomes_are_right;
-use run_answers::{Ending, OwnFault};
 use sn_width::{NoMemory, Steps};
 use std::alloc::Global;
 use std::marker::{Brand, PhantomData};

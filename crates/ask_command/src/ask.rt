@@ -3,11 +3,11 @@
 ghost use Rattle.ask_command.specs.Asks.{AskComes};
 
 use crate::answering::text_of_answers;
+use command_edge::{Ending, OwnFault};
 use command_runs::OnePiece;
 use explore_command::RecordLimit;
 use job_files::JobFile;
 use net_check::Accepted;
-use run_answers::{Ending, OwnFault};
 use std::alloc::Global;
 
 /// The answers to the questions of a job, from one exploration with so many hops and so many records.

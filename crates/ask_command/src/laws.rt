@@ -3,8 +3,8 @@
 ghost use Rattle.std.specs.Prelude.{◌≡◌, ℕ, List};
 ghost use Rattle.sefl_syntax.specs.Trees.{AskTree};
 ghost use Rattle.net_check.specs.Network.{Entry, Network};
-ghost use Rattle.run_answers.specs.Runs.{Outcome, refused};
-ghost use Rattle.run_answers.specs.declared.fault.OwnFault.{OwnFault};
+ghost use Rattle.command_edge.specs.Puts.{Outcome, refused};
+ghost use Rattle.command_edge.specs.declared.fault.OwnFault.{OwnFault};
 ghost use Rattle.ask_command.specs.Asks.{AnswersOf};
 
 /// Where a question is refused, `ask` comes to that refusal alone: to no text, and to no refusal of another question.

@@ -6,10 +6,11 @@ use Rattle.click_model.specs.declared.fault.ClickFault.TheVariants.{BadLine, Con
 use Rattle.click_model.specs.Configs.{ConfigSeen, click_of}
 use Rattle.click_model.specs.Nets.{click_net}
 use Rattle.run_answers.specs.Inputs.{Given, some_bytes}
-use Rattle.run_answers.specs.Runs.{Outcome, text, refused, IsRefusal}
-use Rattle.run_answers.specs.declared.ending.Ending.TheVariants.{Done}
-use Rattle.run_answers.specs.declared.fault.OwnFault.{OwnFault}
-use Rattle.run_answers.specs.declared.fault.OwnFault.TheVariants.{BadTable, NoMemory as OutOfMemory}
+use Rattle.command_edge.specs.Puts.{Outcome, text, refused}
+use Rattle.run_answers.specs.Runs.{IsRefusal}
+use Rattle.command_edge.specs.declared.ending.Ending.TheVariants.{Done}
+use Rattle.command_edge.specs.declared.fault.OwnFault.{OwnFault}
+use Rattle.command_edge.specs.declared.fault.OwnFault.TheVariants.{BadTable, NoMemory as OutOfMemory}
 
 -- the line of a fault, and the number of the rule that is broken
 abbrev pub place_of : ClickFault → Option (ℕ × ℕ)

@@ -5,13 +5,13 @@ ghost use Rattle.sefl_syntax.specs.NetText.{net_text};
 ghost use Rattle.click_model.specs.Configs.{click_of};
 ghost use Rattle.click_model.specs.Nets.{click_net};
 ghost use Rattle.click_command.specs.Models.{IsClickRefusal, ClickComes, model_of, own_fault, place_of};
-ghost use Rattle.run_answers.specs.Runs.{text};
-ghost use Rattle.run_answers.specs.declared.ending.Ending.TheVariants.{Done};
+ghost use Rattle.command_edge.specs.Puts.{text};
+ghost use Rattle.command_edge.specs.declared.ending.Ending.TheVariants.{Done};
 
 use click_model::{ClickConfig, ClickFault, click_net, read_click};
+use command_edge::{Ending, OwnFault};
+use command_inputs::ByteFile;
 use command_runs::OnePiece;
-use job_files::ByteFile;
-use run_answers::{Ending, OwnFault};
 use sefl_syntax::{Text, print_net};
 use sn_width::NoMemory;
 use std::alloc::Global;

@@ -1,13 +1,14 @@
 //! Commands whose text is one piece.
 
-ghost use Rattle.std.specs.Prelude.{◌≡◌, ◌<◌, ◌≤◌, List, IfOk, IfErr, string_bytes};
+ghost use Rattle.std.specs.Prelude.{◌≡◌, List, IfOk, IfErr, string_bytes};
+ghost use Rattle.command_edge.specs.Puts.{Outcome, text};
 ghost use Rattle.run_answers.specs.Inputs.{Given as GivenOf};
-ghost use Rattle.run_answers.specs.Runs.{IsRefusal, Outcome, Puts, WriteShows, one_piece, text};
+ghost use Rattle.run_answers.specs.Runs.{IsRefusal, one_piece};
 
 use crate::work::Work;
-use job_files::Source;
-use run_answers::{Ending, OwnFault, Stop};
-use sn_edge::{Put, Sink};
+use command_edge::{Ending, OwnFault, Stop, put_text};
+use command_inputs::Source;
+use sn_edge::Sink;
 use std::alloc::Global;
 
 /// A command whose text is one piece, which is made before it is put.
@@ -32,25 +33,6 @@ pub trait OnePiece {
         requires { Self.From.keeps given }
         ensures text { IfOk result (λ t. comes self.now (Self.From.givens given) (text t.0 (string_bytes t.1))) }
         ensures refused { IfErr result (IsRefusal (comes self.now (Self.From.givens given))) };
-}
-
-/// Puts the text of a command in one piece, where there is one.
-fn put_text<K: Sink>(
-    answer: Result<(Ending, String), OwnFault>,
-    out: &mut K,
-) -> Result<Ending, Stop>
-    ensures faults_stay { K.faults out.old ≤ K.faults out.new }
-    ensures puts { Puts (K.taken out.old) (K.taken out.new) answer result }
-    ensures shows { WriteShows (K.faults out.old < K.faults out.new) result }
-{
-    match answer {
-        Ok((ending, text)) => match out.put(text.as_bytes()) {
-            Put::All => Ok(ending),
-            Put::Failed => Err(Stop::Write),
-            Put::NoMemory => Err(Stop::NoMemory),
-        },
-        Err(fault) => Err(Stop::Own(fault)),
-    }
 }
 
 /// The work of a command whose text is one piece.

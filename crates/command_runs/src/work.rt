@@ -1,11 +1,13 @@
 //! Commands, and how they are run.
 
-ghost use Rattle.std.specs.Prelude.{◌≡◌, ◌<◌, ◌≤◌};
+ghost use Rattle.std.specs.Prelude.{◌≡◌};
+ghost use Rattle.sn_edge.specs.Told.{FolderKept, PatternsKept, SinkKept};
 ghost use Rattle.run_answers.specs.Outside.{outside};
-ghost use Rattle.run_answers.specs.Runs.{OwnWork, Performs, Runs, Shows, WriteShows};
+ghost use Rattle.command_edge.specs.Puts.{WriteShows};
+ghost use Rattle.run_answers.specs.Runs.{OwnWork, Performs, Runs, Shows};
 
-use job_files::Source;
-use run_answers::{Ending, Stop};
+use command_edge::{Ending, Stop};
+use command_inputs::Source;
 use sn_edge::{Folder, Patterns, Sink};
 use std::alloc::Global;
 
@@ -29,9 +31,9 @@ pub trait Work {
         out: &mut K,
     ) -> Result<Ending, Stop>
         requires { Self.From.keeps given }
-        ensures faults_stay { K.faults out.old ≤ K.faults out.new }
-        ensures performs { Performs (K.taken out.old) (K.taken out.new) (work self.now) (Self.From.givens given) result }
-        ensures shows { WriteShows (K.faults out.old < K.faults out.new) result };
+        ensures out_kept { SinkKept (K.told out.old) (K.told out.new) }
+        ensures performs { Performs (K.told out.old).taken (K.told out.new).taken (work self.now) (Self.From.givens given) result }
+        ensures shows { WriteShows (K.told out.old) (K.told out.new) result };
 }
 
 /// Opens what the command reads, and does its work on that.
@@ -42,19 +44,13 @@ pub fn run<W: Work, F: Folder, P: Patterns, K: Sink>(
     patterns: &mut P,
     out: &mut K,
 ) -> Result<Ending, Stop>
-    ensures faults_stay { F.faults folder.old ≤ F.faults folder.new }
-    ensures misses_stay { F.misses folder.old ≤ F.misses folder.new }
-    ensures excesses_stay { F.excesses folder.old ≤ F.excesses folder.new }
-    ensures files_kept { F.files folder.new ≡ F.files folder.old }
-    ensures matches_kept { P.matches patterns.new ≡ P.matches patterns.old }
-    ensures bad_kept { P.bad_patterns patterns.new ≡ P.bad_patterns patterns.old }
-    ensures refusals_stay { P.refusals patterns.old ≤ P.refusals patterns.new }
-    ensures sink_faults_stay { K.faults out.old ≤ K.faults out.new }
-    ensures ran { Runs (K.taken out.old) (K.taken out.new) (outside (F.files folder.old) P.matches P.bad_patterns P.refusals P.find_gives)
+    ensures folder_kept { FolderKept (F.told folder.old) (F.told folder.new) }
+    ensures patterns_kept { PatternsKept (P.told patterns.old) (P.told patterns.new) }
+    ensures out_kept { SinkKept (K.told out.old) (K.told out.new) }
+    ensures ran { Runs (K.told out.old).taken (K.told out.new).taken (outside (F.told folder.old).files P.told P.find_gives)
         patterns.old patterns.new (W.From.inputs (W.source work.now)) (W.work work.now) result }
-    ensures shows { Shows (F.faults folder.old < F.faults folder.new) (F.misses folder.old < F.misses folder.new)
-        (F.excesses folder.old < F.excesses folder.new) (P.refusals patterns.old < P.refusals patterns.new)
-        (K.faults out.old < K.faults out.new) result }
+    ensures shows { Shows (F.told folder.old) (F.told folder.new) (P.told patterns.old) (P.told patterns.new)
+        (K.told out.old) (K.told out.new) result }
 {
     let given = work.source().open(alloc, folder, patterns)?;
     work.perform(alloc, given, out)

@@ -1,16 +1,15 @@
 -- Statuses: the one that tells how a command ended, their numbers, and their texts.
-use Rattle.std.specs.Prelude.{ℕ, ◌≡◌, ◌⊎◌, List, [], ◌++◌, codes, decimal, None, Result, Ok, Err}
+use Rattle.std.specs.Prelude.{ℕ, ◌≡◌, ◌⊎◌, List, [], ◌++◌, codes, decimal, Result, Ok, Err}
 use Rattle.sn_width.specs.declared.ids.Site.{Site}
-use Rattle.run_answers.specs.Outside.{World}
-use Rattle.run_answers.specs.Runs.{Outcome, text, refused}
-use Rattle.run_answers.specs.declared.ending.Ending.{Ending}
-use Rattle.run_answers.specs.declared.ending.Ending.TheVariants as ending
-use Rattle.run_answers.specs.declared.ending.Stop.{Stop}
-use Rattle.run_answers.specs.declared.ending.Stop.TheVariants.{Input as ByInput, Own, Write, NoMemory as NoRoom}
-use Rattle.run_answers.specs.declared.fault.InputFault.{InputFault}
-use Rattle.run_answers.specs.declared.fault.InputFault.TheVariants as input
-use Rattle.run_answers.specs.declared.fault.OwnFault.{OwnFault}
-use Rattle.run_answers.specs.declared.fault.OwnFault.TheVariants as own
+use Rattle.command_edge.specs.Puts.{Outcome, text, refused}
+use Rattle.command_edge.specs.declared.ending.Ending.{Ending}
+use Rattle.command_edge.specs.declared.ending.Ending.TheVariants as ending
+use Rattle.command_edge.specs.declared.ending.Stop.{Stop}
+use Rattle.command_edge.specs.declared.ending.Stop.TheVariants.{Input as ByInput, Own, Write, NoMemory as NoRoom}
+use Rattle.command_edge.specs.declared.fault.InputFault.{InputFault}
+use Rattle.command_edge.specs.declared.fault.InputFault.TheVariants as input
+use Rattle.command_edge.specs.declared.fault.OwnFault.{OwnFault}
+use Rattle.command_edge.specs.declared.fault.OwnFault.TheVariants as own
 use Rattle.exit_status.specs.declared.status.Status.{Status}
 use Rattle.exit_status.specs.declared.status.Status.TheVariants.{Done, NoMemory, Usage, NoFile, ReadFault, WriteFault, TooBig, Syntax, BadPattern, Refused, BadTable, BadPacket, Partial, TooMany, BadReport, NotConfirmed, BadAsk, BadCompare}
 
@@ -44,21 +43,6 @@ status_of (Err (ByInput fault)) = input_status fault
 status_of (Err (Own fault)) = own_status fault
 status_of (Err Write) = WriteFault
 status_of (Err NoRoom) = NoMemory
-
--- the outside failed, or there was no memory; or a pattern was refused, where it is not told which are bad
-abbrev pub MayStop : World → Status → Type 0
-MayStop w NoMemory = Unit {0}
-MayStop w (ReadFault name) = Unit {0}
-MayStop w WriteFault = Unit {0}
-MayStop w (BadPattern site) = w.is_bad ≡ None
-MayStop w _ = ⊥
-
--- a file was not read, or there was no memory; or a pattern was refused, where it is not told which are bad
-abbrev pub MayBeUnread : World → Status → Type 0
-MayBeUnread w NoMemory = Unit {0}
-MayBeUnread w (ReadFault name) = Unit {0}
-MayBeUnread w (BadPattern site) = w.is_bad ≡ None
-MayBeUnread w _ = ⊥
 
 -- a file was not read, or there was no memory
 abbrev pub IsUnread : Status → Type 0

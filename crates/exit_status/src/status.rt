@@ -1,9 +1,9 @@
 //! How a run ends.
 
-ghost use Rattle.std.specs.Prelude.{◌≡◌, string_bytes, IfOk};
+ghost use Rattle.std.specs.Prelude.{◌≡◌, ◌++◌, decimal, string_bytes, IfOk};
 ghost use Rattle.exit_status.specs.Status.{bad_ask_text, bad_report_text, bad_table_text, input_status, not_confirmed_text, own_status, refused_text, status_of, syntax_text, text_of};
 
-use run_answers::{Ending, InputFault, OwnFault, Stop};
+use command_edge::{Ending, InputFault, OwnFault, Stop};
 use sefl_syntax::Text;
 use sn_width::{NoMemory, Site};
 use std::alloc::Global;
@@ -122,6 +122,27 @@ pub fn status_of(answer: Result<Ending, Stop>) -> Status
     }
 }
 
+/// A fixed text.
+fn fixed(alloc: Global, words: &str) -> Result<String, NoMemory>
+    ensures { IfOk result (λ text. string_bytes text ≡ words.now) }
+{
+    Ok(String::from_str(alloc, words)?)
+}
+
+/// Words with a name behind them.
+fn with_name(alloc: Global, words: &str, name: &Text) -> Result<String, NoMemory>
+    ensures { IfOk result (λ text. string_bytes text ≡ words.now ++ name.now) }
+{
+    Ok(format!(in alloc; "{words}{name}")?)
+}
+
+/// Words with a number behind them.
+fn with_number(alloc: Global, words: &str, number: u64) -> Result<String, NoMemory>
+    ensures { IfOk result (λ text. string_bytes text ≡ words.now ++ decimal number) }
+{
+    Ok(format!(in alloc; "{words}{number}")?)
+}
+
 #[tactic(auto, unfolding(crate::specs::Status::syntax_text))]
 fn syntax_text(alloc: Global, line: u64, column: u64, kind: u8) -> Result<String, NoMemory>
     ensures { IfOk result (λ text. string_bytes text ≡ syntax_text line column kind) }
@@ -170,22 +191,30 @@ pub fn status_text(alloc: Global, status: &Status) -> Result<String, NoMemory>
 {
     match status {
         Status::Done => Ok(String::new(alloc)),
-        Status::NoMemory => Ok(String::from_str(alloc, "symnet: out of memory")?),
-        Status::Usage => Ok(String::from_str(alloc, "symnet: usage")?),
-        Status::NoFile { name } => Ok(format!(in alloc; "symnet: no file {name}")?),
-        Status::ReadFault { name } => Ok(format!(in alloc; "symnet: cannot read {name}")?),
-        Status::WriteFault => Ok(String::from_str(alloc, "symnet: cannot write")?),
-        Status::TooBig { name } => Ok(format!(in alloc; "symnet: too big {name}")?),
-        Status::Syntax { line, column, kind } => { syntax_text(alloc, *line, *column, *kind) }
-        Status::BadPattern { site } => Ok(format!(in alloc; "symnet: bad pattern at {}", site.0)?),
+        Status::NoMemory => fixed(alloc, "symnet: out of memory"),
+        Status::Usage => fixed(alloc, "symnet: usage"),
+        Status::NoFile { name } => with_name(alloc, "symnet: no file ", name),
+        Status::ReadFault { name } => with_name(alloc, "symnet: cannot read ", name),
+        Status::WriteFault => fixed(alloc, "symnet: cannot write"),
+        Status::TooBig { name } => with_name(alloc, "symnet: too big ", name),
+        Status::Syntax { line, column, kind } => syntax_text(alloc, *line, *column, *kind),
+        Status::BadPattern { site } => with_number(
+            alloc,
+            "symnet: bad pattern at ",
+            u64::from(site.0),
+        ),
         Status::Refused { site, kind } => refused_text(alloc, *site, *kind),
         Status::BadTable { name, line, kind } => bad_table_text(alloc, name, *line, *kind),
-        Status::BadPacket { kind } => Ok(format!(in alloc; "symnet: bad packet {kind}")?),
-        Status::Partial => Ok(String::from_str(alloc, "symnet: partial")?),
-        Status::TooMany { count } => Ok(format!(in alloc; "symnet: too many walks {count}")?),
+        Status::BadPacket { kind } => with_number(alloc, "symnet: bad packet ", u64::from(*kind)),
+        Status::Partial => fixed(alloc, "symnet: partial"),
+        Status::TooMany { count } => with_number(alloc, "symnet: too many walks ", *count),
         Status::BadReport { kind, pointer } => bad_report_text(alloc, *kind, pointer),
         Status::NotConfirmed { number, kind } => not_confirmed_text(alloc, *number, *kind),
         Status::BadAsk { number, kind } => bad_ask_text(alloc, *number, *kind),
-        Status::BadCompare { kind, .. } => Ok(format!(in alloc; "symnet: bad compare {kind}")?),
+        Status::BadCompare { kind, .. } => with_number(
+            alloc,
+            "symnet: bad compare ",
+            u64::from(*kind),
+        ),
     }
 }

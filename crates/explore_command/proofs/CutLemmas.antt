@@ -9,7 +9,7 @@ use Rattle.record_text.specs.Reports.{head_text}
 use Rattle.record_lines.specs.Lines.{has_some, is_written, piece_text, records_text, refuted_count, written_of}
 use Rattle.record_lines.specs.declared.lines.RefutedSides.{RefutedSides}
 use Rattle.record_lines.specs.declared.lines.RefutedSides.TheVariants.{Written, Counted}
-use Rattle.run_answers.specs.declared.ending.Ending.{Ending}
+use Rattle.command_edge.specs.declared.ending.Ending.{Ending}
 use Rattle.explore_command.specs.Explores.{BehindHead, IsCut, IsCutInRecord, IsCutInTail, IsReport, IsSoFar, end_of, is_done}
 use Rattle.explore_command.proofs.PutLemmas.{Joins}
 

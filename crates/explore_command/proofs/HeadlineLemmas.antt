@@ -9,8 +9,8 @@ use Rattle.exact_records.specs.Exact.{IsGood}
 use Rattle.exact_records.specs.Records.{HasMeaning, RecordTree, SymStart, path, pruned, unexplored}
 use Rattle.exact_records.specs.View.{record_trees}
 use Rattle.exact_records.specs.Whole.{WalksHaveOnePath}
-use Rattle.run_answers.specs.declared.ending.Ending.{Ending}
-use Rattle.run_answers.specs.declared.ending.Ending.TheVariants.{Done}
+use Rattle.command_edge.specs.declared.ending.Ending.{Ending}
+use Rattle.command_edge.specs.declared.ending.Ending.TheVariants.{Done}
 use Rattle.path_records.specs.declared.records.Record.{Record}
 use Rattle.record_text.specs.Reports.{head_text, report_line, state_text, tail_text}
 use Rattle.record_text.specs.declared.report.Report.{Report}

@@ -5,6 +5,7 @@ use Rattle.std.specs.Prelude.{IfErr}
 use Rattle.std.specs.List.{AllByRecursion}
 use Rattle.std.specs.Io.KnownBytes.{append_known}
 use Rattle.sn_edge.specs.Pieces.{IsPrefix, append_known-append}
+use Rattle.sn_edge.specs.Told.{SinkTold}
 use Rattle.sn_edge.specs.declared.sink.Put.TheVariants as putting
 use Rattle.sefl_syntax.specs.Trees.{AskTree}
 use Rattle.net_check.specs.Network.{Network, Entry}
@@ -21,11 +22,12 @@ use Rattle.record_lines.specs.Lines.{AreOfTypes, HasLines, PutAs, StopsInLine, r
 use Rattle.record_lines.specs.declared.lines.RefutedSides.{RefutedSides}
 use Rattle.symbolic_engine.specs.Exploring.{ExploredFor}
 use Rattle.run_answers.specs.Inputs.{a_net}
-use Rattle.run_answers.specs.Runs.{Performs, WriteShows}
-use Rattle.run_answers.specs.declared.ending.Ending.{Ending}
-use Rattle.run_answers.specs.declared.ending.Ending.TheVariants.{Done, Partial}
-use Rattle.run_answers.specs.declared.ending.Stop.{Stop}
-use Rattle.run_answers.specs.declared.ending.Stop.TheVariants.{Input, Own, Write, NoMemory}
+use Rattle.command_edge.specs.Puts.{WriteShows}
+use Rattle.run_answers.specs.Runs.{Performs}
+use Rattle.command_edge.specs.declared.ending.Ending.{Ending}
+use Rattle.command_edge.specs.declared.ending.Ending.TheVariants.{Done, Partial}
+use Rattle.command_edge.specs.declared.ending.Stop.{Stop}
+use Rattle.command_edge.specs.declared.ending.Stop.TheVariants.{Input, Own, Write, NoMemory}
 use Rattle.explore_command.specs.Explores.{AreFound, IsEnding, end_of, explore_work, is_done}
 use Rattle.explore_command.specs.Putting.{PutsEnd, PutsRecords, PutsRest, StopShows, tail_of}
 use Rattle.explore_command.specs.declared.report.Tail.{Tail}
@@ -42,12 +44,12 @@ Joins = (net : Network) (hops limit : ℕ) (records : List Record) (refuted : �
     ≡ head_text hops limit ++ (records_text net records ++ tail_text refuted complete)
 
 -- where an answer shows that a put failed
-pub write_shows : (broken : Type 0) (answer : Result Ending Stop) → IfErr answer (StopShows broken) → WriteShows broken answer
-write_shows broken (Ok ending) h = tt
-write_shows broken (Err (Input fault)) h = absurd h
-write_shows broken (Err (Own fault)) h = absurd h
-write_shows broken (Err Write) h = h
-write_shows broken (Err NoMemory) h = tt
+pub write_shows : (held now : SinkTold) (answer : Result Ending Stop) → IfErr answer (StopShows held now) → WriteShows held now answer
+write_shows held now (Ok ending) h = tt
+write_shows held now (Err (Input fault)) h = absurd h
+write_shows held now (Err (Own fault)) h = absurd h
+write_shows held now (Err Write) h = h
+write_shows held now (Err NoMemory) h = tt
 
 module _ (hops limit : ℕ) (sides : RefutedSides) (net : Network) (i : Entry) where
   same_up_to : (items done : List Record) (end' last : Record) → items ++ end' ∷ [] ≡ done ++ last ∷ []

@@ -9,8 +9,8 @@ use Rattle.exact_records.specs.Packets.{HasPacket, IsExplored, IsNotTaken, IsWal
 use Rattle.exact_records.specs.Records.{IsPruned, RecordTree, SymStart, path, pruned, unexplored}
 use Rattle.exact_records.specs.View.{record_trees}
 use Rattle.exact_records.specs.Whole.{IsPathOf}
-use Rattle.run_answers.specs.declared.ending.Ending.{Ending}
-use Rattle.run_answers.specs.declared.ending.Ending.TheVariants.{Done}
+use Rattle.command_edge.specs.declared.ending.Ending.{Ending}
+use Rattle.command_edge.specs.declared.ending.Ending.TheVariants.{Done}
 use Rattle.record_text.specs.declared.report.Report.{Report}
 use Rattle.record_lines.specs.Lines.{refuted_count}
 use Rattle.record_lines.specs.declared.lines.RefutedSides.{RefutedSides}

@@ -1,7 +1,8 @@
 -- What each part of a report leaves in the sink.
-use Rattle.std.specs.Prelude.{ℕ, ◌≡◌, ◌⊎◌, List, ◌++◌, Option, Result, Ok, Err}
+use Rattle.std.specs.Prelude.{ℕ, ◌≡◌, ◌<◌, ◌⊎◌, List, ◌++◌, Option, Result, Ok, Err}
 use Rattle.std.specs.Io.KnownBytes.{append_known}
 use Rattle.sn_edge.specs.Pieces.{IsPrefix}
+use Rattle.sn_edge.specs.Told.{SinkTold}
 use Rattle.net_check.specs.Network.{Network, Entry}
 use Rattle.path_records.specs.declared.records.Record.{Record}
 use Rattle.path_exec.specs.declared.exploration.Ended.{Ended}
@@ -9,11 +10,11 @@ use Rattle.path_exec.specs.declared.exploration.Ended.TheVariants as ended
 use Rattle.record_text.specs.Reports.{tail_text}
 use Rattle.record_lines.specs.Lines.{records_text, refuted_count, written_of}
 use Rattle.record_lines.specs.declared.lines.RefutedSides.{RefutedSides}
-use Rattle.run_answers.specs.Runs.{Gains}
-use Rattle.run_answers.specs.declared.ending.Ending.{Ending}
-use Rattle.run_answers.specs.declared.ending.Ending.TheVariants.{Done, Partial}
-use Rattle.run_answers.specs.declared.ending.Stop.{Stop}
-use Rattle.run_answers.specs.declared.ending.Stop.TheVariants.{Write, NoMemory}
+use Rattle.command_edge.specs.Puts.{Gains}
+use Rattle.command_edge.specs.declared.ending.Ending.{Ending}
+use Rattle.command_edge.specs.declared.ending.Ending.TheVariants.{Done, Partial}
+use Rattle.command_edge.specs.declared.ending.Stop.{Stop}
+use Rattle.command_edge.specs.declared.ending.Stop.TheVariants.{Write, NoMemory}
 use Rattle.explore_command.specs.Explores.{AreFound, IsCutInRecord, IsCutInTail, IsSoFar, end_of, is_done}
 use Rattle.explore_command.specs.declared.report.Tail.{Tail}
 
@@ -25,10 +26,10 @@ tail_of (Ok ended.Stopped) refuted = Err Write
 tail_of (Err e) refuted = Err NoMemory
 
 -- the count that rose where a put failed
-abbrev pub StopShows : Type 0 → Stop → Type 0
-StopShows broken Write = broken
-StopShows broken NoMemory = Unit {0}
-StopShows broken _ = ⊥
+abbrev pub StopShows : SinkTold → SinkTold → Stop → Type 0
+StopShows held now Write = held.faults < now.faults
+StopShows held now NoMemory = Unit {0}
+StopShows held now _ = ⊥
 
 -- the tail was put
 abbrev pub PutsEnd : Option (List ℕ) → Option (List ℕ) → Tail → Result Ending Stop → Type 0

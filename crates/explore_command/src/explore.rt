@@ -4,11 +4,11 @@ ghost use Rattle.explore_command.specs.Explores.{explore_work};
 
 use crate::limit::RecordLimit;
 use crate::report::put_report;
+use command_edge::{Ending, Stop};
 use command_runs::Work;
 use job_files::JobFile;
 use net_check::Accepted;
 use record_lines::RefutedSides;
-use run_answers::{Ending, Stop};
 use sn_edge::Sink;
 use std::alloc::Global;
 

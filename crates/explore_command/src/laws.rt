@@ -6,8 +6,8 @@ ghost use Rattle.net_check.specs.Network.{Entry, Network};
 ghost use Rattle.record_lines.specs.declared.lines.RefutedSides.{RefutedSides as SidesOf};
 ghost use Rattle.record_lines.specs.declared.lines.RefutedSides.TheVariants.{Written};
 ghost use Rattle.record_text.specs.Reports.{head_text};
-ghost use Rattle.run_answers.specs.declared.ending.Ending.{Ending as EndingOf};
-ghost use Rattle.run_answers.specs.declared.ending.Ending.TheVariants.{Done};
+ghost use Rattle.command_edge.specs.declared.ending.Ending.{Ending as EndingOf};
+ghost use Rattle.command_edge.specs.declared.ending.Ending.TheVariants.{Done};
 ghost use Rattle.explore_command.specs.Explores.{BehindHead, IsCut, IsReport, IsSoFar};
 ghost use Rattle.explore_command.specs.Headline.{IsHeadline, IsReadBack, MayBeShown};
 

@@ -1,20 +1,22 @@
 //! The report of a job, piece by piece.
 
-ghost use Rattle.std.specs.Prelude.{◌≡◌, ◌<◌, ◌≤◌, [], ◌∷◌, IfErr};
+ghost use Rattle.std.specs.Prelude.{◌≡◌, ◌<◌, [], ◌∷◌, IfErr};
+ghost use Rattle.sn_edge.specs.Told.{SinkKept};
 ghost use Rattle.net_check.specs.Network.{entry, network};
 ghost use Rattle.net_check.specs.Sound.{AreOfOneJob};
 ghost use Rattle.run_answers.specs.Inputs.{given_of};
-ghost use Rattle.run_answers.specs.Runs.{Performs, WriteShows};
+ghost use Rattle.command_edge.specs.Puts.{WriteShows};
+ghost use Rattle.run_answers.specs.Runs.{Performs};
 ghost use Rattle.explore_command.specs.Explores.{explore_work, is_done};
 ghost use Rattle.explore_command.specs.Putting.{PutsEnd, PutsRecords, PutsRest, StopShows, tail_of};
 
+use command_edge::{Ending, Stop};
 use net_check::Accepted;
 use own_records::laws::exact_records_fit;
 use own_records::names_are_spelled;
 use path_exec::Ended;
 use record_lines::{Lines, Mark, RefutedSides, put_head, put_tail};
 use record_text::laws::lines_join;
-use run_answers::{Ending, Stop};
 use sn_edge::{Put, Sink};
 use sn_width::{NoMemory, Steps};
 use std::alloc::Global;
@@ -72,13 +74,13 @@ fn put_records<M: Mark, K: Sink, L: Ledger>(
     requires limit { 0 < limit }
     requires net { network job.now.net ≡ M.net }
     requires sides { sides ≡ M.sides }
-    requires known { K.taken out.old ≡ M.known }
+    requires known { (K.told out.old).taken ≡ M.known }
     requires name { blank.name ≡ L.name }
     requires parts { blank.parts ≡ L.parts }
     requires some { 0 < blank.parts }
-    ensures faults_stay { K.faults out.old ≤ K.faults out.new }
-    ensures puts { PutsRecords hops limit sides (network job.now.net) (entry job.now.injection) M.known (K.taken out.new) result }
-    ensures shows { IfErr result (StopShows (K.faults out.old < K.faults out.new)) }
+    ensures out_kept { SinkKept (K.told out.old) (K.told out.new) }
+    ensures puts { PutsRecords hops limit sides (network job.now.net) (entry job.now.injection) M.known (K.told out.new).taken result }
+    ensures shows { IfErr result (StopShows (K.told out.old) (K.told out.new)) }
 {
     exact_records_fit();
     names_are_spelled(&job.net);
@@ -106,9 +108,9 @@ fn put_records<M: Mark, K: Sink, L: Ledger>(
 
 /// Puts the tail.
 fn put_end<K: Sink>(alloc: Global, tail: Tail, out: &mut K) -> Result<Ending, Stop>
-    ensures faults_stay { K.faults out.old ≤ K.faults out.new }
-    ensures puts { PutsEnd (K.taken out.old) (K.taken out.new) tail result }
-    ensures shows { IfErr result (StopShows (K.faults out.old < K.faults out.new)) }
+    ensures out_kept { SinkKept (K.told out.old) (K.told out.new) }
+    ensures puts { PutsEnd (K.told out.old).taken (K.told out.new).taken tail result }
+    ensures shows { IfErr result (StopShows (K.told out.old) (K.told out.new)) }
 {
     match put_tail(alloc, tail.refuted, is_done(tail.ending), out) {
         Put::All => Ok(tail.ending),
@@ -128,9 +130,9 @@ fn put_rest<K: Sink>(
 ) -> Result<Ending, Stop>
     requires job { AreOfOneJob (network job.now.net) (entry job.now.injection) }
     requires limit { 0 < limit }
-    ensures faults_stay { K.faults out.old ≤ K.faults out.new }
-    ensures puts { PutsRest hops limit sides (network job.now.net) (entry job.now.injection) (K.taken out.old) (K.taken out.new) result }
-    ensures shows { IfErr result (StopShows (K.faults out.old < K.faults out.new)) }
+    ensures out_kept { SinkKept (K.told out.old) (K.told out.new) }
+    ensures puts { PutsRest hops limit sides (network job.now.net) (entry job.now.injection) (K.told out.old).taken (K.told out.new).taken result }
+    ensures shows { IfErr result (StopShows (K.told out.old) (K.told out.new)) }
 {
     let tail = put_records::<Brand, K, Brand>(alloc, job, hops, limit, sides, out, Blank::new(1))?;
     put_end(alloc, tail, out)
@@ -147,9 +149,9 @@ pub(crate) fn put_report<K: Sink>(
 ) -> Result<Ending, Stop>
     requires job { AreOfOneJob (network job.now.net) (entry job.now.injection) }
     requires limit { 0 < limit }
-    ensures faults_stay { K.faults out.old ≤ K.faults out.new }
-    ensures performs { Performs (K.taken out.old) (K.taken out.new) (explore_work hops limit sides) (given_of job.now ∷ []) result }
-    ensures shows { WriteShows (K.faults out.old < K.faults out.new) result }
+    ensures out_kept { SinkKept (K.told out.old) (K.told out.new) }
+    ensures performs { Performs (K.told out.old).taken (K.told out.new).taken (explore_work hops limit sides) (given_of job.now ∷ []) result }
+    ensures shows { WriteShows (K.told out.old) (K.told out.new) result }
 {
     lines_join();
     match put_head(alloc, hops, limit, out) {

@@ -1,12 +1,12 @@
 //! Which place a status blames, and what is shown of it.
 
+use command_edge::load_text;
 use command_words::{Command, reading};
 use exit_status::Status;
-use job_files::{load_file, load_job};
-use run_answers::FILE_LIMIT;
+use job_files::load_job;
 use sefl_lex::tokens;
 use sefl_reader::{position, read_job};
-use sefl_syntax::is_filled;
+use sefl_syntax::{Job, is_filled};
 use sn_edge::Folder;
 use std::alloc::Global;
 use text_places::{Sought, fault_text, indent_of, line_of, own_number, statement_start};
@@ -32,7 +32,7 @@ fn job_of(command: Command<'_>) -> Option<&str> {
 }
 
 fn loaded<F: Folder>(alloc: Global, name: &str, folder: &mut F) -> Option<Vec<u8>> {
-    load_file(alloc, name, FILE_LIMIT, folder).ok()
+    load_text(alloc, name, folder).ok()
 }
 
 /// The first byte of a statement of a job's text.
@@ -55,6 +55,20 @@ fn statement_text(
     fault_text(alloc, name, bytes, line, column).ok()?
 }
 
+/// The number in the text of a job of the item that has this site in that job with code for its tables.
+fn number_in_text<F: Folder>(
+    alloc: Global,
+    name: &str,
+    job: &Job,
+    site: u32,
+    folder: &mut F,
+) -> Option<u32> {
+    let filled = load_job(alloc, name, folder).ok()?;
+    let number = own_number(site, &job.net.nodes, &filled.net.nodes).ok();
+    drop(filled);
+    number
+}
+
 /// The number in the text of the item that has this site in the job with code for its tables.
 fn item_number<F: Folder>(
     alloc: Global,
@@ -64,11 +78,13 @@ fn item_number<F: Folder>(
     folder: &mut F,
 ) -> Option<u32> {
     let job = read_job(alloc, bytes).ok()?;
-    if is_filled(&job) {
-        return Some(site);
-    }
-    let filled = load_job(alloc, name, folder).ok()?;
-    own_number(site, &job.net.nodes, &filled.net.nodes).ok()
+    let number = if is_filled(&job) {
+        Some(site)
+    } else {
+        number_in_text(alloc, name, &job, site, folder)
+    };
+    drop(job);
+    number
 }
 
 /// What is shown of an item of a job.

@@ -10,7 +10,7 @@ use Rattle.table_nodes.specs.Exits.{code_in, is_code_of}
 use Rattle.net_tables.specs.Places.{codes_of_node, is_port}
 use Rattle.net_check.specs.Network.{Network, code_at}
 use Rattle.net_check.specs.Sound.{IsNetOf}
-use Rattle.run_answers.specs.Files.{Files}
+use Rattle.command_edge.specs.Files.{Files}
 use Rattle.run_answers.specs.Tables.{AllFilled, IsCodeOf}
 
 abbrev with_code : DeclTree → NodeTree → DeclTree

@@ -8,8 +8,8 @@ use Rattle.mac_model.specs.MacTables.{MacSeen, mac_of}
 use Rattle.mac_model.specs.Nodes.{mac_port}
 use Rattle.fib_model.specs.Prefixes.{fib_port}
 use Rattle.fib_model.specs.Fibs.{FibSeen, fib_of}
-use Rattle.run_answers.specs.Files.{Files, HasFile}
-use Rattle.run_answers.specs.declared.limits.TheConstants.{FILE_LIMIT}
+use Rattle.command_edge.specs.Files.{Files, HasFile}
+use Rattle.command_edge.specs.declared.limits.TheConstants.{FILE_LIMIT}
 use Rattle.sefl_meaning.specs.Network.{Network}
 use Rattle.sefl_meaning.specs.Carried.{Carried}
 use Rattle.model_laws.specs.Leaving.{leaves_by}

@@ -8,7 +8,7 @@ ghost use Rattle.net_check.specs.Network.{network};
 ghost use Rattle.net_check.specs.Sound.{IsNetOf};
 ghost use Rattle.sefl_meaning.specs.Carried.{read_at, scene_at};
 ghost use Rattle.sefl_meaning.specs.View.{carried_of};
-ghost use Rattle.run_answers.specs.Files.{Files};
+ghost use Rattle.command_edge.specs.Files.{Files};
 ghost use Rattle.run_answers.specs.Tables.{IsFilled};
 ghost use Rattle.filled_laws.specs.Boxes.{LeavesByFile};
 

@@ -7,9 +7,9 @@ use Rattle.exact_records.specs.View.{record_trees}
 use Rattle.path_exec.specs.Receiving.{Receiving}
 use Rattle.symbolic_engine.specs.Exploring.{EndsPartialFor, EndsWholeFor}
 use Rattle.run_answers.specs.Inputs.{a_net}
-use Rattle.run_answers.specs.Runs.{text}
-use Rattle.run_answers.specs.declared.ending.Ending.{Ending}
-use Rattle.run_answers.specs.declared.ending.Ending.TheVariants.{Done, Partial}
+use Rattle.command_edge.specs.Puts.{text}
+use Rattle.command_edge.specs.declared.ending.Ending.{Ending}
+use Rattle.command_edge.specs.declared.ending.Ending.TheVariants.{Done, Partial}
 use Rattle.grow_command.specs.Counted.{counts_of}
 use Rattle.grow_command.specs.Grows.{AreCounts, GrowComes}
 use Rattle.grow_command.specs.Summary.{summary_text}

@@ -8,9 +8,9 @@ use Rattle.exact_records.specs.Packets.{AreExactFor}
 use Rattle.exact_records.specs.Records.{RecordTree}
 use Rattle.exact_records.specs.View.{record_trees}
 use Rattle.run_answers.specs.Inputs.{Given, a_net}
-use Rattle.run_answers.specs.Runs.{Outcome, text, refused}
-use Rattle.run_answers.specs.declared.ending.Ending.{Ending}
-use Rattle.run_answers.specs.declared.ending.Ending.TheVariants.{Done, Partial}
+use Rattle.command_edge.specs.Puts.{Outcome, text, refused}
+use Rattle.command_edge.specs.declared.ending.Ending.{Ending}
+use Rattle.command_edge.specs.declared.ending.Ending.TheVariants.{Done, Partial}
 use Rattle.grow_command.specs.Counted.{counts_of}
 use Rattle.grow_command.specs.Summary.{summary_text}
 use Rattle.grow_command.specs.declared.counts.Counts.{Counts}

@@ -4,16 +4,17 @@ ghost use Rattle.std.specs.Prelude.{◌≡◌, ◌<◌, [], ◌∷◌, IfOk, IfE
 ghost use Rattle.net_check.specs.Network.{entry, network};
 ghost use Rattle.net_check.specs.Sound.{AreOfOneJob};
 ghost use Rattle.run_answers.specs.Inputs.{given_of};
-ghost use Rattle.run_answers.specs.Runs.{IsRefusal, text as a_text};
+ghost use Rattle.command_edge.specs.Puts.{text as a_text};
+ghost use Rattle.run_answers.specs.Runs.{IsRefusal};
 ghost use Rattle.grow_command.specs.Grows.{AreCounts, GrowComes};
 
 use crate::counts::{Counts, Tally};
 use crate::grown_job::GrownJob;
 use crate::summary::summary_text;
+use command_edge::{Ending, OwnFault};
 use command_runs::OnePiece;
 use net_check::Accepted;
 use path_exec::Ended;
-use run_answers::{Ending, OwnFault};
 use sn_width::{NoMemory, Steps};
 use std::alloc::Global;
 use std::marker::Brand;

@@ -6,10 +6,11 @@ ghost use Rattle.net_check.specs.Sound.{AreOfOneJob};
 ghost use Rattle.run_answers.specs.Inputs.{a_made_job, given_of};
 ghost use Rattle.job_gen.specs.Grown.{grown};
 
-use job_files::{Source, accept_filled};
+use command_edge::InputFault;
+use command_inputs::Source;
+use job_acceptance::accept_filled;
 use job_gen::grow;
 use net_check::Accepted;
-use run_answers::InputFault;
 use sn_edge::{Folder, Patterns};
 use std::alloc::Global;
 

@@ -19,10 +19,18 @@ use std::marker::Model;
 /// The tags and the header cells of a packet, seen as the list of each tag's addresses and the list
 /// of each address's cells, the top ones first, ascending. No list is empty, the cells at one
 /// address have one width, and top cells share no bit. Copies share what they have in common.
-#[derive(Drop)]
 pub struct Layers<V: Drop> {
     tags: StackMap<u32, i32>,
     heads: Stacks<i32, V>,
+}
+
+// Written out, and not derived, so that the proof of a function that lets one go sees a call.
+impl<V: Drop> Drop for Layers<V> {
+    fn drop(self) {
+        let Layers { tags, heads } = self;
+        drop(tags);
+        drop(heads);
+    }
 }
 
 impl<V: Drop> Model for Layers<V> {

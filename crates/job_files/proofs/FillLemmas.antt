@@ -7,9 +7,9 @@ use Rattle.sefl_syntax.specs.declared.net.NodeDecl.{NodeDecl}
 use Rattle.sefl_syntax.specs.Filled.{all_code, is_code, is_table_in, nodes_with_code, with_code}
 use Rattle.sefl_syntax.specs.Trees.{NodeTree, BodyTree, code, table, DeclTree, JobTree}
 use Rattle.sefl_syntax.specs.Views.{decl_tree}
-use Rattle.run_answers.specs.Files.{Files}
+use Rattle.command_edge.specs.Files.{Files}
 use Rattle.run_answers.specs.Tables.{AllFilled, CodeFails, FirstUnfilled, IsCodeOf, IsFilled}
-use Rattle.run_answers.specs.declared.fault.InputFault.{InputFault}
+use Rattle.command_edge.specs.declared.fault.InputFault.{InputFault}
 
 -- ---- the node at an index
 

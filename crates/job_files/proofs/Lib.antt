@@ -1,3 +1,2 @@
 pub mod FillLemmas
-pub mod InputLemmas
 pub mod ReadLemmas

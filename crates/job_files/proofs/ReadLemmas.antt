@@ -7,7 +7,7 @@ use Rattle.sefl_reader.specs.declared.fault.ReadFault.{ReadFault}
 use Rattle.sefl_reader.specs.declared.fault.ReadFault.TheVariants.{NotText, Lex, Expected, TooDeep, NoMemory as Unread}
 use Rattle.run_answers.specs.Flaws.{Flaw, flaw_at, flaw_of, fault_of_reading, fault_of_lex}
 use Rattle.run_answers.specs.Jobs.{IsOnlyFlaw, ReadFails}
-use Rattle.run_answers.specs.declared.fault.InputFault.{InputFault}
+use Rattle.command_edge.specs.declared.fault.InputFault.{InputFault}
 
 only_flaw : (bytes : List ℕ) (own : Outcome) (flaw : Flaw) → flaw_of bytes own ≡ Some flaw → IsOutcome bytes own
     → ((outcome : Outcome) → IsOutcome bytes outcome → outcome ≡ own) → IsOnlyFlaw bytes flaw

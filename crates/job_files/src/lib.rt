@@ -1,12 +1,8 @@
-//! Opens what a command reads: files and jobs.
+//! Opens the files of jobs: they are read, their tables are loaded, and they are accepted.
 #![tactic(auto)]
 
-mod file;
 mod job;
 mod refusal;
-mod source;
 mod table;
 
-pub use file::load_file;
-pub use job::{accept_filled, load_job, open_job};
-pub use source::{Both, ByteFile, JobFile, Source, Two};
+pub use job::{JobFile, load_job};

@@ -1,15 +1,15 @@
 //! The tables that a job names.
 
-ghost use Rattle.std.specs.Prelude.{◌≡◌, ◌<◌, ◌≤◌, true, false, IfOk, IfErr, OnOk, IfSome, IfNone};
+ghost use Rattle.std.specs.Prelude.{◌≡◌, true, false, IfOk, IfErr, OnOk, IfSome, IfNone};
 ghost use Rattle.sefl_syntax.specs.Filled.{is_code};
 ghost use Rattle.sefl_syntax.specs.Trees.{table};
 ghost use Rattle.sefl_syntax.specs.Views.{body_tree, job_tree, node_tree};
+ghost use Rattle.sn_edge.specs.Told.{FolderKept};
+ghost use Rattle.command_edge.specs.Files.{FolderShows};
 ghost use Rattle.run_answers.specs.Refusals.{fault_of_table};
-ghost use Rattle.run_answers.specs.Runs.{InputShows};
 ghost use Rattle.run_answers.specs.Tables.{CodeFails, FirstUnfilled, IsCodeOf, IsFilled};
 
-use crate::file::load_file;
-use run_answers::{FILE_LIMIT, InputFault};
+use command_edge::{InputFault, load_text};
 use sefl_syntax::{Body, Job, RawNode, Style, TableKind, Text, fill};
 use sn_edge::Folder;
 use std::alloc::Global;
@@ -33,16 +33,12 @@ fn load_node<F: Folder>(
     style: Style,
     folder: &mut F,
 ) -> Result<RawNode, InputFault>
-    ensures faults_stay { F.faults folder.old ≤ F.faults folder.new }
-    ensures misses_stay { F.misses folder.old ≤ F.misses folder.new }
-    ensures excesses_stay { F.excesses folder.old ≤ F.excesses folder.new }
-    ensures files_kept { F.files folder.new ≡ F.files folder.old }
-    ensures node { IfOk result (λ node. IsCodeOf (F.files folder.old) (table kind name.now style) (node_tree node)) }
-    ensures fails { IfErr result (CodeFails (F.files folder.old) (table kind name.now style)) }
-    ensures shows { IfErr result (InputShows (F.faults folder.old < F.faults folder.new) (F.misses folder.old < F.misses folder.new)
-        (F.excesses folder.old < F.excesses folder.new) ⊥) }
+    ensures folder_kept { FolderKept (F.told folder.old) (F.told folder.new) }
+    ensures node { IfOk result (λ node. IsCodeOf (F.told folder.old).files (table kind name.now style) (node_tree node)) }
+    ensures fails { IfErr result (CodeFails (F.told folder.old).files (table kind name.now style)) }
+    ensures shows { IfErr result (FolderShows (F.told folder.old) (F.told folder.new)) }
 {
-    let bytes = load_file(alloc, name, FILE_LIMIT, folder)?;
+    let bytes = load_text(alloc, name, folder)?;
     let own = Text::of(alloc, name)?;
     match file_node(alloc, kind, &bytes, style) {
         Ok(node) => Ok(node),
@@ -56,16 +52,12 @@ fn table_node<F: Folder>(
     body: &Body,
     folder: &mut F,
 ) -> Result<Option<RawNode>, InputFault>
-    ensures faults_stay { F.faults folder.old ≤ F.faults folder.new }
-    ensures misses_stay { F.misses folder.old ≤ F.misses folder.new }
-    ensures excesses_stay { F.excesses folder.old ≤ F.excesses folder.new }
-    ensures files_kept { F.files folder.new ≡ F.files folder.old }
+    ensures folder_kept { FolderKept (F.told folder.old) (F.told folder.new) }
     ensures own { IfOk result (λ found. IfNone found (is_code (body_tree body.now) ≡ true)) }
     ensures table { IfOk result (λ found. IfSome found (λ _. is_code (body_tree body.now) ≡ false)) }
-    ensures node { IfOk result (λ found. IfSome found (λ node. IsCodeOf (F.files folder.old) (body_tree body.now) (node_tree node))) }
-    ensures fails { IfErr result (CodeFails (F.files folder.old) (body_tree body.now)) }
-    ensures shows { IfErr result (InputShows (F.faults folder.old < F.faults folder.new) (F.misses folder.old < F.misses folder.new)
-        (F.excesses folder.old < F.excesses folder.new) ⊥) }
+    ensures node { IfOk result (λ found. IfSome found (λ node. IsCodeOf (F.told folder.old).files (body_tree body.now) (node_tree node))) }
+    ensures fails { IfErr result (CodeFails (F.told folder.old).files (body_tree body.now)) }
+    ensures shows { IfErr result (FolderShows (F.told folder.old) (F.told folder.new)) }
 {
     match body {
         Body::Code(_) => Ok(None),
@@ -82,14 +74,10 @@ pub fn fill_tables<F: Folder>(
     job: &mut Job,
     folder: &mut F,
 ) -> Result<(), InputFault>
-    ensures faults_stay { F.faults folder.old ≤ F.faults folder.new }
-    ensures misses_stay { F.misses folder.old ≤ F.misses folder.new }
-    ensures excesses_stay { F.excesses folder.old ≤ F.excesses folder.new }
-    ensures files_kept { F.files folder.new ≡ F.files folder.old }
-    ensures filled { OnOk result (IsFilled (F.files folder.old) (job_tree job.old) (job_tree job.new)) }
-    ensures fails { IfErr result (FirstUnfilled (F.files folder.old) (job_tree job.old).net.nodes) }
-    ensures shows { IfErr result (InputShows (F.faults folder.old < F.faults folder.new) (F.misses folder.old < F.misses folder.new)
-        (F.excesses folder.old < F.excesses folder.new) ⊥) }
+    ensures folder_kept { FolderKept (F.told folder.old) (F.told folder.new) }
+    ensures filled { OnOk result (IsFilled (F.told folder.old).files (job_tree job.old) (job_tree job.new)) }
+    ensures fails { IfErr result (FirstUnfilled (F.told folder.old).files (job_tree job.old).net.nodes) }
+    ensures shows { IfErr result (FolderShows (F.told folder.old) (F.told folder.new)) }
 {
     for index in 0..job.net.nodes.len() {
         if let Some(node) = table_node(alloc, &job.net.nodes[index].body, folder)? {

@@ -96,11 +96,7 @@ struct Asked {
 }
 
 impl Patterns for Asked {
-    ghost matches = { λ _. None };
-
-    ghost bad_patterns = { λ _. None };
-
-    ghost refusals = { λ _. 0 };
+    ghost told = { λ _. record { matches = None; bad = None; refusals = 0 } };
 
     ghost find_gives = { λ _ _ _ answer _. OnBad answer ⊥ };
 

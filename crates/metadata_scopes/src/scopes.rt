@@ -14,9 +14,16 @@ use std::marker::Model;
 /// The metadata of a packet, seen as the list of pairs of a key and its cells, the top one first,
 /// ascending by key. A key is an owner, or none for a global, and a name; globals stand first.
 /// No list of cells is empty, and the cells at one key have one width.
-#[derive(Drop)]
 pub struct Scopes<V: Drop> {
     cells: Stacks<(Option<NodeId>, NameId), V>,
+}
+
+// Written out, and not derived, so that the proof of a function that lets one go sees a call.
+impl<V: Drop> Drop for Scopes<V> {
+    fn drop(self) {
+        let Scopes { cells } = self;
+        drop(cells);
+    }
 }
 
 impl<V: Drop> Model for Scopes<V> {

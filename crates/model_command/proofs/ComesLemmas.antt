@@ -7,10 +7,11 @@ use Rattle.sefl_syntax.specs.NetWords.{kind_text}
 use Rattle.sefl_syntax.specs.Trees.{NodeTree}
 use Rattle.table_files.specs.FileNodes.{IsNodeOf}
 use Rattle.run_answers.specs.Inputs.{some_bytes}
-use Rattle.run_answers.specs.Runs.{IsRefusal, text}
-use Rattle.run_answers.specs.declared.ending.Ending.TheVariants.{Done}
-use Rattle.run_answers.specs.declared.fault.OwnFault.{OwnFault}
-use Rattle.run_answers.specs.declared.fault.OwnFault.TheVariants.{BadTable, NoMemory}
+use Rattle.command_edge.specs.Puts.{text}
+use Rattle.run_answers.specs.Runs.{IsRefusal}
+use Rattle.command_edge.specs.declared.ending.Ending.TheVariants.{Done}
+use Rattle.command_edge.specs.declared.fault.OwnFault.{OwnFault}
+use Rattle.command_edge.specs.declared.fault.OwnFault.TheVariants.{BadTable, NoMemory}
 use Rattle.model_command.specs.Models.{IsModelRefusal, ModelComes}
 
 module _ (kind : TableKind) (style : Style) (name bytes : List ℕ) where

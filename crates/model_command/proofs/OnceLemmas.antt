@@ -6,8 +6,8 @@ use Rattle.sefl_syntax.specs.declared.net.TableKind.{TableKind}
 use Rattle.sefl_syntax.specs.NetText.{node_text}
 use Rattle.sefl_syntax.specs.NetWords.{kind_text}
 use Rattle.table_files.specs.FileNodes.{FilesHaveOneNode, NodesHaveNoBadLine}
-use Rattle.run_answers.specs.Runs.{Outcome, text, refused}
-use Rattle.run_answers.specs.declared.fault.OwnFault.TheVariants.{BadTable}
+use Rattle.command_edge.specs.Puts.{Outcome, text, refused}
+use Rattle.command_edge.specs.declared.fault.OwnFault.TheVariants.{BadTable}
 use Rattle.model_command.specs.Models.{ModelOf}
 
 module _ (kind : TableKind) (style : Style) (name bytes : List ℕ) (one : FilesHaveOneNode) (no_bad : NodesHaveNoBadLine) where

@@ -7,10 +7,10 @@ use Rattle.sefl_syntax.specs.NetWords.{kind_text}
 use Rattle.sefl_syntax.specs.Trees.{NodeTree}
 use Rattle.table_files.specs.FileNodes.{IsNodeOf, bad_line}
 use Rattle.run_answers.specs.Inputs.{Given, some_bytes}
-use Rattle.run_answers.specs.Runs.{Outcome, text, refused}
-use Rattle.run_answers.specs.declared.ending.Ending.TheVariants.{Done}
-use Rattle.run_answers.specs.declared.fault.OwnFault.{OwnFault}
-use Rattle.run_answers.specs.declared.fault.OwnFault.TheVariants.{BadTable, NoMemory}
+use Rattle.command_edge.specs.Puts.{Outcome, text, refused}
+use Rattle.command_edge.specs.declared.ending.Ending.TheVariants.{Done}
+use Rattle.command_edge.specs.declared.fault.OwnFault.{OwnFault}
+use Rattle.command_edge.specs.declared.fault.OwnFault.TheVariants.{BadTable, NoMemory}
 
 module _ (kind : TableKind) (style : Style) (name : List ℕ) where
   -- the canonical text of the table's node, which is named by the kind, or the first line of the file that breaks a rule

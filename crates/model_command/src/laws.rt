@@ -3,7 +3,7 @@
 ghost use Rattle.std.specs.Prelude.{◌≡◌, ℕ, List};
 ghost use Rattle.sefl_syntax.specs.declared.net.Style.{Style};
 ghost use Rattle.sefl_syntax.specs.declared.net.TableKind.{TableKind};
-ghost use Rattle.run_answers.specs.Runs.{Outcome};
+ghost use Rattle.command_edge.specs.Puts.{Outcome};
 ghost use Rattle.model_command.specs.Models.{ModelOf};
 
 use table_files::laws::files_have_one_node;

@@ -5,13 +5,14 @@ ghost use Rattle.sefl_syntax.specs.Name.{is_name};
 ghost use Rattle.sefl_syntax.specs.NetText.{node_text};
 ghost use Rattle.sefl_syntax.specs.NetWords.{kind_text};
 ghost use Rattle.sefl_syntax.specs.Trees.{NodeTree};
+ghost use Rattle.sefl_syntax.specs.Views.{node_tree};
 ghost use Rattle.table_files.specs.FileNodes.{IsNodeOf};
 ghost use Rattle.model_command.specs.Models.{IsModelRefusal, ModelComes};
 
+use command_edge::{Ending, OwnFault};
+use command_inputs::ByteFile;
 use command_runs::OnePiece;
-use job_files::ByteFile;
-use run_answers::{Ending, OwnFault};
-use sefl_syntax::{Name, Style, TableKind, Text, print_node};
+use sefl_syntax::{Name, RawNode, Style, TableKind, Text, print_node};
 use sn_width::NoMemory;
 use std::alloc::Global;
 use table_files::{FileFault, file_node};
@@ -45,8 +46,15 @@ fn node_name(alloc: Global, kind: TableKind) -> Result<Name, NoMemory>
     }
 }
 
+/// The text of a node, under the name of its table's kind.
+fn text_of_node(alloc: Global, kind: TableKind, node: &RawNode) -> Result<String, NoMemory>
+    ensures { IfOk result (λ text. string_bytes text ≡ node_text (kind_text kind) (node_tree node.now)) }
+{
+    Ok(print_node(alloc, &node_name(alloc, kind)?, node)?)
+}
+
 /// The text of the node of a table's bytes.
-fn text_of_node(
+fn text_of_table(
     alloc: Global,
     kind: TableKind,
     style: Style,
@@ -56,11 +64,14 @@ fn text_of_node(
     ensures text { IfOk result (λ text. (node : NodeTree) × IsNodeOf kind bytes.now style node × (string_bytes text ≡ node_text (kind_text kind) node)) }
     ensures refused { IfErr result (IsModelRefusal kind style name.now bytes.now) }
 {
-    let own = Text::of(alloc, name)?;
     match file_node(alloc, kind, bytes, style) {
-        Ok(node) => Ok(print_node(alloc, &node_name(alloc, kind)?, &node)?),
+        Ok(node) => {
+            let text = text_of_node(alloc, kind, &node);
+            drop(node);
+            Ok(text?)
+        }
         Err(FileFault::Bad { line, kind }) => Err(OwnFault::BadTable {
-            name: own,
+            name: Text::of(alloc, name)?,
             line,
             kind,
         }),
@@ -80,7 +91,7 @@ impl<'a> OnePiece for TableModel<'a> {
     }
 
     fn text(&self, alloc: Global, given: Vec<u8>) -> Result<(Ending, String), OwnFault> {
-        let text = text_of_node(alloc, self.kind, self.style, self.source.name, &given)?;
+        let text = text_of_table(alloc, self.kind, self.style, self.source.name, &given)?;
         Ok((Ending::Done, text))
     }
 }

@@ -1,9 +1,10 @@
 //! Acceptance.
 
-ghost use Rattle.std.specs.Prelude.{◌≡◌, ◌≤◌, ◌<◌, ℕ, length, map, IfOk, OnOk, Some, None, Err};
+ghost use Rattle.std.specs.Prelude.{◌≡◌, ◌<◌, ℕ, length, map, IfOk, OnOk, Some, None, Err};
 ghost use Rattle.std.specs.List.{AllByRecursion};
 ghost use Rattle.std.specs.Option.{ForSome};
 ghost use Rattle.sn_width.specs.declared.ids.Site.{Site as SiteOf};
+ghost use Rattle.sn_edge.specs.Told.{PatternsKept};
 ghost use Rattle.sefl_syntax.specs.Trees.{JobTree};
 ghost use Rattle.sefl_syntax.specs.Views.{job_tree, injection_tree, net_tree};
 ghost use Rattle.job_items.specs.Rules.{refusal};
@@ -56,22 +57,20 @@ pub fn accept<P: Patterns>(
     job: Job,
     patterns: &mut P,
 ) -> Result<Accepted, AcceptFault>
-    ensures matches_kept { P.matches patterns.new ≡ P.matches patterns.old }
-    ensures bad_kept { P.bad_patterns patterns.new ≡ P.bad_patterns patterns.old }
-    ensures refusals_stay { P.refusals patterns.old ≤ P.refusals patterns.new }
+    ensures kept { PatternsKept (P.told patterns.old) (P.told patterns.new) }
 
     // What is accepted is the job's own, and lists the names for which `find` answered Yes.
     ensures accepted { IfOk result (IsAcceptedAs (job_tree job)) }
-    ensures asked { IfOk result (λ a. Asked (IsStep P.matches P.bad_patterns P.refusals P.find_gives) patterns.old a patterns.new) }
-    ensures found { IfOk result (λ a. ForSome (P.matches patterns.old) (λ finds. a.net.found ≡ found_by finds (names_of (job_tree job)))) }
+    ensures asked { IfOk result (λ a. Asked (IsStep P.told P.find_gives) patterns.old a patterns.new) }
+    ensures found { IfOk result (λ a. ForSome (P.told patterns.old).matches (λ finds. a.net.found ≡ found_by finds (names_of (job_tree job)))) }
 
     // A refusal has its cause, and the other way.
     ensures cause { (site : SiteOf) (rule : RuleOf) → result ≡ Err (Refused site rule)
-        → IsCause (IsStep P.matches P.bad_patterns P.refusals P.find_gives) (job_tree job) patterns.old site rule patterns.new }
-    ensures raised { (site : SiteOf) → result ≡ Err (Refused site BadPattern) → P.refusals patterns.old < P.refusals patterns.new }
+        → IsCause (IsStep P.told P.find_gives) (job_tree job) patterns.old site rule patterns.new }
+    ensures raised { (site : SiteOf) → result ≡ Err (Refused site BadPattern) → (P.told patterns.old).refusals < (P.told patterns.new).refusals }
     ensures at_refusal { (site : ℕ) (rule : RuleOf) → refusal (job_tree job) ≡ Some (site, rule) → IsRefusedBy site rule result }
     ensures unasked { (site : ℕ) (rule : RuleOf) → refusal (job_tree job) ≡ Some (site, rule) → patterns.new ≡ patterns.old }
-    ensures at_bad { IsSound (job_tree job) → ForSome (P.bad_patterns patterns.old) (λ is_bad.
+    ensures at_bad { IsSound (job_tree job) → ForSome (P.told patterns.old).bad (λ is_bad.
         IsByPatterns (bad_site is_bad (names_of (job_tree job)).metas (names_of (job_tree job)).patterns) result) }
 {
     if let Some(refusal) = refusal_of(alloc, &job)? {
@@ -90,16 +89,14 @@ fn accept_sound<P: Patterns>(
     patterns: &mut P,
 ) -> Result<Accepted, AcceptFault>
     requires { IsSound (job_tree job) }
-    ensures matches_kept { P.matches patterns.new ≡ P.matches patterns.old }
-    ensures bad_kept { P.bad_patterns patterns.new ≡ P.bad_patterns patterns.old }
-    ensures refusals_stay { P.refusals patterns.old ≤ P.refusals patterns.new }
+    ensures kept { PatternsKept (P.told patterns.old) (P.told patterns.new) }
     ensures accepted { IfOk result (IsAcceptedAs (job_tree job)) }
-    ensures asked { IfOk result (λ a. Asked (IsStep P.matches P.bad_patterns P.refusals P.find_gives) patterns.old a patterns.new) }
-    ensures found { IfOk result (λ a. ForSome (P.matches patterns.old) (λ finds. a.net.found ≡ found_by finds (names_of (job_tree job)))) }
+    ensures asked { IfOk result (λ a. Asked (IsStep P.told P.find_gives) patterns.old a patterns.new) }
+    ensures found { IfOk result (λ a. ForSome (P.told patterns.old).matches (λ finds. a.net.found ≡ found_by finds (names_of (job_tree job)))) }
     ensures cause { (site : SiteOf) (rule : RuleOf) → result ≡ Err (Refused site rule)
-        → IsCause (IsStep P.matches P.bad_patterns P.refusals P.find_gives) (job_tree job) patterns.old site rule patterns.new }
-    ensures raised { (site : SiteOf) → result ≡ Err (Refused site BadPattern) → P.refusals patterns.old < P.refusals patterns.new }
-    ensures at_bad { ForSome (P.bad_patterns patterns.old) (λ is_bad.
+        → IsCause (IsStep P.told P.find_gives) (job_tree job) patterns.old site rule patterns.new }
+    ensures raised { (site : SiteOf) → result ≡ Err (Refused site BadPattern) → (P.told patterns.old).refusals < (P.told patterns.new).refusals }
+    ensures at_bad { ForSome (P.told patterns.old).bad (λ is_bad.
         IsByPatterns (bad_site is_bad (names_of (job_tree job)).metas (names_of (job_tree job)).patterns) result) }
 {
     let names = names_of(alloc, &job)?;

@@ -5,4 +5,5 @@ mod noting;
 mod symbols;
 mod trace;
 
+pub use noting::holds;
 pub use trace::Trace;

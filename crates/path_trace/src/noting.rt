@@ -74,7 +74,7 @@ impl Trace {
 }
 
 /// The truth that the decision gives to its formula.
-fn holds(decision: Decision) -> bool
+pub fn holds(decision: Decision) -> bool
     ensures { result ≡ polarity decision }
 {
     match decision {

@@ -1,22 +1,21 @@
 -- Patterns are asked one after another, each for every name in turn.
-use Rattle.std.specs.Prelude.{◌≡◌, ℕ, ◌+◌, ◌<◌, ◌≤◌, Bool, IsTrue, IsFalse, List, [], ◌∷◌, Option}
+use Rattle.std.specs.Prelude.{ℕ, ◌+◌, ◌<◌, IsTrue, IsFalse, List, [], ◌∷◌}
 use Rattle.std.specs.Option.{ForSome}
 use Rattle.sn_width.specs.declared.ids.NameId.{NameId}
+use Rattle.sn_edge.specs.Told.{PatternsKept, PatternsTold}
 use Rattle.sn_edge.specs.declared.patterns.Found.{Found}
 use Rattle.sn_edge.specs.declared.patterns.Found.TheVariants.{Yes, No, Bad}
 use Rattle.sn_edge.specs.Found.{OnYes, OnNo, OnBad, IsBadUnlessStopped}
 
 -- what one question may answer and leave, by what the object tells
-pub record IsStep {S : Type 0} (matches : S → Option (List ℕ → List ℕ → Bool)) (bad_patterns : S → Option (List ℕ → Bool)) (refusals : S → ℕ) (find_gives : S → List ℕ → List ℕ → Found → S → Type 0) (old : S) (pattern name : List ℕ) (answer : Found) (new : S) : Type 0 where
+pub record IsStep {S : Type 0} (told : S → PatternsTold) (find_gives : S → List ℕ → List ℕ → Found → S → Type 0) (old : S) (pattern name : List ℕ) (answer : Found) (new : S) : Type 0 where
   pub gives : find_gives old pattern name answer new
-  pub matches_kept : matches new ≡ matches old
-  pub bad_kept : bad_patterns new ≡ bad_patterns old
-  pub refusals_stay : refusals old ≤ refusals new
-  pub refused : OnBad answer (refusals old < refusals new)
-  pub yes : OnYes answer (ForSome (matches old) (λ finds. IsTrue (finds pattern name)))
-  pub no : OnNo answer (ForSome (matches old) (λ finds. IsFalse (finds pattern name)))
-  pub bad : OnBad answer (ForSome (bad_patterns old) (λ is_bad. IsTrue (is_bad pattern)))
-  pub at_bad : ForSome (bad_patterns old) (λ is_bad. IsTrue (is_bad pattern) → IsBadUnlessStopped answer)
+  pub kept : PatternsKept (told old) (told new)
+  pub refused : OnBad answer ((told old).refusals < (told new).refusals)
+  pub yes : OnYes answer (ForSome (told old).matches (λ finds. IsTrue (finds pattern name)))
+  pub no : OnNo answer (ForSome (told old).matches (λ finds. IsFalse (finds pattern name)))
+  pub bad : OnBad answer (ForSome (told old).bad (λ is_bad. IsTrue (is_bad pattern)))
+  pub at_bad : ForSome (told old).bad (λ is_bad. IsTrue (is_bad pattern) → IsBadUnlessStopped answer)
 
 abbrev pub id_of : ℕ → NameId
 id_of id = record { 0 = id }

@@ -1,7 +1,8 @@
 //! Asking the patterns of a job for its metadata names.
 
-ghost use Rattle.std.specs.Prelude.{◌≡◌, ◌≤◌, ◌<◌, IfOk, OnOk};
+ghost use Rattle.std.specs.Prelude.{◌≡◌, ◌<◌, IfOk, OnOk};
 ghost use Rattle.std.specs.Option.{ForSome};
+ghost use Rattle.sn_edge.specs.Told.{PatternsKept};
 ghost use Rattle.pattern_answers.specs.Answers.{found_as, with_found, AnswersNames, AnswersAll, IfAnswered, OnRefused, refused_site};
 ghost use Rattle.pattern_answers.specs.Asking.{IsStep};
 ghost use Rattle.pattern_answers.specs.Told.{found_by, bad_site};
@@ -28,18 +29,16 @@ pub fn found_names<P: Patterns>(
     names: &JobNames,
     patterns: &mut P,
 ) -> Result<PatternAnswers, NoMemory>
-    ensures matches_kept { P.matches patterns.new ≡ P.matches patterns.old }
-    ensures bad_kept { P.bad_patterns patterns.new ≡ P.bad_patterns patterns.old }
-    ensures refusals_stay { P.refusals patterns.old ≤ P.refusals patterns.new }
+    ensures kept { PatternsKept (P.told patterns.old) (P.told patterns.new) }
 
     // Each answer is one that `find` may give at that state.
-    ensures asked { IfOk result (λ answers. AnswersAll (IsStep P.matches P.bad_patterns P.refusals P.find_gives)
+    ensures asked { IfOk result (λ answers. AnswersAll (IsStep P.told P.find_gives)
         names.now.metas names.now.patterns patterns.old answers patterns.new) }
-    ensures refused { IfOk result (λ answers. OnRefused answers (P.refusals patterns.old < P.refusals patterns.new)) }
+    ensures refused { IfOk result (λ answers. OnRefused answers ((P.told patterns.old).refusals < (P.told patterns.new).refusals)) }
 
     // Where the object tells it.
-    ensures found { IfOk result (λ answers. ForSome (P.matches patterns.old) (λ finds. IfAnswered answers (λ lists. lists ≡ found_by finds names.now))) }
-    ensures bad { IfOk result (λ answers. ForSome (P.bad_patterns patterns.old) (λ is_bad. refused_site answers ≡ bad_site is_bad names.now.metas names.now.patterns)) }
+    ensures found { IfOk result (λ answers. ForSome (P.told patterns.old).matches (λ finds. IfAnswered answers (λ lists. lists ≡ found_by finds names.now))) }
+    ensures bad { IfOk result (λ answers. ForSome (P.told patterns.old).bad (λ is_bad. refused_site answers ≡ bad_site is_bad names.now.metas names.now.patterns)) }
 {
     ask_patterns(alloc, names, patterns)
 }
@@ -49,10 +48,8 @@ fn ask_patterns<P: Patterns>(
     names: &JobNames,
     patterns: &mut P,
 ) -> Result<PatternAnswers, NoMemory>
-    ensures matches_kept { P.matches patterns.new ≡ P.matches patterns.old }
-    ensures bad_kept { P.bad_patterns patterns.new ≡ P.bad_patterns patterns.old }
-    ensures refusals_stay { P.refusals patterns.old ≤ P.refusals patterns.new }
-    ensures asked { IfOk result (λ answers. AnswersAll (IsStep P.matches P.bad_patterns P.refusals P.find_gives)
+    ensures kept { PatternsKept (P.told patterns.old) (P.told patterns.new) }
+    ensures asked { IfOk result (λ answers. AnswersAll (IsStep P.told P.find_gives)
         names.now.metas names.now.patterns patterns.old answers patterns.new) }
 {
     let mut lists = Vec::new(alloc);
@@ -73,10 +70,8 @@ fn ask_names<P: Patterns>(
     patterns: &mut P,
     pattern: &Text,
 ) -> Result<Option<Vec<NameId>>, NoMemory>
-    ensures matches_kept { P.matches patterns.new ≡ P.matches patterns.old }
-    ensures bad_kept { P.bad_patterns patterns.new ≡ P.bad_patterns patterns.old }
-    ensures refusals_stay { P.refusals patterns.old ≤ P.refusals patterns.new }
-    ensures asked { IfOk result (λ answer. AnswersNames (IsStep P.matches P.bad_patterns P.refusals P.find_gives)
+    ensures kept { PatternsKept (P.told patterns.old) (P.told patterns.new) }
+    ensures asked { IfOk result (λ answer. AnswersNames (IsStep P.told P.find_gives)
         pattern.now names.now.metas patterns.old answer patterns.new) }
 {
     let mut ids = Vec::new(alloc);
@@ -97,10 +92,8 @@ fn ask<P: Patterns>(
     pattern: &Text,
     name: &Name,
 ) -> Result<Option<bool>, NoMemory>
-    ensures matches_kept { P.matches patterns.new ≡ P.matches patterns.old }
-    ensures bad_kept { P.bad_patterns patterns.new ≡ P.bad_patterns patterns.old }
-    ensures refusals_stay { P.refusals patterns.old ≤ P.refusals patterns.new }
-    ensures asked { IfOk result (λ answer. IsStep P.matches P.bad_patterns P.refusals P.find_gives
+    ensures kept { PatternsKept (P.told patterns.old) (P.told patterns.new) }
+    ensures asked { IfOk result (λ answer. IsStep P.told P.find_gives
         patterns.old pattern.now name.now (found_as answer) patterns.new) }
 {
     match patterns.find(alloc, pattern.text(), name.text()) {

@@ -1,6 +1,7 @@
 //! The head and the tail of a report.
 
-ghost use Rattle.std.specs.Prelude.{◌≡◌, ◌<◌, ◌≤◌};
+ghost use Rattle.std.specs.Prelude.{◌≡◌, ◌<◌};
+ghost use Rattle.sn_edge.specs.Told.{SinkKept};
 ghost use Rattle.sn_edge.specs.Put.{OnFailed};
 ghost use Rattle.record_text.specs.Reports.{head_text, tail_text};
 ghost use Rattle.record_lines.specs.Lines.{PutAs};
@@ -12,18 +13,18 @@ use std::alloc::Global;
 /// Puts a text in one piece.
 #[tactic(auto, using(crate::proofs::LineLemmas::put_as))]
 pub(crate) fn put_piece<K: Sink>(piece: &str, out: &mut K) -> Put
-    ensures faults_stay { K.faults out.old ≤ K.faults out.new }
-    ensures failed { OnFailed result (K.faults out.old < K.faults out.new) }
-    ensures puts { PutAs (K.taken out.old) (K.taken out.new) piece.now result }
+    ensures kept { SinkKept (K.told out.old) (K.told out.new) }
+    ensures failed { OnFailed result ((K.told out.old).faults < (K.told out.new).faults) }
+    ensures puts { PutAs (K.told out.old).taken (K.told out.new).taken piece.now result }
 {
     out.put(piece.as_bytes())
 }
 
 /// Puts what stands before the records of a report.
 pub fn put_head<K: Sink>(alloc: Global, hops: u32, limit: u32, out: &mut K) -> Put
-    ensures faults_stay { K.faults out.old ≤ K.faults out.new }
-    ensures failed { OnFailed result (K.faults out.old < K.faults out.new) }
-    ensures puts { PutAs (K.taken out.old) (K.taken out.new) (head_text hops limit) result }
+    ensures kept { SinkKept (K.told out.old) (K.told out.new) }
+    ensures failed { OnFailed result ((K.told out.old).faults < (K.told out.new).faults) }
+    ensures puts { PutAs (K.told out.old).taken (K.told out.new).taken (head_text hops limit) result }
 {
     match head_text(alloc, hops, limit) {
         Ok(text) => put_piece(&text, out),
@@ -33,9 +34,9 @@ pub fn put_head<K: Sink>(alloc: Global, hops: u32, limit: u32, out: &mut K) -> P
 
 /// Puts what stands behind the records of a report, of which so many are refuted sides.
 pub fn put_tail<K: Sink>(alloc: Global, refuted: u64, complete: bool, out: &mut K) -> Put
-    ensures faults_stay { K.faults out.old ≤ K.faults out.new }
-    ensures failed { OnFailed result (K.faults out.old < K.faults out.new) }
-    ensures puts { PutAs (K.taken out.old) (K.taken out.new) (tail_text refuted complete) result }
+    ensures kept { SinkKept (K.told out.old) (K.told out.new) }
+    ensures failed { OnFailed result ((K.told out.old).faults < (K.told out.new).faults) }
+    ensures puts { PutAs (K.told out.old).taken (K.told out.new).taken (tail_text refuted complete) result }
 {
     match tail_text(alloc, refuted, complete) {
         Ok(text) => put_piece(&text, out),

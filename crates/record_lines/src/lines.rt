@@ -164,9 +164,9 @@ impl<M: Mark, K: Sink> Receiver for Lines<'_, M, K> {
     type Item = Record;
 
     ghost seen = { λ lines. record {
-      StandsFor = HasLines M.net M.sides M.known (K.taken lines.out.now) (network lines.net.now) lines.sides lines.some lines.refuted;
-      StoppedIn = StopsInLine M.net M.sides M.known (K.taken lines.out.now);
-      stops = K.faults lines.out.now;
+      StandsFor = HasLines M.net M.sides M.known (K.told lines.out.now).taken (network lines.net.now) lines.sides lines.some lines.refuted;
+      StoppedIn = StopsInLine M.net M.sides M.known (K.told lines.out.now).taken;
+      stops = (K.told lines.out.now).faults;
       target = lines.out.ghost_name;
       Takes = λ item. Unit {0};
     } };

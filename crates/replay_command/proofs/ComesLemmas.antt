@@ -12,10 +12,11 @@ use Rattle.record_checks.specs.declared.fault.ReplayFault.{ReplayFault}
 use Rattle.record_checks.specs.declared.fault.ReplayFault.TheVariants.{NotConfirmed as IsBroken, NoMemory as NoReplay}
 use Rattle.path_replay.specs.Replaying.{ConfirmsFor}
 use Rattle.run_answers.specs.Inputs.{a_net, some_bytes}
-use Rattle.run_answers.specs.Runs.{IsRefusal, text}
-use Rattle.run_answers.specs.declared.ending.Ending.TheVariants.{Done}
-use Rattle.run_answers.specs.declared.fault.OwnFault.{OwnFault}
-use Rattle.run_answers.specs.declared.fault.OwnFault.TheVariants.{BadReport, NotConfirmed, NoMemory}
+use Rattle.command_edge.specs.Puts.{text}
+use Rattle.run_answers.specs.Runs.{IsRefusal}
+use Rattle.command_edge.specs.declared.ending.Ending.TheVariants.{Done}
+use Rattle.command_edge.specs.declared.fault.OwnFault.{OwnFault}
+use Rattle.command_edge.specs.declared.fault.OwnFault.TheVariants.{BadReport, NotConfirmed, NoMemory}
 use Rattle.replay_command.specs.Replays.{IsCountsText, IsNoReport, IsReplayRefusal, ReplayComes, TellsFault, fault_of_replay}
 
 module _ (net : Network) (bytes : List ℕ) where

@@ -22,8 +22,8 @@ use Rattle.record_checks.specs.declared.counts.Confirmed.{Confirmed}
 use Rattle.record_checks.specs.declared.fault.ReplayFault.{ReplayFault}
 use Rattle.record_checks.specs.declared.fault.ReplayFault.TheVariants.{NotConfirmed as IsBroken, NoMemory as NoReplay}
 use Rattle.path_replay.specs.Replaying.{ConfirmsFor, IsConfirmedBackFor}
-use Rattle.run_answers.specs.Runs.{Outcome, text, refused}
-use Rattle.run_answers.specs.declared.fault.OwnFault.TheVariants.{BadReport, NotConfirmed}
+use Rattle.command_edge.specs.Puts.{Outcome, text, refused}
+use Rattle.command_edge.specs.declared.fault.OwnFault.TheVariants.{BadReport, NotConfirmed}
 use Rattle.replay_command.specs.Counted.{confirmed_text}
 use Rattle.replay_command.specs.Replays.{IsBadReport, IsCountsText, IsFirstOther, OfReport, ReplayOf, part_kind, report_kind}
 

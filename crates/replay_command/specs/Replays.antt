@@ -14,10 +14,10 @@ use Rattle.record_checks.specs.declared.part.Part.{Part}
 use Rattle.record_checks.specs.declared.part.Part.TheVariants.{NotTaken, NotRefuted, OtherEnd, NotUndecided}
 use Rattle.path_replay.specs.Replaying.{ConfirmsFor}
 use Rattle.run_answers.specs.Inputs.{Given, a_net, some_bytes}
-use Rattle.run_answers.specs.Runs.{Outcome, text, refused}
-use Rattle.run_answers.specs.declared.ending.Ending.TheVariants.{Done}
-use Rattle.run_answers.specs.declared.fault.OwnFault.{OwnFault}
-use Rattle.run_answers.specs.declared.fault.OwnFault.TheVariants.{BadReport, NotConfirmed, NoMemory}
+use Rattle.command_edge.specs.Puts.{Outcome, text, refused}
+use Rattle.command_edge.specs.declared.ending.Ending.TheVariants.{Done}
+use Rattle.command_edge.specs.declared.fault.OwnFault.{OwnFault}
+use Rattle.command_edge.specs.declared.fault.OwnFault.TheVariants.{BadReport, NotConfirmed, NoMemory}
 use Rattle.replay_command.specs.Counted.{confirmed_text}
 
 -- the number of a broken part

@@ -3,9 +3,9 @@
 ghost use Rattle.std.specs.Prelude.{◌≡◌};
 ghost use Rattle.replay_command.specs.Replays.{TellsBadReport, TellsFault, fault_of_replay, part_kind};
 
+use command_edge::OwnFault;
 use path_replay::{Part, ReplayFault};
 use path_report::ReportFault;
-use run_answers::OwnFault;
 use sefl_syntax::Text;
 use std::alloc::Global;
 

@@ -2,7 +2,7 @@
 
 ghost use Rattle.std.specs.Prelude.{◌≡◌, ℕ, List};
 ghost use Rattle.net_check.specs.Network.{Entry, Network};
-ghost use Rattle.run_answers.specs.Runs.{Outcome};
+ghost use Rattle.command_edge.specs.Puts.{Outcome};
 ghost use Rattle.replay_command.specs.Replays.{ReplayOf};
 
 use path_replay::laws::one_answer_for_a_net;

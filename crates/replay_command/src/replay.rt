@@ -6,18 +6,20 @@ ghost use Rattle.net_check.specs.Sound.{AreOfOneJob};
 ghost use Rattle.exact_records.specs.View.{record_trees};
 ghost use Rattle.path_report.specs.Reading.{ReadsReport};
 ghost use Rattle.run_answers.specs.Inputs.{given_of, some_bytes};
-ghost use Rattle.run_answers.specs.Runs.{IsRefusal, text as a_text};
+ghost use Rattle.command_edge.specs.Puts.{text as a_text};
+ghost use Rattle.run_answers.specs.Runs.{IsRefusal};
 ghost use Rattle.replay_command.specs.Replays.{IsCountsText, IsNoReport, IsReplayRefusal, ReplayComes};
 
 use crate::counts::confirmed_text;
 use crate::fault::{fault_of_replay, fault_of_report};
+use command_edge::{Ending, OwnFault};
+use command_inputs::{Both, ByteFile, Two};
 use command_runs::OnePiece;
-use job_files::{Both, ByteFile, JobFile, Two};
+use job_files::JobFile;
 use net_check::{Accepted, Net};
 use path_records::Record;
 use path_replay::confirm;
 use path_report::{Report, read_report};
-use run_answers::{Ending, OwnFault};
 use std::alloc::Global;
 
 /// The most bytes that the file of a report may have.

@@ -13,16 +13,16 @@ use Rattle.job_items.specs.declared.rule.Rule.{Rule}
 use Rattle.net_tables.specs.Places.{node_position}
 use Rattle.net_check.specs.Network.{Network, Entry}
 use Rattle.net_check.specs.Sound.{IsSound, IsNetOf, IsEntryOf}
-use Rattle.run_answers.specs.Files.{Files, HasFile, LoadFails}
+use Rattle.command_edge.specs.Files.{Files, HasFile, LoadFails}
 use Rattle.run_answers.specs.Flaws.{Flaw, syntax}
 use Rattle.run_answers.specs.Refusals.{fault_by_number, fault_by_rule, rule_number}
 use Rattle.run_answers.specs.Tables.{AllFilled, CodeFails, FirstUnfilled, IsCodeOf, IsFilled, TableFails}
 use Rattle.run_answers.specs.Jobs.{AcceptFails, HasFilled, HasJob, IsOnlyFlaw, IsOnlyJob, IsRefusedAt, JobFails, ReadFails, first_bad}
 use Rattle.run_answers.specs.Outside.{World, world}
 use Rattle.run_answers.specs.Inputs.{Input, Given, a_job as of_job, a_made_job, a_file, a_net, some_bytes, AllOpen, FirstFails, Opens, Fails, IsSettled}
-use Rattle.run_answers.specs.declared.limits.TheConstants.{FILE_LIMIT}
-use Rattle.run_answers.specs.declared.fault.InputFault.{InputFault}
-use Rattle.run_answers.specs.declared.fault.InputFault.TheVariants.{NoFile, ReadFault, TooBig, Syntax, BadTable, BadPattern, Refused, NoMemory}
+use Rattle.command_edge.specs.declared.limits.TheConstants.{FILE_LIMIT}
+use Rattle.command_edge.specs.declared.fault.InputFault.{InputFault}
+use Rattle.command_edge.specs.declared.fault.InputFault.TheVariants.{NoFile, ReadFault, TooBig, Syntax, BadTable, BadPattern, Refused, NoMemory}
 
 same_in : {T : Type 0} (o : Option T) (x y : T) → o ≡ Some x → o ≡ Some y → x ≡ y
 same_in o x y h k = same_Some x y (sym h ∙ k)

@@ -5,8 +5,8 @@ use Rattle.sefl_lex.specs.declared.fault.LexFault.TheVariants.{BadCharacter, Bad
 use Rattle.sefl_reader.specs.Outcome.{Outcome, a_job, not_text, no_tokens, expected, too_deep, IsOutcome, line_at, column_at}
 use Rattle.sefl_reader.specs.declared.fault.ReadFault.{ReadFault}
 use Rattle.sefl_reader.specs.declared.fault.ReadFault.TheVariants.{NotText, Lex, Expected, TooDeep, NoMemory as OutOfMemory}
-use Rattle.run_answers.specs.declared.fault.InputFault.{InputFault}
-use Rattle.run_answers.specs.declared.fault.InputFault.TheVariants.{Syntax, NoMemory as Unread}
+use Rattle.command_edge.specs.declared.fault.InputFault.{InputFault}
+use Rattle.command_edge.specs.declared.fault.InputFault.TheVariants.{Syntax, NoMemory as Unread}
 
 -- a place, its line and column counted from 1, and what is wrong there
 pub record Flaw : Type 0 where

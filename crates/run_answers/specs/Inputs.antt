@@ -4,11 +4,11 @@ use Rattle.sefl_syntax.specs.Trees.{AskTree, JobTree}
 use Rattle.sefl_syntax.specs.Views.{ask_tree}
 use Rattle.net_check.specs.Network.{Network, Entry, network, entry}
 use Rattle.net_check.specs.declared.acceptance.Accepted.{Accepted}
-use Rattle.run_answers.specs.Files.{HasFile, LoadFails}
+use Rattle.command_edge.specs.Files.{HasFile, LoadFails}
 use Rattle.run_answers.specs.Jobs.{AcceptFails, HasFilled, JobFails}
 use Rattle.run_answers.specs.Outside.{Outside, World}
-use Rattle.run_answers.specs.declared.fault.InputFault.{InputFault}
-use Rattle.run_answers.specs.declared.fault.InputFault.TheVariants.{ReadFault, BadPattern, NoMemory}
+use Rattle.command_edge.specs.declared.fault.InputFault.{InputFault}
+use Rattle.command_edge.specs.declared.fault.InputFault.TheVariants.{ReadFault, BadPattern, NoMemory}
 
 -- an input: the file of a job; a job that the command makes itself; or a file, with the most bytes that it may have
 pub data Input : Type 0 where

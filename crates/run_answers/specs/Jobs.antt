@@ -2,6 +2,7 @@
 use Rattle.std.specs.Prelude.{ℕ, ◌≡◌, ◌⊎◌, Bool, List, Option, None, Some}
 use Rattle.std.specs.Option.{ForSome}
 use Rattle.sn_width.specs.declared.ids.Site.{Site}
+use Rattle.sn_edge.specs.Told.{PatternsKept, PatternsTold}
 use Rattle.sn_edge.specs.declared.patterns.Found.{Found}
 use Rattle.sefl_syntax.specs.Trees.{JobTree}
 use Rattle.sefl_reader.specs.Outcome.{Outcome, a_job, IsOutcome}
@@ -13,13 +14,13 @@ use Rattle.pattern_answers.specs.Told.{bad_site, found_by}
 use Rattle.net_check.specs.Acceptance.{IsBadPatternAt}
 use Rattle.net_check.specs.Network.{Network, Entry}
 use Rattle.net_check.specs.Sound.{IsSound, IsNetOf, IsEntryOf}
-use Rattle.run_answers.specs.Files.{Files, HasFile, LoadFails}
+use Rattle.command_edge.specs.Files.{Files, HasFile, LoadFails}
 use Rattle.run_answers.specs.Flaws.{HasFlaw, flaw_of, Flaw}
 use Rattle.run_answers.specs.Refusals.{rule_number}
 use Rattle.run_answers.specs.Tables.{FirstUnfilled, IsFilled}
-use Rattle.run_answers.specs.declared.limits.TheConstants.{FILE_LIMIT}
-use Rattle.run_answers.specs.declared.fault.InputFault.{InputFault}
-use Rattle.run_answers.specs.declared.fault.InputFault.TheVariants.{Syntax, BadPattern, Refused, NoMemory}
+use Rattle.command_edge.specs.declared.limits.TheConstants.{FILE_LIMIT}
+use Rattle.command_edge.specs.declared.fault.InputFault.{InputFault}
+use Rattle.command_edge.specs.declared.fault.InputFault.TheVariants.{Syntax, BadPattern, Refused, NoMemory}
 
 -- ---- the job's text
 
@@ -69,7 +70,7 @@ first_bad is_bad j = bad_site is_bad (names_of j).metas (names_of j).patterns
 abbrev pub ListsFound : JobTree → Network → (List ℕ → List ℕ → Bool) → Type 0
 ListsFound j net finds = net.found ≡ found_by finds (names_of j)
 
-module _ {S : Type 0} (step : S → List ℕ → List ℕ → Found → S → Type 0) (matches : S → Option (List ℕ → List ℕ → Bool)) (bad : S → Option (List ℕ → Bool)) where
+module _ {S : Type 0} (step : S → List ℕ → List ℕ → Found → S → Type 0) (told : S → PatternsTold) where
   -- The job is accepted as this net and this injection: it breaks no rule; by this step of the patterns, from state to
   -- state, each of its patterns was asked for each name, and the net lists the names that they find.
   pub record IsTaken (u : S) (j : JobTree) (net : Network) (i : Entry) (v : S) : Type 0 where
@@ -77,16 +78,15 @@ module _ {S : Type 0} (step : S → List ℕ → List ℕ → Found → S → Ty
     pub of_net : IsNetOf j net
     pub of_entry : IsEntryOf j i
     pub asked : AsksAll step (names_of j).metas u (names_of j).patterns net.found v
-    pub matches_kept : matches v ≡ matches u
-    pub bad_kept : bad v ≡ bad u
-    pub found : ForSome (matches u) (ListsFound j net)
-    pub good : ForSome (bad u) (λ is_bad. first_bad is_bad j ≡ None)
+    pub kept : PatternsKept (told u) (told v)
+    pub found : ForSome (told u).matches (ListsFound j net)
+    pub good : ForSome (told u).bad (λ is_bad. first_bad is_bad j ≡ None)
 
   -- No rule is broken, and the pattern of the For at the site is refused, and no earlier one; where bad patterns are told,
   -- it is the first of them.
   pub record IsBadAt (u : S) (j : JobTree) (site : Site) (v : S) : Type 0 where
     pub asked : IsBadPatternAt step j u site.0 v
-    pub first : ForSome (bad u) (λ is_bad. first_bad is_bad j ≡ Some site.0)
+    pub first : ForSome (told u).bad (λ is_bad. first_bad is_bad j ≡ Some site.0)
 
 -- the item at the site is the first that breaks a rule, and the first rule that it breaks has this number
 abbrev pub IsRefusedAt : JobTree → Site → ℕ → Type 0

@@ -1,4 +1,3 @@
-pub mod Files
 pub mod Flaws
 pub mod Refusals
 pub mod Tables

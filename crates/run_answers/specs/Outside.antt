@@ -2,12 +2,13 @@
 use Rattle.std.specs.Prelude.{ℕ, ◌≡◌, Bool, List, Option, Some, None}
 use Rattle.std.specs.Option.{ForSome}
 use Rattle.sn_width.specs.declared.ids.Site.{Site}
+use Rattle.sn_edge.specs.Told.{PatternsTold}
 use Rattle.sn_edge.specs.declared.patterns.Found.{Found}
 use Rattle.sefl_syntax.specs.Trees.{JobTree}
 use Rattle.pattern_answers.specs.Asking.{IsStep}
 use Rattle.net_check.specs.Network.{Network, Entry}
 use Rattle.net_check.specs.Sound.{IsSound, IsNetOf, IsEntryOf}
-use Rattle.run_answers.specs.Files.{Files}
+use Rattle.command_edge.specs.Files.{Files}
 use Rattle.run_answers.specs.Jobs.{IsTaken, IsBadAt, ListsFound, first_bad}
 
 -- the folder's files, where it tells them; that a job whose nodes have code is accepted as a net and an injection, or its
@@ -18,11 +19,11 @@ pub record Outside (S : Type 0) : Type 1 where
   pub refuses : S → JobTree → Site → S → Type 0
 
 -- the outside of a call, from the members of its folder and of its patterns
-abbrev pub outside : {S : Type 0} → Files → (S → Option (List ℕ → List ℕ → Bool)) → (S → Option (List ℕ → Bool)) → (S → ℕ) → (S → List ℕ → List ℕ → Found → S → Type 0) → Outside S
-outside files matches bad refusals gives = record {
+abbrev pub outside : {S : Type 0} → Files → (S → PatternsTold) → (S → List ℕ → List ℕ → Found → S → Type 0) → Outside S
+outside files told gives = record {
   files = files;
-  takes = IsTaken (IsStep matches bad refusals gives) matches bad;
-  refuses = IsBadAt (IsStep matches bad refusals gives) matches bad;
+  takes = IsTaken (IsStep told gives) told;
+  refuses = IsBadAt (IsStep told gives) told;
 }
 
 -- what an outside may tell: its files; which names the patterns find, and which patterns are bad, each where it tells that
@@ -39,8 +40,8 @@ world w = record {
   refuses = λ u j site v. IsSound j × ForSome w.is_bad (λ b. first_bad b j ≡ Some site.0);
 }
 
--- the outside of a call tells this world
-pub record Tells {S : Type 0} (files : Files) (matches : S → Option (List ℕ → List ℕ → Bool)) (bad : S → Option (List ℕ → Bool)) (u : S) (w : World) : Type 0 where
+-- a folder and patterns that tell this tell this world
+pub record Tells (files : Files) (told : PatternsTold) (w : World) : Type 0 where
   pub files_told : files ≡ Some w.at
-  pub finds_told : matches u ≡ w.finds
-  pub bad_told : bad u ≡ w.is_bad
+  pub finds_told : told.matches ≡ w.finds
+  pub bad_told : told.bad ≡ w.is_bad

@@ -7,8 +7,8 @@ use Rattle.net_check.specs.declared.fault.AcceptFault.{AcceptFault}
 use Rattle.net_check.specs.declared.fault.AcceptFault.TheVariants.{Refused as RefusedBy, NoMemory as OutOfMemory}
 use Rattle.table_files.specs.declared.node.FileFault.{FileFault}
 use Rattle.table_files.specs.declared.node.FileFault.TheVariants.{Bad, NoMemory as NoNode}
-use Rattle.run_answers.specs.declared.fault.InputFault.{InputFault}
-use Rattle.run_answers.specs.declared.fault.InputFault.TheVariants.{NoMemory, BadPattern as BadPatternAt, BadTable, Refused}
+use Rattle.command_edge.specs.declared.fault.InputFault.{InputFault}
+use Rattle.command_edge.specs.declared.fault.InputFault.TheVariants.{NoMemory, BadPattern as BadPatternAt, BadTable, Refused}
 
 -- the number of a rule that looks at the job alone; bad patterns have a refusal of their own
 abbrev pub rule_number : Rule → Option ℕ

@@ -3,10 +3,10 @@ use Rattle.std.specs.Prelude.{ℕ, ◌≡◌, ◌⊎◌, List, [], ◌∷◌, So
 use Rattle.sefl_syntax.specs.declared.net.TableKind.{TableKind}
 use Rattle.sefl_syntax.specs.Trees.{NodeTree, BodyTree, code, table, DeclTree, JobTree}
 use Rattle.table_files.specs.FileNodes.{IsNodeOf, bad_line}
-use Rattle.run_answers.specs.Files.{Files, HasFile, LoadFails}
-use Rattle.run_answers.specs.declared.limits.TheConstants.{FILE_LIMIT}
-use Rattle.run_answers.specs.declared.fault.InputFault.{InputFault}
-use Rattle.run_answers.specs.declared.fault.InputFault.TheVariants.{BadTable, NoMemory}
+use Rattle.command_edge.specs.Files.{Files, HasFile, LoadFails}
+use Rattle.command_edge.specs.declared.limits.TheConstants.{FILE_LIMIT}
+use Rattle.command_edge.specs.declared.fault.InputFault.{InputFault}
+use Rattle.command_edge.specs.declared.fault.InputFault.TheVariants.{BadTable, NoMemory}
 
 -- why the bytes of the file under the name give no node
 abbrev pub TableFails : TableKind → List ℕ → List ℕ → InputFault → Type 0

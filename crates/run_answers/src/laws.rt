@@ -10,8 +10,8 @@ ghost use Rattle.run_answers.specs.Inputs.{AllOpen, FirstFails, Given, Input, Is
 ghost use Rattle.run_answers.specs.Jobs.{IsRefusedAt, IsTextOf};
 ghost use Rattle.run_answers.specs.Outside.{World, world};
 ghost use Rattle.run_answers.specs.Tables.{FirstUnfilled, IsFilled};
-ghost use Rattle.run_answers.specs.declared.fault.InputFault.{InputFault};
-ghost use Rattle.run_answers.specs.declared.fault.InputFault.TheVariants.{Refused};
+ghost use Rattle.command_edge.specs.declared.fault.InputFault.{InputFault};
+ghost use Rattle.command_edge.specs.declared.fault.InputFault.TheVariants.{Refused};
 
 use sefl_grammar::laws::canonical_text_is_read;
 use table_files::laws::files_have_one_node;

@@ -58,13 +58,28 @@ pub enum End {
 }
 
 /// A walk from the injection's port to its end.
-#[derive(Drop)]
 pub struct Walk {
     pub decisions: Vec<Decision>,
     /// The ports that it arrives at, in order.
     pub places: Vec<Place>,
     pub end: End,
     pub state: State,
+}
+
+// Written out, and not derived, so that the proof of a function that lets one go sees a call.
+impl Drop for Walk {
+    fn drop(self) {
+        let Walk {
+            decisions,
+            places,
+            end,
+            state,
+        } = self;
+        drop(decisions);
+        drop(places);
+        drop(end);
+        drop(state);
+    }
 }
 
 /// One turn of a For: its variable stands for the metadata of that owner, or none for a global, and

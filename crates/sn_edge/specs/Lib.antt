@@ -1,4 +1,5 @@
--- Words for the answers of the outside.
+-- What the outside tells, and words for its answers.
+pub mod Told
 pub mod Loaded
 pub mod Put
 pub mod Pieces

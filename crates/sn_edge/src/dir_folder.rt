@@ -58,13 +58,7 @@ impl<'a, R> DirFolder<'a, R> {
 }
 
 impl<R: Files> Folder for DirFolder<'_, R> {
-    ghost files = { λ _. None };
-
-    ghost faults = { λ f. f.faults };
-
-    ghost misses = { λ f. f.misses };
-
-    ghost excesses = { λ f. f.excesses };
+    ghost told = { λ f. record { files = None; faults = f.faults; misses = f.misses; excesses = f.excesses } };
 
     fn load(&mut self, alloc: Global, name: &str, limit: u64) -> Loaded
         ensures within { IfBytes result (λ bytes. length bytes ≤ limit) }

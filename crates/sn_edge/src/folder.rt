@@ -1,6 +1,7 @@
 //! Files by name, each loaded whole.
-ghost use Rattle.std.specs.Prelude.{◌≡◌, ◌<◌, ◌≤◌, ℕ, List, length, Option, None, Some, IsSomeAnd};
+ghost use Rattle.std.specs.Prelude.{◌≡◌, ◌<◌, ◌≤◌, length, None, Some, IsSomeAnd};
 ghost use Rattle.std.specs.Option.{ForSome};
+ghost use Rattle.sn_edge.specs.Told.{FolderKept, FolderTold};
 ghost use Rattle.sn_edge.specs.Loaded.{IfBytes, OnAbsent, OnTooBig, OnFailed, IsAbsentUnlessStopped, IsTooBigUnlessStopped, IsBytesUnlessStopped};
 
 use std::alloc::Global;
@@ -22,41 +23,26 @@ pub enum Loaded {
 
 /// A place with files, each under a name.
 pub trait Folder {
-    /// For each name the bytes of its file, or `None` where there is none; `None` as a whole where the
-    /// folder does not tell.
-    ghost files: { Self → Option (List ℕ → Option (List ℕ)) };
-
-    /// How often the outside has failed.
-    ghost faults: { Self → ℕ };
-
-    /// How often a file was absent.
-    ghost misses: { Self → ℕ };
-
-    /// How often a file passed its limit.
-    ghost excesses: { Self → ℕ };
+    /// What it tells of its files, and its counts.
+    ghost told: { Self → FolderTold };
 
     /// The file of this name, of at most `limit` bytes.
     fn load(&mut self, alloc: Global, name: &str, limit: u64) -> Loaded
-        ensures kept { files self.new ≡ files self.old }
-
-        // No count falls.
-        ensures faults_stay { faults self.old ≤ faults self.new }
-        ensures misses_stay { misses self.old ≤ misses self.new }
-        ensures excesses_stay { excesses self.old ≤ excesses self.new }
+        ensures kept { FolderKept (told self.old) (told self.new) }
 
         // An answer comes only where its count rose.
-        ensures failed { OnFailed result (faults self.old < faults self.new) }
-        ensures absent { OnAbsent result (misses self.old < misses self.new) }
-        ensures too_big { OnTooBig result (excesses self.old < excesses self.new) }
+        ensures failed { OnFailed result ((told self.old).faults < (told self.new).faults) }
+        ensures absent { OnAbsent result ((told self.old).misses < (told self.new).misses) }
+        ensures too_big { OnTooBig result ((told self.old).excesses < (told self.new).excesses) }
 
         // What an answer says of the file.
         ensures within { IfBytes result (λ bytes. length bytes ≤ limit) }
-        ensures bytes { IfBytes result (λ bytes. ForSome (files self.old) (λ at. at name.now ≡ Some bytes)) }
-        ensures no_file { OnAbsent result (ForSome (files self.old) (λ at. at name.now ≡ None)) }
-        ensures long_file { OnTooBig result (ForSome (files self.old) (λ at. IsSomeAnd (at name.now) (λ bytes. limit < length bytes))) }
+        ensures bytes { IfBytes result (λ bytes. ForSome (told self.old).files (λ at. at name.now ≡ Some bytes)) }
+        ensures no_file { OnAbsent result (ForSome (told self.old).files (λ at. at name.now ≡ None)) }
+        ensures long_file { OnTooBig result (ForSome (told self.old).files (λ at. IsSomeAnd (at name.now) (λ bytes. limit < length bytes))) }
 
         // And the other way: which answer comes where the load is not stopped by a failure or for want of memory.
-        ensures at_none { ForSome (files self.old) (λ at. at name.now ≡ None → IsAbsentUnlessStopped result) }
-        ensures at_long { ForSome (files self.old) (λ at. ForSome (at name.now) (λ bytes. limit < length bytes → IsTooBigUnlessStopped result)) }
-        ensures at_file { ForSome (files self.old) (λ at. ForSome (at name.now) (λ bytes. length bytes ≤ limit → IsBytesUnlessStopped result)) };
+        ensures at_none { ForSome (told self.old).files (λ at. at name.now ≡ None → IsAbsentUnlessStopped result) }
+        ensures at_long { ForSome (told self.old).files (λ at. ForSome (at name.now) (λ bytes. limit < length bytes → IsTooBigUnlessStopped result)) }
+        ensures at_file { ForSome (told self.old).files (λ at. ForSome (at name.now) (λ bytes. length bytes ≤ limit → IsBytesUnlessStopped result)) };
 }

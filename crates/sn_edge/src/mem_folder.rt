@@ -62,13 +62,12 @@ impl MemFolder {
 }
 
 impl Folder for MemFolder {
-    ghost files = { λ f. Some (file_at f.entries) };
-
-    ghost faults = { λ f. f.faults };
-
-    ghost misses = { λ f. f.misses };
-
-    ghost excesses = { λ f. f.excesses };
+    ghost told = { λ f. record {
+      files = Some (file_at f.entries);
+      faults = f.faults;
+      misses = f.misses;
+      excesses = f.excesses;
+    } };
 
     fn load(&mut self, alloc: Global, name: &str, limit: u64) -> Loaded
         ensures failing { (result ≡ Loaded.Failed) ↔ (Contains self.old.failing self.old.calls × (self.old.calls < 2 ^ 64 - 1)) }

@@ -43,11 +43,7 @@ impl MemPatterns {
 }
 
 impl Patterns for MemPatterns {
-    ghost matches = { λ t. Some (finds_by t.rows) };
-
-    ghost bad_patterns = { λ t. Some (is_listed t.bad) };
-
-    ghost refusals = { λ t. t.refusals };
+    ghost told = { λ t. record { matches = Some (finds_by t.rows); bad = Some (is_listed t.bad); refusals = t.refusals } };
 
     ghost find_gives = { λ old pattern name answer new. IsFoundBy old pattern name answer × (new ≡ after_find old answer) };
 

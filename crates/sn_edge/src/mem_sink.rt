@@ -59,9 +59,7 @@ impl MemSink {
 }
 
 impl Sink for MemSink {
-    ghost taken = { λ s. Some s.bytes };
-
-    ghost faults = { λ s. s.faults };
+    ghost told = { λ s. record { taken = Some s.bytes; faults = s.faults } };
 
     fn put(&mut self, piece: &[u8]) -> Put
         ensures failing { result ≡ Put.Failed → Contains self.old.failing self.old.calls }

@@ -33,9 +33,7 @@ impl<'a, R> OutSink<'a, R> {
 }
 
 impl<R: Print> Sink for OutSink<'_, R> {
-    ghost taken = { λ _. None };
-
-    ghost faults = { λ s. s };
+    ghost told = { λ s. record { taken = None; faults = s } };
 
     fn put(&mut self, piece: &[u8]) -> Put
         ensures next { self.new ≡ faults_after self.old result }

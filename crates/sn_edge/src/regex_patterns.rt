@@ -44,11 +44,7 @@ impl RegexPatterns {
 }
 
 impl Patterns for RegexPatterns {
-    ghost matches = { λ _. Some finds_match };
-
-    ghost bad_patterns = { λ _. None };
-
-    ghost refusals = { λ p. p };
+    ghost told = { λ p. record { matches = Some finds_match; bad = None; refusals = p } };
 
     ghost find_gives = { λ old pattern name answer new. IsFoundByRegex pattern name answer × (new ≡ refusals_after old answer) };
 

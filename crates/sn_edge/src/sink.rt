@@ -1,6 +1,7 @@
 //! Bytes on their way out.
-ghost use Rattle.std.specs.Prelude.{◌≡◌, ◌<◌, ◌≤◌, ℕ, List, Option};
+ghost use Rattle.std.specs.Prelude.{◌≡◌, ◌<◌, ℕ, List};
 ghost use Rattle.std.specs.Io.KnownBytes.{append_known};
+ghost use Rattle.sn_edge.specs.Told.{SinkKept, SinkTold};
 ghost use Rattle.sn_edge.specs.Put.{OnAll, OnFailed, OnNoMemory};
 ghost use Rattle.sn_edge.specs.Pieces.{IsPrefix};
 
@@ -17,19 +18,16 @@ pub enum Put {
 
 /// A place that takes bytes in order.
 pub trait Sink {
-    /// The bytes taken so far, where the sink tells them.
-    ghost taken: { Self → Option (List ℕ) };
-
-    /// How often the outside has failed.
-    ghost faults: { Self → ℕ };
+    /// The bytes taken so far, where the sink tells them, and how often the outside has failed.
+    ghost told: { Self → SinkTold };
 
     /// Takes the bytes of a piece.
     fn put(&mut self, piece: &[u8]) -> Put
-        ensures faults_stay { faults self.old ≤ faults self.new }
-        ensures failed { OnFailed result (faults self.old < faults self.new) }
+        ensures kept { SinkKept (told self.old) (told self.new) }
+        ensures failed { OnFailed result ((told self.old).faults < (told self.new).faults) }
 
         // What was taken is a prefix of the piece: all of it at All, nothing at NoMemory.
-        ensures all { OnAll result (taken self.new ≡ append_known (taken self.old) piece.now) }
-        ensures nothing { OnNoMemory result (taken self.new ≡ taken self.old) }
-        ensures part { (part : List ℕ) × IsPrefix part piece.now × (taken self.new ≡ append_known (taken self.old) part) };
+        ensures all { OnAll result ((told self.new).taken ≡ append_known (told self.old).taken piece.now) }
+        ensures nothing { OnNoMemory result ((told self.new).taken ≡ (told self.old).taken) }
+        ensures part { (part : List ℕ) × IsPrefix part piece.now × ((told self.new).taken ≡ append_known (told self.old).taken part) };
 }

@@ -2,7 +2,6 @@
 
 ghost use Rattle.std.specs.Prelude.{◌≡◌, true, IfOk};
 ghost use Rattle.net_check.specs.Network.{network};
-ghost use Rattle.sym_state.specs.Symbolic.{polarity};
 ghost use Rattle.symbolic_engine.specs.Stages.{has_typed_test};
 ghost use Rattle.symbolic_engine.specs.Turning.{IsAwaited, IsNoted, IsStageBehind};
 
@@ -12,23 +11,11 @@ use crate::stage::{Stage, Wait};
 use code_frames::{answer, copied};
 use net_check::Net;
 use path_formula::laws::the_tests_of_types;
+use path_trace::holds;
 use sefl_meaning::Decision;
 use sn_width::NoMemory;
 use std::alloc::Global;
 use sym_state::SymState;
-
-/// The truth that the decision gives to a test.
-fn holds(decision: Decision) -> bool
-    ensures { result ≡ polarity decision }
-{
-    match decision {
-        Decision::Then => true,
-        Decision::Else => false,
-        Decision::Pass => true,
-        Decision::Broken => false,
-        Decision::Copy(_) => true,
-    }
-}
 
 /// The state with the decision that is awaited, and with the formula of its test.
 fn with_decision(

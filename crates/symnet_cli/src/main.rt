@@ -11,7 +11,9 @@ use symnet_program::symnet;
 
 /// The words after the program's name.
 fn given_words<R: Env + AllocGlobal>(rt: &R) -> io::Result<Vec<String>> {
-    Ok(env::args(rt)?.skip(1).collect(rt.alloc())?)
+    let mut words = env::args(rt)?;
+    drop(words.next());
+    Ok(words.collect(rt.alloc())?)
 }
 
 fn run<R: Files + Print + AllocGlobal>(rt: &R, words: &[String]) -> Status {

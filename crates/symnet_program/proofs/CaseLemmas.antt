@@ -9,19 +9,20 @@ use Rattle.job_items.specs.Rules.{refusal}
 use Rattle.job_items.specs.declared.rule.Rule.{Rule}
 use Rattle.net_check.specs.Network.{Network, Entry}
 use Rattle.net_check.specs.Sound.{IsSound}
-use Rattle.run_answers.specs.Files.{HasFile, LoadFails}
+use Rattle.command_edge.specs.Files.{HasFile, LoadFails}
 use Rattle.run_answers.specs.Flaws.{Flaw, HasFlaw, flaw_of}
 use Rattle.run_answers.specs.Refusals.{fault_by_number, fault_by_rule}
 use Rattle.run_answers.specs.Jobs.{AcceptFails, HasJob, IsOnlyFlaw, IsOnlyJob, IsRefusedAt, IsTextOf, ReadFails, first_bad}
 use Rattle.run_answers.specs.Outside.{World, world}
 use Rattle.run_answers.specs.Inputs.{Input, Given, a_job, a_net, AllOpen, FirstFails, IsSettled, Opens, Fails}
-use Rattle.run_answers.specs.Runs.{OwnWork, Outcome, text, refused}
+use Rattle.command_edge.specs.Puts.{Outcome, text, refused}
+use Rattle.run_answers.specs.Runs.{OwnWork}
 use Rattle.run_answers.specs.Tables.{CodeFails, FirstUnfilled, IsFilled}
-use Rattle.run_answers.specs.declared.limits.TheConstants.{FILE_LIMIT}
-use Rattle.run_answers.specs.declared.ending.Ending.TheVariants as ending
-use Rattle.run_answers.specs.declared.fault.InputFault.{InputFault}
-use Rattle.run_answers.specs.declared.fault.InputFault.TheVariants as input
-use Rattle.run_answers.specs.declared.fault.OwnFault.TheVariants as working
+use Rattle.command_edge.specs.declared.limits.TheConstants.{FILE_LIMIT}
+use Rattle.command_edge.specs.declared.ending.Ending.TheVariants as ending
+use Rattle.command_edge.specs.declared.fault.InputFault.{InputFault}
+use Rattle.command_edge.specs.declared.fault.InputFault.TheVariants as input
+use Rattle.command_edge.specs.declared.fault.OwnFault.TheVariants as working
 use Rattle.explore_command.specs.Explores.{ReportsOf}
 use Rattle.symnet_program.specs.Commands.{inputs, sides_of, work}
 use Rattle.symnet_program.specs.Program.{Cause, Comes, IsCaused}

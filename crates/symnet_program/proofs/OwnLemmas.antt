@@ -2,13 +2,15 @@
 use Rattle.std.proofs.Common.{◌≡◌, ◌⊎◌, inl, inr, refl, subst, List, ℕ, Bool, Option, None, Some}
 use Rattle.run_answers.specs.Outside.{World, world}
 use Rattle.run_answers.specs.Inputs.{Input, Given, AllOpen, FirstFails, IsSettled}
-use Rattle.run_answers.specs.Runs.{OwnWork, Outcome, text, refused}
-use Rattle.run_answers.specs.declared.ending.Ending.TheVariants as ending
-use Rattle.run_answers.specs.declared.fault.InputFault.{InputFault}
-use Rattle.run_answers.specs.declared.fault.InputFault.TheVariants as input
-use Rattle.run_answers.specs.declared.fault.OwnFault.TheVariants as own
+use Rattle.command_edge.specs.Puts.{Outcome, text, refused}
+use Rattle.run_answers.specs.Runs.{OwnWork}
+use Rattle.command_edge.specs.declared.ending.Ending.TheVariants as ending
+use Rattle.command_edge.specs.declared.fault.InputFault.{InputFault}
+use Rattle.command_edge.specs.declared.fault.InputFault.TheVariants as input
+use Rattle.command_edge.specs.declared.fault.OwnFault.TheVariants as own
 use Rattle.symnet_program.specs.Program.{Cause, Comes}
-use Rattle.exit_status.specs.Status.{MayStop, outcome_status}
+use Rattle.exit_status.specs.Status.{outcome_status}
+use Rattle.symnet_program.specs.Told.{MayStop}
 use Rattle.exit_status.specs.declared.status.Status.{Status}
 use Rattle.exit_status.specs.declared.status.Status.TheVariants.{Done, NoMemory, Usage, NoFile, ReadFault, WriteFault, TooBig, Syntax, BadPattern, Refused, BadTable, BadPacket, Partial, TooMany, BadReport, NotConfirmed, BadAsk, BadCompare}
 

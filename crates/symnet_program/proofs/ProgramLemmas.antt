@@ -1,23 +1,27 @@
 -- What a status says of a run, once for all commands.
-use Rattle.std.proofs.Common.{◌≡◌, ◌⊎◌, inl, inr, ◌∙◌, ap, sym, subst, refl, List, [], ◌∷◌, ℕ, Option, Some, None, Bool, Result, Ok, Err}
+use Rattle.std.proofs.Common.{◌≡◌, ◌⊎◌, inl, inr, ◌∙◌, ap, sym, subst, refl, List, [], ◌∷◌, ℕ, Option, Some, None, Bool, Result, Ok, Err, arith}
 use Rattle.std.proofs.lemmas.List.{append-nil}
 use Rattle.std.proofs.lemmas.Option.{same_Some}
 use Rattle.std.specs.Io.KnownBytes.{append_known}
+use Rattle.sn_edge.specs.Told.{FolderTold, PatternsTold, SinkTold}
 use Rattle.sn_edge.specs.declared.patterns.Found.{Found}
 use Rattle.run_answers.specs.Outside.{Outside, World, Tells, outside, world}
 use Rattle.net_check.specs.Network.{Network, Entry}
 use Rattle.run_answers.specs.Inputs.{Input, Given, a_net, AllOpen, FirstFails, IsSettled}
-use Rattle.run_answers.specs.Runs.{OwnWork, Outcome, text, refused, InputShows, IsRefusal, Runs, Shows}
-use Rattle.run_answers.specs.declared.fault.InputFault.{InputFault}
-use Rattle.run_answers.specs.declared.fault.InputFault.TheVariants as input
-use Rattle.run_answers.specs.declared.fault.OwnFault.{OwnFault}
-use Rattle.run_answers.specs.declared.fault.OwnFault.TheVariants as own
-use Rattle.run_answers.specs.declared.ending.Ending.{Ending}
-use Rattle.run_answers.specs.declared.ending.Ending.TheVariants as ending
-use Rattle.run_answers.specs.declared.ending.Stop.{Stop}
-use Rattle.run_answers.specs.declared.ending.Stop.TheVariants.{Input as ByInput, Own, Write, NoMemory as NoRoom}
+use Rattle.command_edge.specs.Files.{InputShows}
+use Rattle.command_edge.specs.Puts.{Outcome, text, refused}
+use Rattle.run_answers.specs.Runs.{OwnWork, IsRefusal, Runs, Shows}
+use Rattle.command_edge.specs.declared.fault.InputFault.{InputFault}
+use Rattle.command_edge.specs.declared.fault.InputFault.TheVariants as input
+use Rattle.command_edge.specs.declared.fault.OwnFault.{OwnFault}
+use Rattle.command_edge.specs.declared.fault.OwnFault.TheVariants as own
+use Rattle.command_edge.specs.declared.ending.Ending.{Ending}
+use Rattle.command_edge.specs.declared.ending.Ending.TheVariants as ending
+use Rattle.command_edge.specs.declared.ending.Stop.{Stop}
+use Rattle.command_edge.specs.declared.ending.Stop.TheVariants.{Input as ByInput, Own, Write, NoMemory as NoRoom}
 use Rattle.symnet_program.proofs.ToldLemmas.{first_told, all_told}
-use Rattle.exit_status.specs.Status.{MayBeUnread, input_status, own_status, status_of}
+use Rattle.exit_status.specs.Status.{input_status, own_status, status_of}
+use Rattle.symnet_program.specs.Told.{MayBeUnread}
 use Rattle.symnet_program.specs.Commands.{inputs, sides_of, work}
 use Rattle.explore_command.specs.Explores.{IsReport}
 use Rattle.explore_command.specs.Headline.{IsHeadline, MayBeShown}
@@ -97,27 +101,27 @@ module _ {S : Type 0} (o : Outside S) (u v : S) (is : List Input) (w : OwnWork) 
 
   -- ---- with no count raised
 
-  pub complete_of : (failed missed passed raised broken : Type 0) (status : Status) → Shown failed missed passed raised broken status
-      → (failed → ⊥) → (missed → ⊥) → (passed → ⊥) → (broken → ⊥) → ((s : Status) → RefusesInput s → Cause o u v is w s → ⊥)
+  pub complete_of : (old new : FolderTold) (before after : PatternsTold) (held now : SinkTold) (status : Status) → Shown old new before after held now status
+      → new ≡ old → now.faults ≡ held.faults → ((s : Status) → RefusesInput s → Cause o u v is w s → ⊥)
       → Cause o u v is w status → IsAnswered status
-  complete_of failed missed passed raised broken Done s f m p b good h = tt
-  complete_of failed missed passed raised broken NoMemory s f m p b good h = tt
-  complete_of failed missed passed raised broken Partial s f m p b good h = tt
-  complete_of failed missed passed raised broken (TooMany count) s f m p b good h = tt
-  complete_of failed missed passed raised broken (NotConfirmed number kind) s f m p b good h = tt
-  complete_of failed missed passed raised broken Usage s f m p b good h = h
-  complete_of failed missed passed raised broken (NoFile name) s f m p b good h = m s
-  complete_of failed missed passed raised broken (ReadFault name) s f m p b good h = f s
-  complete_of failed missed passed raised broken (TooBig name) s f m p b good h = p s
-  complete_of failed missed passed raised broken WriteFault s f m p b good h = b s
-  complete_of failed missed passed raised broken (Syntax line column kind) s f m p b good h = good (Syntax line column kind) tt h
-  complete_of failed missed passed raised broken (BadPattern site) s f m p b good h = good (BadPattern site) tt h
-  complete_of failed missed passed raised broken (Refused site kind) s f m p b good h = good (Refused site kind) tt h
-  complete_of failed missed passed raised broken (BadTable name line kind) s f m p b good h = good (BadTable name line kind) tt h
-  complete_of failed missed passed raised broken (BadPacket kind) s f m p b good h = good (BadPacket kind) tt h
-  complete_of failed missed passed raised broken (BadReport kind pointer) s f m p b good h = good (BadReport kind pointer) tt h
-  complete_of failed missed passed raised broken (BadAsk number kind) s f m p b good h = good (BadAsk number kind) tt h
-  complete_of failed missed passed raised broken (BadCompare kind one other) s f m p b good h = tt
+  complete_of old new before after held now Done s f b good h = tt
+  complete_of old new before after held now NoMemory s f b good h = tt
+  complete_of old new before after held now Partial s f b good h = tt
+  complete_of old new before after held now (TooMany count) s f b good h = tt
+  complete_of old new before after held now (NotConfirmed number kind) s f b good h = tt
+  complete_of old new before after held now Usage s f b good h = h
+  complete_of old new before after held now (NoFile name) s f b good h = absurd (omega (arith, s, ap (λ t. t.misses) f))
+  complete_of old new before after held now (ReadFault name) s f b good h = absurd (omega (arith, s, ap (λ t. t.faults) f))
+  complete_of old new before after held now (TooBig name) s f b good h = absurd (omega (arith, s, ap (λ t. t.excesses) f))
+  complete_of old new before after held now WriteFault s f b good h = absurd (omega (arith, s, b))
+  complete_of old new before after held now (Syntax line column kind) s f b good h = good (Syntax line column kind) tt h
+  complete_of old new before after held now (BadPattern site) s f b good h = good (BadPattern site) tt h
+  complete_of old new before after held now (Refused site kind) s f b good h = good (Refused site kind) tt h
+  complete_of old new before after held now (BadTable name line kind) s f b good h = good (BadTable name line kind) tt h
+  complete_of old new before after held now (BadPacket kind) s f b good h = good (BadPacket kind) tt h
+  complete_of old new before after held now (BadReport kind pointer) s f b good h = good (BadReport kind pointer) tt h
+  complete_of old new before after held now (BadAsk number kind) s f b good h = good (BadAsk number kind) tt h
+  complete_of old new before after held now (BadCompare kind one other) s f b good h = tt
 
 -- ---- in a world
 
@@ -148,13 +152,13 @@ module _ {S : Type 0} (o : Outside S) (u v : S) (is : List Input) (w : OwnWork) 
   cause_in (BadAsk number kind) h = comes (refused (own.BadAsk number kind)) h
   cause_in (BadCompare kind one other) h = comes (refused (own.BadCompare kind one other)) h
 
-pub told_of : {S : Type 0} (files : Option (List ℕ → Option (List ℕ))) (matches : S → Option (List ℕ → List ℕ → Bool)) (bad : S → Option (List ℕ → Bool)) (refusals : S → ℕ) (gives : S → List ℕ → List ℕ → Found → S → Type 0) (u v : S) (is : List Input) (w : OwnWork) (p : World)
-    → Tells files matches bad u p → (status : Status) → Cause (outside files matches bad refusals gives) u v is w status → Cause (world p) tt tt is w status
-told_of files matches bad refusals gives u v is w p told status h =
-    let known : (matches u ≡ p.finds) × (bad u ≡ p.is_bad) = (told.finds_told, told.bad_told) in
-    cause_in (outside (Some p.at) matches bad refusals gives) u v is w p (λ fault. first_told matches bad refusals gives p u v is fault known)
-    (λ given. all_told matches bad refusals gives p u v is given known) status
-    (subst (λ fs. Cause (outside fs matches bad refusals gives) u v is w status) told.files_told h)
+pub told_of : {S : Type 0} (files : Option (List ℕ → Option (List ℕ))) (patterns : S → PatternsTold) (gives : S → List ℕ → List ℕ → Found → S → Type 0) (u v : S) (is : List Input) (w : OwnWork) (p : World)
+    → Tells files (patterns u) p → (status : Status) → Cause (outside files patterns gives) u v is w status → Cause (world p) tt tt is w status
+told_of files patterns gives u v is w p told status h =
+    let known : ((patterns u).matches ≡ p.finds) × ((patterns u).bad ≡ p.is_bad) = (told.finds_told, told.bad_told) in
+    cause_in (outside (Some p.at) patterns gives) u v is w p (λ fault. first_told patterns gives p u v is fault known)
+    (λ given. all_told patterns gives p u v is given known) status
+    (subst (λ fs. Cause (outside fs patterns gives) u v is w status) told.files_told h)
 
 -- the inputs of a world are refused in one way, and then they are not all good
 pub record Decides (p : World) : Type 0 where
@@ -228,87 +232,87 @@ unwritten o u known (Some c) = ([], inl refl, gains_nothing known known refl)
 
 -- ---- of the call: the words said the command c, and the run of it came to the answer that the status tells
 
-module _ {S : Type 0} (files : Option (List ℕ → Option (List ℕ))) (matches : S → Option (List ℕ → List ℕ → Bool)) (bad : S → Option (List ℕ → Bool)) (refusals : S → ℕ) (gives : S → List ℕ → List ℕ → Found → S → Type 0) (u v : S)
+module _ {S : Type 0} (files : Option (List ℕ → Option (List ℕ))) (patterns : S → PatternsTold) (gives : S → List ℕ → List ℕ → Found → S → Type 0) (u v : S)
     (known now : Option (List ℕ)) (said : Option Command) (c : Command) (named : Some c ≡ said) (answer : Result Ending Stop) (status : Status) (tells : status ≡ status_of answer)
-    (ran : Runs known now (outside files matches bad refusals gives) u v (inputs c) (work c) answer) where
-  caused : Cause (outside files matches bad refusals gives) u v (inputs c) (work c) status
+    (ran : Runs known now (outside files patterns gives) u v (inputs c) (work c) answer) where
+  caused : Cause (outside files patterns gives) u v (inputs c) (work c) status
   caused =
-      subst (Cause (outside files matches bad refusals gives) u v (inputs c) (work c)) (sym tells)
-      (cause_of (outside files matches bad refusals gives) u v (inputs c) (work c) known now answer ran)
+      subst (Cause (outside files patterns gives) u v (inputs c) (work c)) (sym tells)
+      (cause_of (outside files patterns gives) u v (inputs c) (work c) known now answer ran)
 
-  pub cause_said : IsCaused (outside files matches bad refusals gives) u v said status
-  cause_said = subst (λ r. IsCaused (outside files matches bad refusals gives) u v r status) named caused
+  pub cause_said : IsCaused (outside files patterns gives) u v said status
+  cause_said = subst (λ r. IsCaused (outside files patterns gives) u v r status) named caused
 
-  pub written_said : (part : List ℕ) × MayWrite (outside files matches bad refusals gives) u v said status part × (now ≡ append_known known part)
+  pub written_said : (part : List ℕ) × MayWrite (outside files patterns gives) u v said status part × (now ≡ append_known known part)
   written_said =
-      let (part, writes, gained) = written_of (outside files matches bad refusals gives) u v (inputs c) (work c) known now answer ran in (
+      let (part, writes, gained) = written_of (outside files patterns gives) u v (inputs c) (work c) known now answer ran in (
         part,
-        subst (λ r. MayWrite (outside files matches bad refusals gives) u v r status part) named
-            (subst (λ s. Writes (outside files matches bad refusals gives) u v (inputs c) (work c) s part) (sym tells) writes),
+        subst (λ r. MayWrite (outside files patterns gives) u v r status part) named
+            (subst (λ s. Writes (outside files patterns gives) u v (inputs c) (work c) s part) (sym tells) writes),
         gained,
       )
 
   pub headline_said : HasRanges c → (job : List ℕ) (hops limit : ℕ) (pruned : Pruned)
       → ((net : Network) (i : Entry) (whole : List ℕ) → IsReport hops limit (sides_of pruned) net i ending.Done whole → IsHeadline net i hops limit (sides_of pruned) whole)
       → said ≡ Some (explore job hops limit pruned) → status ≡ Done
-      → (whole : List ℕ) × TellsJob (outside files matches bad refusals gives) u v job hops limit (sides_of pruned) whole × (now ≡ append_known known whole)
+      → (whole : List ℕ) × TellsJob (outside files patterns gives) u v job hops limit (sides_of pruned) whole × (now ≡ append_known known whole)
   headline_said ranged job hops limit pruned law is done =
       let (part, writes, gained) = written_said in (
         part,
-        job_told (outside files matches bad refusals gives) u v hops limit pruned
+        job_told (outside files patterns gives) u v hops limit pruned
             (shown_of c job hops limit pruned (same_Some c (explore job hops limit pruned) (named ∙ is)) ranged) law job part
-            (subst (λ r. MayWrite (outside files matches bad refusals gives) u v r Done part) is
-            (subst (λ s. MayWrite (outside files matches bad refusals gives) u v said s part) done writes)),
+            (subst (λ r. MayWrite (outside files patterns gives) u v r Done part) is
+            (subst (λ s. MayWrite (outside files patterns gives) u v said s part) done writes)),
         gained,
       )
 
-  pub told_said : (p : World) → Tells files matches bad u p → IsCaused (world p) tt tt said status
+  pub told_said : (p : World) → Tells files (patterns u) p → IsCaused (world p) tt tt said status
   told_said p told =
-      subst (λ r. IsCaused (world p) tt tt r status) named (told_of files matches bad refusals gives u v (inputs c) (work c) p told status caused)
+      subst (λ r. IsCaused (world p) tt tt r status) named (told_of files patterns gives u v (inputs c) (work c) p told status caused)
 
-  pub exact_said : (command : Command) (p : World) (fault : InputFault) → Decides p → said ≡ Some command → Tells files matches bad u p
+  pub exact_said : (command : Command) (p : World) (fault : InputFault) → Decides p → said ≡ Some command → Tells files (patterns u) p
       → FirstFails (world p) tt (inputs command) fault tt → IsSettled p fault → (status ≡ input_status fault) ⊎ MayBeUnread p status
   exact_said command p fault decides is told fails settled =
       exact_of (inputs command) (work command) p decides fault settled fails status
       (subst (λ r. IsCaused (world p) tt tt r status) is (told_said p told))
 
-  pub complete_said : (command : Command) (failed missed passed raised broken : Type 0) → said ≡ Some command → Shown failed missed passed raised broken status
-      → (failed → ⊥) → (missed → ⊥) → (passed → ⊥) → (broken → ⊥)
-      → ((s : Status) → RefusesInput s → Cause (outside files matches bad refusals gives) u v (inputs command) (work command) s → ⊥) → IsAnswered status
-  complete_said command failed missed passed raised broken is shown f m p b good =
-      complete_of (outside files matches bad refusals gives) u v (inputs command) (work command) failed missed passed raised broken status shown f m p b good
-      (subst (λ r. IsCaused (outside files matches bad refusals gives) u v r status) is cause_said)
+  pub complete_said : (command : Command) (old new : FolderTold) (before after : PatternsTold) (held sink : SinkTold) → said ≡ Some command
+      → Shown old new before after held sink status → new ≡ old → sink.faults ≡ held.faults
+      → ((s : Status) → RefusesInput s → Cause (outside files patterns gives) u v (inputs command) (work command) s → ⊥) → IsAnswered status
+  complete_said command old new before after held sink is shown f b good =
+      complete_of (outside files patterns gives) u v (inputs command) (work command) old new before after held sink status shown f b good
+      (subst (λ r. IsCaused (outside files patterns gives) u v r status) is cause_said)
 
 -- the counts that rose, by the status
-shown_input : (failed missed passed raised broken : Type 0) (fault : InputFault) → InputShows failed missed passed raised fault → Shown failed missed passed raised broken (input_status fault)
-shown_input failed missed passed raised broken (input.NoFile name) h = h
-shown_input failed missed passed raised broken (input.ReadFault name) h = h
-shown_input failed missed passed raised broken (input.TooBig name) h = h
-shown_input failed missed passed raised broken (input.BadPattern site) h = h
-shown_input failed missed passed raised broken (input.Syntax line column kind) h = tt
-shown_input failed missed passed raised broken (input.BadTable name line kind) h = tt
-shown_input failed missed passed raised broken (input.Refused site kind) h = tt
-shown_input failed missed passed raised broken input.NoMemory h = tt
+shown_input : (old new : FolderTold) (before after : PatternsTold) (held now : SinkTold) (fault : InputFault) → InputShows old new before after fault → Shown old new before after held now (input_status fault)
+shown_input old new before after held now (input.NoFile name) h = h
+shown_input old new before after held now (input.ReadFault name) h = h
+shown_input old new before after held now (input.TooBig name) h = h
+shown_input old new before after held now (input.BadPattern site) h = h
+shown_input old new before after held now (input.Syntax line column kind) h = tt
+shown_input old new before after held now (input.BadTable name line kind) h = tt
+shown_input old new before after held now (input.Refused site kind) h = tt
+shown_input old new before after held now input.NoMemory h = tt
 
-shown_own : (failed missed passed raised broken : Type 0) (fault : OwnFault) → Shown failed missed passed raised broken (own_status fault)
-shown_own failed missed passed raised broken (own.BadTable name line kind) = tt
-shown_own failed missed passed raised broken (own.BadPacket kind) = tt
-shown_own failed missed passed raised broken (own.TooMany count) = tt
-shown_own failed missed passed raised broken (own.BadReport kind pointer) = tt
-shown_own failed missed passed raised broken (own.NotConfirmed number kind) = tt
-shown_own failed missed passed raised broken (own.BadAsk number kind) = tt
-shown_own failed missed passed raised broken (own.BadCompare kind one other) = tt
-shown_own failed missed passed raised broken own.NoMemory = tt
+shown_own : (old new : FolderTold) (before after : PatternsTold) (held now : SinkTold) (fault : OwnFault) → Shown old new before after held now (own_status fault)
+shown_own old new before after held now (own.BadTable name line kind) = tt
+shown_own old new before after held now (own.BadPacket kind) = tt
+shown_own old new before after held now (own.TooMany count) = tt
+shown_own old new before after held now (own.BadReport kind pointer) = tt
+shown_own old new before after held now (own.NotConfirmed number kind) = tt
+shown_own old new before after held now (own.BadAsk number kind) = tt
+shown_own old new before after held now (own.BadCompare kind one other) = tt
+shown_own old new before after held now own.NoMemory = tt
 
-shown_answer : (failed missed passed raised broken : Type 0) (answer : Result Ending Stop) → Shows failed missed passed raised broken answer → Shown failed missed passed raised broken (status_of answer)
-shown_answer failed missed passed raised broken (Ok ending.Done) h = tt
-shown_answer failed missed passed raised broken (Ok ending.Partial) h = tt
-shown_answer failed missed passed raised broken (Err (ByInput fault)) h = shown_input failed missed passed raised broken fault h
-shown_answer failed missed passed raised broken (Err (Own fault)) h = shown_own failed missed passed raised broken fault
-shown_answer failed missed passed raised broken (Err Write) h = h
-shown_answer failed missed passed raised broken (Err NoRoom) h = tt
+shown_answer : (old new : FolderTold) (before after : PatternsTold) (held now : SinkTold) (answer : Result Ending Stop) → Shows old new before after held now answer → Shown old new before after held now (status_of answer)
+shown_answer old new before after held now (Ok ending.Done) h = tt
+shown_answer old new before after held now (Ok ending.Partial) h = tt
+shown_answer old new before after held now (Err (ByInput fault)) h = shown_input old new before after held now fault h
+shown_answer old new before after held now (Err (Own fault)) h = shown_own old new before after held now fault
+shown_answer old new before after held now (Err Write) h = h
+shown_answer old new before after held now (Err NoRoom) h = tt
 
-pub shown_said : (failed missed passed raised broken : Type 0) (answer : Result Ending Stop) (status : Status) → status ≡ status_of answer
-    → Shows failed missed passed raised broken answer → Shown failed missed passed raised broken status
-shown_said failed missed passed raised broken answer status tells h =
-    subst (Shown failed missed passed raised broken) (sym tells) (shown_answer failed missed passed raised broken answer h)
+pub shown_said : (old new : FolderTold) (before after : PatternsTold) (held now : SinkTold) (answer : Result Ending Stop) (status : Status) → status ≡ status_of answer
+    → Shows old new before after held now answer → Shown old new before after held now status
+shown_said old new before after held now answer status tells h =
+    subst (Shown old new before after held now) (sym tells) (shown_answer old new before after held now answer h)

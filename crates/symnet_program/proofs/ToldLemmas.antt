@@ -1,5 +1,6 @@
 -- What a run of a call is where its outside tells a world.
-use Rattle.std.proofs.Common.{◌≡◌, inl, inr, ◌∙◌, sym, subst, refl, List, [], ◌∷◌, ℕ, Option, Some, None, Bool}
+use Rattle.std.proofs.Common.{◌≡◌, inl, inr, ◌∙◌, sym, subst, refl, List, [], ◌∷◌, ℕ, Some, None}
+use Rattle.sn_edge.specs.Told.{PatternsTold}
 use Rattle.sn_edge.specs.declared.patterns.Found.{Found}
 use Rattle.std.specs.Option.{ForSome}
 use Rattle.sefl_syntax.specs.Trees.{JobTree}
@@ -7,16 +8,16 @@ use Rattle.net_check.specs.Network.{Network, Entry}
 use Rattle.run_answers.specs.Jobs.{AcceptFails, ListsFound, first_bad}
 use Rattle.run_answers.specs.Outside.{Outside, World, outside, world}
 use Rattle.run_answers.specs.Inputs.{Input, Given, a_job, a_made_job, a_file, AllOpen, FirstFails, Opens, Fails}
-use Rattle.run_answers.specs.declared.fault.InputFault.{InputFault}
-use Rattle.run_answers.specs.declared.fault.InputFault.TheVariants.{BadPattern, Refused, NoMemory}
+use Rattle.command_edge.specs.declared.fault.InputFault.{InputFault}
+use Rattle.command_edge.specs.declared.fault.InputFault.TheVariants.{BadPattern, Refused, NoMemory}
 
-module _ {S : Type 0} (matches : S → Option (List ℕ → List ℕ → Bool)) (bad : S → Option (List ℕ → Bool)) (refusals : S → ℕ) (gives : S → List ℕ → List ℕ → Found → S → Type 0) (w : World) where
+module _ {S : Type 0} (told : S → PatternsTold) (gives : S → List ℕ → List ℕ → Found → S → Type 0) (w : World) where
   abbrev call : Outside S
-  call = outside (Some w.at) matches bad refusals gives
+  call = outside (Some w.at) told gives
 
   -- in the state the patterns tell the world
   abbrev Known : S → Type 0
-  Known u = (matches u ≡ w.finds) × (bad u ≡ w.is_bad)
+  Known u = ((told u).matches ≡ w.finds) × ((told u).bad ≡ w.is_bad)
 
   accept_told : (u v : S) (j : JobTree) (fault : InputFault) → Known u → AcceptFails call.refuses u j fault v → AcceptFails (world w).refuses tt j fault tt
   accept_told u v j (Refused site kind) known h = (h.0, refl)
@@ -44,11 +45,11 @@ module _ {S : Type 0} (matches : S → Option (List ℕ → List ℕ → Bool)) 
       taken_told u v j net i known taken,
       is,
     ),
-    (taken.matches_kept ∙ known.0, taken.bad_kept ∙ known.1),
+    (taken.kept.matches ∙ known.0, taken.kept.bad ∙ known.1),
   )
   opens_told u v (a_made_job j) given known (net, i, taken, is) = (
     (net, i, taken_told u v j net i known taken, is),
-    (taken.matches_kept ∙ known.0, taken.bad_kept ∙ known.1),
+    (taken.kept.matches ∙ known.0, taken.kept.bad ∙ known.1),
   )
 
   fails_told : (u v : S) (i : Input) (fault : InputFault) → Known u → Fails call u i fault v → Fails (world w) tt i fault tt

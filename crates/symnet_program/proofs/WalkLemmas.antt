@@ -7,19 +7,19 @@ use Rattle.sefl_syntax.specs.Trees.{JobTree}
 use Rattle.net_check.specs.Network.{Network, Entry}
 use Rattle.net_check.specs.Sound.{IsSound}
 use Rattle.packet_file.specs.Packet.{packet_of}
-use Rattle.run_answers.specs.Files.{LoadFails}
+use Rattle.command_edge.specs.Files.{LoadFails}
 use Rattle.run_answers.specs.Jobs.{HasFilled, ListsFound, first_bad}
 use Rattle.run_answers.specs.Outside.{World, world}
 use Rattle.run_answers.specs.Inputs.{Given, a_job, a_file, a_net, some_bytes, AllOpen, Opens, IsSettled}
-use Rattle.run_answers.specs.Runs.{Outcome}
-use Rattle.run_answers.specs.declared.limits.TheConstants.{FILE_LIMIT}
-use Rattle.run_answers.specs.declared.fault.InputFault.{InputFault}
-use Rattle.run_answers.specs.declared.fault.InputFault.TheVariants as input
+use Rattle.command_edge.specs.Puts.{Outcome}
+use Rattle.command_edge.specs.declared.limits.TheConstants.{FILE_LIMIT}
+use Rattle.command_edge.specs.declared.fault.InputFault.{InputFault}
+use Rattle.command_edge.specs.declared.fault.InputFault.TheVariants as input
 use Rattle.walk_command.specs.Walks.{WalksOf}
 use Rattle.symnet_program.specs.Commands.{inputs, work}
 use Rattle.symnet_program.specs.Program.{IsCaused}
-use Rattle.exit_status.specs.Status.{IsUnread, MayBeBad, MayBeUnread, MayStop, OrBad, input_status, outcome_status}
-use Rattle.symnet_program.specs.Told.{TellsNet}
+use Rattle.exit_status.specs.Status.{IsUnread, MayBeBad, OrBad, input_status, outcome_status}
+use Rattle.symnet_program.specs.Told.{MayBeUnread, MayStop, TellsNet}
 use Rattle.command_words.specs.Commands.{walk}
 use Rattle.exit_status.specs.declared.status.Status.{Status}
 use Rattle.exit_status.specs.declared.status.Status.TheVariants.{NoMemory, NoFile, ReadFault, WriteFault, TooBig, BadPattern}

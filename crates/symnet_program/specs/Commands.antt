@@ -2,7 +2,7 @@
 use Rattle.std.specs.Prelude.{ℕ, ◌≡◌, List, [], ◌∷◌}
 use Rattle.run_answers.specs.Inputs.{Input, a_job, a_made_job, a_file}
 use Rattle.run_answers.specs.Runs.{OwnWork, one_piece}
-use Rattle.run_answers.specs.declared.limits.TheConstants.{FILE_LIMIT}
+use Rattle.command_edge.specs.declared.limits.TheConstants.{FILE_LIMIT}
 use Rattle.explore_command.specs.Explores.{explore_work}
 use Rattle.ask_command.specs.Asks.{AskComes}
 use Rattle.job_gen.specs.Grown.{grown}

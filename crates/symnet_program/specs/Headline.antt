@@ -4,7 +4,7 @@ use Rattle.sefl_syntax.specs.Trees.{JobTree}
 use Rattle.net_check.specs.Network.{Network, Entry}
 use Rattle.run_answers.specs.Jobs.{HasFilled}
 use Rattle.run_answers.specs.Outside.{Outside}
-use Rattle.run_answers.specs.declared.ending.Ending.TheVariants.{Done}
+use Rattle.command_edge.specs.declared.ending.Ending.TheVariants.{Done}
 use Rattle.record_lines.specs.declared.lines.RefutedSides.{RefutedSides}
 use Rattle.record_lines.specs.declared.lines.RefutedSides.TheVariants.{Written}
 use Rattle.explore_command.specs.Headline.{IsHeadline, IsReadBack}

@@ -1,12 +1,14 @@
 -- Why the program answers so, and what it wrote.
-use Rattle.std.specs.Prelude.{ℕ, ◌≡◌, ◌⊎◌, List, [], Option, None, Some}
+use Rattle.std.specs.Prelude.{ℕ, ◌≡◌, ◌⊎◌, ◌<◌, List, [], Option, None, Some}
+use Rattle.sn_edge.specs.Told.{FolderTold, PatternsTold, SinkTold}
 use Rattle.run_answers.specs.Outside.{Outside}
 use Rattle.run_answers.specs.Inputs.{Input, Given, AllOpen, FirstFails}
-use Rattle.run_answers.specs.Runs.{OwnWork, Outcome, text, refused}
-use Rattle.run_answers.specs.declared.fault.InputFault.{InputFault}
-use Rattle.run_answers.specs.declared.fault.InputFault.TheVariants as input
-use Rattle.run_answers.specs.declared.fault.OwnFault.TheVariants as own
-use Rattle.run_answers.specs.declared.ending.Ending.TheVariants as ending
+use Rattle.command_edge.specs.Puts.{Outcome, text, refused}
+use Rattle.run_answers.specs.Runs.{OwnWork}
+use Rattle.command_edge.specs.declared.fault.InputFault.{InputFault}
+use Rattle.command_edge.specs.declared.fault.InputFault.TheVariants as input
+use Rattle.command_edge.specs.declared.fault.OwnFault.TheVariants as own
+use Rattle.command_edge.specs.declared.ending.Ending.TheVariants as ending
 use Rattle.command_words.specs.Commands.{Command}
 use Rattle.symnet_program.specs.Commands.{inputs, work}
 use Rattle.exit_status.specs.declared.status.Status.{Status}
@@ -61,14 +63,15 @@ module _ {S : Type 0} (o : Outside S) (u v : S) where
   MayWrite None status part = part ≡ []
   MayWrite (Some c) status part = Writes o u v (inputs c) (work c) status part
 
--- the count that rose with each: of the folder faults, misses and excesses; of the patterns refusals; of the sink faults
-abbrev pub Shown : (failed missed passed raised broken : Type 0) → Status → Type 0
-Shown failed missed passed raised broken (NoFile name) = missed
-Shown failed missed passed raised broken (ReadFault name) = failed
-Shown failed missed passed raised broken (TooBig name) = passed
-Shown failed missed passed raised broken (BadPattern site) = raised
-Shown failed missed passed raised broken WriteFault = broken
-Shown failed missed passed raised broken _ = Unit {0}
+-- the count that rose with each: of the folder, of the patterns, or of the sink
+module _ (old new : FolderTold) (before after : PatternsTold) (held now : SinkTold) where
+  abbrev pub Shown : Status → Type 0
+  Shown (NoFile name) = old.misses < new.misses
+  Shown (ReadFault name) = old.faults < new.faults
+  Shown (TooBig name) = old.excesses < new.excesses
+  Shown (BadPattern site) = before.refusals < after.refusals
+  Shown WriteFault = held.faults < now.faults
+  Shown _ = Unit {0}
 
 -- a job, a table, a packet, a report or a question is refused with this status
 abbrev pub RefusesInput : Status → Type 0

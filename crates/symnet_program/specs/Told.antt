@@ -1,12 +1,29 @@
--- What a world tells of the job of `walk`.
-use Rattle.std.specs.Prelude.{ℕ, ◌≡◌, ◌≤◌, Bool, List, length, Some}
+-- How the program may stop in a world, and what that tells of the job of `walk`.
+use Rattle.std.specs.Prelude.{ℕ, ◌≡◌, ◌≤◌, Bool, List, length, None, Some}
 use Rattle.sefl_syntax.specs.Trees.{JobTree}
 use Rattle.net_check.specs.Network.{Network, Entry}
 use Rattle.net_check.specs.Sound.{IsSound, IsNetOf, IsEntryOf}
 use Rattle.run_answers.specs.Jobs.{IsTextOf, ListsFound}
 use Rattle.run_answers.specs.Outside.{World}
 use Rattle.run_answers.specs.Tables.{IsFilled}
-use Rattle.run_answers.specs.declared.limits.TheConstants.{FILE_LIMIT}
+use Rattle.command_edge.specs.declared.limits.TheConstants.{FILE_LIMIT}
+use Rattle.exit_status.specs.declared.status.Status.{Status}
+use Rattle.exit_status.specs.declared.status.Status.TheVariants.{NoMemory, ReadFault, WriteFault, BadPattern}
+
+-- the outside failed, or there was no memory; or a pattern was refused, where it is not told which are bad
+abbrev pub MayStop : World → Status → Type 0
+MayStop w NoMemory = Unit {0}
+MayStop w (ReadFault name) = Unit {0}
+MayStop w WriteFault = Unit {0}
+MayStop w (BadPattern site) = w.is_bad ≡ None
+MayStop w _ = ⊥
+
+-- a file was not read, or there was no memory; or a pattern was refused, where it is not told which are bad
+abbrev pub MayBeUnread : World → Status → Type 0
+MayBeUnread w NoMemory = Unit {0}
+MayBeUnread w (ReadFault name) = Unit {0}
+MayBeUnread w (BadPattern site) = w.is_bad ≡ None
+MayBeUnread w _ = ⊥
 
 -- The file under the name has a text of a job that with code for its tables breaks no rule, these are the net and the injection
 -- of that, and it is told what its patterns find: what the net lists.

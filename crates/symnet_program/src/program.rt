@@ -1,15 +1,17 @@
 //! The program's top call.
 
-ghost use Rattle.std.specs.Prelude.{◌≡◌, ◌⊎◌, ◌<◌, ◌≤◌, List, ℕ, Some, None, IsSome};
+ghost use Rattle.std.specs.Prelude.{◌≡◌, ◌⊎◌, List, ℕ, Some, None, IsSome};
 ghost use Rattle.std.specs.Io.KnownBytes.{append_known};
+ghost use Rattle.sn_edge.specs.Told.{FolderKept, PatternsKept, SinkKept};
 ghost use Rattle.run_answers.specs.Inputs.{FirstFails, IsSettled};
 ghost use Rattle.run_answers.specs.Outside.{Tells, World, outside, world};
 ghost use Rattle.run_answers.specs.Runs.{Runs, Shows};
-ghost use Rattle.run_answers.specs.declared.fault.InputFault.{InputFault as InputFaultOf};
+ghost use Rattle.command_edge.specs.declared.fault.InputFault.{InputFault as InputFaultOf};
 ghost use Rattle.symnet_program.specs.Commands.{inputs, kind_of, sides_of, style_of, work};
 ghost use Rattle.symnet_program.specs.Headline.{TellsJob};
 ghost use Rattle.symnet_program.specs.Program.{Cause, IsAnswered, IsCaused, MayWrite, RefusesInput, Shown};
-ghost use Rattle.exit_status.specs.Status.{MayBeUnread, input_status};
+ghost use Rattle.exit_status.specs.Status.{input_status};
+ghost use Rattle.symnet_program.specs.Told.{MayBeUnread};
 ghost use Rattle.command_words.specs.Commands.{Command as CommandOf, HasRanges, command_of, explore, reading};
 ghost use Rattle.command_words.specs.declared.command.Pruned.{Pruned as PrunedOf};
 ghost use Rattle.exit_status.specs.declared.status.Status.{Status as StatusOf};
@@ -17,17 +19,18 @@ ghost use Rattle.exit_status.specs.declared.status.Status.TheVariants.{Done, Usa
 
 use ask_command::Ask;
 use click_command::ClickModel;
+use command_edge::{Ending, FILE_LIMIT, Stop};
+use command_inputs::{Both, ByteFile};
 use command_runs::{Piece, run};
 use command_words::{Command, LIMIT, Pruned, Style, Table, reading};
 use exit_status::{Status, status_of};
 use explore_command::laws::finished_reports_tell_all;
 use explore_command::{Explore, RecordLimit, RefutedSides};
 use grow_command::{Grow, GrownJob};
-use job_files::{Both, ByteFile, JobFile};
+use job_files::JobFile;
 use model_command::TableModel;
 use replay_command::{REPORT_LIMIT, Replay};
 use run_answers::laws::worlds_decide;
-use run_answers::{Ending, FILE_LIMIT, Stop};
 use sefl_syntax::{Style as NodeStyle, TableKind};
 use sn_edge::{Folder, Patterns, Sink};
 use std::alloc::Global;
@@ -70,19 +73,13 @@ fn run_command<F: Folder, P: Patterns, K: Sink>(
     out: &mut K,
 ) -> Result<Ending, Stop>
     requires { HasRanges (command_of command) }
-    ensures faults_stay { F.faults folder.old ≤ F.faults folder.new }
-    ensures misses_stay { F.misses folder.old ≤ F.misses folder.new }
-    ensures excesses_stay { F.excesses folder.old ≤ F.excesses folder.new }
-    ensures files_kept { F.files folder.new ≡ F.files folder.old }
-    ensures matches_kept { P.matches patterns.new ≡ P.matches patterns.old }
-    ensures bad_kept { P.bad_patterns patterns.new ≡ P.bad_patterns patterns.old }
-    ensures refusals_stay { P.refusals patterns.old ≤ P.refusals patterns.new }
-    ensures sink_faults_stay { K.faults out.old ≤ K.faults out.new }
-    ensures ran { Runs (K.taken out.old) (K.taken out.new) (outside (F.files folder.old) P.matches P.bad_patterns P.refusals P.find_gives)
+    ensures folder_kept { FolderKept (F.told folder.old) (F.told folder.new) }
+    ensures patterns_kept { PatternsKept (P.told patterns.old) (P.told patterns.new) }
+    ensures out_kept { SinkKept (K.told out.old) (K.told out.new) }
+    ensures ran { Runs (K.told out.old).taken (K.told out.new).taken (outside (F.told folder.old).files P.told P.find_gives)
         patterns.old patterns.new (inputs (command_of command.entry)) (work (command_of command.entry)) result }
-    ensures shows { Shows (F.faults folder.old < F.faults folder.new) (F.misses folder.old < F.misses folder.new)
-        (F.excesses folder.old < F.excesses folder.new) (P.refusals patterns.old < P.refusals patterns.new)
-        (K.faults out.old < K.faults out.new) result }
+    ensures shows { Shows (F.told folder.old) (F.told folder.new) (P.told patterns.old) (P.told patterns.new)
+        (K.told out.old) (K.told out.new) result }
 {
     match command {
         Command::Explore {
@@ -171,49 +168,42 @@ pub fn symnet<F: Folder, P: Patterns, K: Sink>(
     patterns: &mut P,
     out: &mut K,
 ) -> Status
-    // No count falls, and what is told of the outside stays.
-    ensures faults_stay { F.faults folder.old ≤ F.faults folder.new }
-    ensures misses_stay { F.misses folder.old ≤ F.misses folder.new }
-    ensures excesses_stay { F.excesses folder.old ≤ F.excesses folder.new }
-    ensures sink_faults_stay { K.faults out.old ≤ K.faults out.new }
-    ensures refusals_stay { P.refusals patterns.old ≤ P.refusals patterns.new }
-    ensures files_kept { F.files folder.new ≡ F.files folder.old }
-    ensures matches_kept { P.matches patterns.new ≡ P.matches patterns.old }
-    ensures bad_kept { P.bad_patterns patterns.new ≡ P.bad_patterns patterns.old }
+    // What is told of the outside stays, and no count falls.
+    ensures folder_kept { FolderKept (F.told folder.old) (F.told folder.new) }
+    ensures patterns_kept { PatternsKept (P.told patterns.old) (P.told patterns.new) }
+    ensures out_kept { SinkKept (K.told out.old) (K.told out.new) }
 
     // Each status has its cause, and the count of the outside that it blames rose.
     ensures usage { result ≡ Usage → reading words.now ≡ None }
-    ensures cause { IsCaused (outside (F.files folder.old) P.matches P.bad_patterns P.refusals P.find_gives) patterns.old patterns.new (reading words.now) result }
-    ensures shown { Shown (F.faults folder.old < F.faults folder.new) (F.misses folder.old < F.misses folder.new)
-        (F.excesses folder.old < F.excesses folder.new) (P.refusals patterns.old < P.refusals patterns.new)
-        (K.faults out.old < K.faults out.new) result }
+    ensures cause { IsCaused (outside (F.told folder.old).files P.told P.find_gives) patterns.old patterns.new (reading words.now) result }
+    ensures shown { Shown (F.told folder.old) (F.told folder.new) (P.told patterns.old) (P.told patterns.new)
+        (K.told out.old) (K.told out.new) result }
 
     // What the sink gained: the text that the command defines, a beginning of it, or nothing.
     ensures written { (part : List ℕ)
-        × MayWrite (outside (F.files folder.old) P.matches P.bad_patterns P.refusals P.find_gives) patterns.old patterns.new (reading words.now) result part
-        × (K.taken out.new ≡ append_known (K.taken out.old) part) }
+        × MayWrite (outside (F.told folder.old).files P.told P.find_gives) patterns.old patterns.new (reading words.now) result part
+        × ((K.told out.new).taken ≡ append_known (K.told out.old).taken part) }
 
     // The headline: with Done `explore` wrote the report of the job in the file, and this tells all walks of all packets that
     // meet the injection; and with refuted sides written, what is read of it is a report of just its records.
     ensures headline { (job : List ℕ) (hops limit : ℕ) (pruned : PrunedOf) → reading words.now ≡ Some (explore job hops limit pruned) → result ≡ Done
         → (whole : List ℕ)
-        × TellsJob (outside (F.files folder.old) P.matches P.bad_patterns P.refusals P.find_gives) patterns.old patterns.new job hops limit (sides_of pruned) whole
-        × (K.taken out.new ≡ append_known (K.taken out.old) whole) }
+        × TellsJob (outside (F.told folder.old).files P.told P.find_gives) patterns.old patterns.new job hops limit (sides_of pruned) whole
+        × ((K.told out.new).taken ≡ append_known (K.told out.old).taken whole) }
 
     // Where the outside tells a world, the cause is one in that world; and an input that is refused there is refused, unless a file was
     // not read or there was no memory.
-    ensures told { (w : World) → Tells (F.files folder.old) P.matches P.bad_patterns patterns.old w
+    ensures told { (w : World) → Tells (F.told folder.old).files (P.told patterns.old) w
         → IsCaused (world w) tt tt (reading words.now) result }
     ensures exact { (command : CommandOf) (w : World) (fault : InputFaultOf) → reading words.now ≡ Some command
-        → Tells (F.files folder.old) P.matches P.bad_patterns patterns.old w
+        → Tells (F.told folder.old).files (P.told patterns.old) w
         → FirstFails (world w) tt (inputs command) fault tt → IsSettled w fault → (result ≡ input_status fault) ⊎ MayBeUnread w result }
 
     // Where the words have a reading, no count rose and nothing that was read is refused, the command ran to its end.
-    ensures complete { (command : CommandOf) → reading words.now ≡ Some command → F.faults folder.new ≡ F.faults folder.old
-        → F.misses folder.new ≡ F.misses folder.old → F.excesses folder.new ≡ F.excesses folder.old
-        → K.faults out.new ≡ K.faults out.old
+    ensures complete { (command : CommandOf) → reading words.now ≡ Some command
+        → F.told folder.new ≡ F.told folder.old → (K.told out.new).faults ≡ (K.told out.old).faults
         → ((status : StatusOf) → RefusesInput status
-        → Cause (outside (F.files folder.old) P.matches P.bad_patterns P.refusals P.find_gives) patterns.old patterns.new (inputs command) (work command) status → ⊥)
+        → Cause (outside (F.told folder.old).files P.told P.find_gives) patterns.old patterns.new (inputs command) (work command) status → ⊥)
         → IsAnswered result }
 {
     worlds_decide();

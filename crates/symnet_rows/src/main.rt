@@ -3,11 +3,24 @@
 
 mod run;
 
-use row_tables::{Row, differences, read_table};
+use row_tables::{Ending, Row, differences, read_table};
 use run::run_given;
 use std::process::ExitCode;
 use std::rt::Files;
 use std::{env, fs, io};
+
+/// Prints what differs between how a row was to end and how it ended; `place` tells the row.
+fn show_differences<R: Print + AllocGlobal>(
+    rt: &R,
+    place: &str,
+    wanted: &Ending,
+    came: &Ending,
+) -> io::Result<()> {
+    for difference in &differences(rt.alloc(), wanted, came)? {
+        println!(rt; "{place}: {difference}")?;
+    }
+    Ok(())
+}
 
 /// Runs a row, and prints what differs. Whether nothing does.
 fn run_row<R: Print + AllocGlobal>(rt: &R, table: &str, row: Row) -> io::Result<bool> {
@@ -19,13 +32,12 @@ fn run_row<R: Print + AllocGlobal>(rt: &R, table: &str, row: Row) -> io::Result<
         wanted,
     } = row;
     let came = run_given(alloc, given)?;
-    if wanted.is_same(&came) {
-        return Ok(true);
+    let agrees = wanted.is_same(&came);
+    if !agrees {
+        let place = format!(in alloc; "{table}:{line}: {name}")?;
+        show_differences(rt, &place, &wanted, &came)?;
     }
-    for difference in &differences(alloc, &wanted, &came)? {
-        println!(rt; "{table}:{line}: {name}: {difference}")?;
-    }
-    Ok(false)
+    Ok(agrees)
 }
 
 /// Runs all rows of a table, and prints how many there are. Whether each ended as wanted.
@@ -68,7 +80,9 @@ fn run_tables<R: Files + Print + AllocGlobal>(rt: &R, tables: &[String]) -> io::
 }
 
 fn main(rt: HostRuntime) -> io::Result<ExitCode> {
-    let tables: Vec<String> = env::args(&rt)?.skip(1).collect(rt.alloc())?;
+    let mut words = env::args(&rt)?;
+    drop(words.next());
+    let tables: Vec<String> = words.collect(rt.alloc())?;
     if run_tables(&rt, &tables)? {
         Ok(ExitCode::SUCCESS)
     } else {

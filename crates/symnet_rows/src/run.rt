@@ -21,13 +21,22 @@ pub fn run_given(alloc: Global, given: Given) -> Result<Ending, AllocError> {
     let mut patterns = MemPatterns::new(found, bad_patterns);
     let mut out = MemSink::new(failing_puts, kept);
     let status = run_words(alloc, &words, &mut folder, &mut patterns, &mut out);
-    let Ok(error) = status_text(alloc, &status) else {
+    drop(words);
+    drop(folder);
+    drop(patterns);
+    ending_of(alloc, &status, &out)
+}
+
+/// How a run ended that left the sink so.
+fn ending_of(alloc: Global, status: &Status, out: &MemSink) -> Result<Ending, AllocError> {
+    let output = out.bytes().to_vec(alloc)?;
+    let Ok(error) = status_text(alloc, status) else {
         return Err(AllocError);
     };
     Ok(Ending {
         status: status.number(),
         error,
-        output: out.bytes().to_vec(alloc)?,
+        output,
     })
 }
 

@@ -4,10 +4,11 @@ use Rattle.sefl_syntax.specs.Trees.{AskTree}
 use Rattle.net_check.specs.Network.{Network, Entry}
 use Rattle.packet_file.specs.Packet.{packet_of}
 use Rattle.run_answers.specs.Inputs.{a_net, some_bytes}
-use Rattle.run_answers.specs.Runs.{IsRefusal, text}
-use Rattle.run_answers.specs.declared.ending.Ending.TheVariants.{Done}
-use Rattle.run_answers.specs.declared.fault.OwnFault.{OwnFault}
-use Rattle.run_answers.specs.declared.fault.OwnFault.TheVariants.{BadPacket, TooMany, NoMemory}
+use Rattle.command_edge.specs.Puts.{text}
+use Rattle.run_answers.specs.Runs.{IsRefusal}
+use Rattle.command_edge.specs.declared.ending.Ending.TheVariants.{Done}
+use Rattle.command_edge.specs.declared.fault.OwnFault.{OwnFault}
+use Rattle.command_edge.specs.declared.fault.OwnFault.TheVariants.{BadPacket, TooMany, NoMemory}
 use Rattle.walk_command.specs.Walks.{HasTooMany, IsBadPacket, IsNoPacket, IsWalkRefusal, IsWalksText, OfPacket, WalkComes}
 
 module _ (hops limit : ℕ) (net : Network) (i : Entry) (asks : List AskTree) (bytes : List ℕ) where

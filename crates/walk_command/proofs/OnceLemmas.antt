@@ -13,8 +13,8 @@ use Rattle.concrete_run.specs.Starting.{IsFirstOther, IsFirstTooWide, IsStartFau
 use Rattle.concrete_run.specs.declared.injecting.StartFault.{StartFault}
 use Rattle.concrete_run.specs.declared.injecting.StartFault.TheVariants.{Short, ValueTooWide, WhereFalse, NoMemory}
 use Rattle.walk_text.specs.Walks.{walks_text}
-use Rattle.run_answers.specs.Runs.{Outcome, text, refused}
-use Rattle.run_answers.specs.declared.fault.OwnFault.TheVariants.{BadPacket, TooMany}
+use Rattle.command_edge.specs.Puts.{Outcome, text, refused}
+use Rattle.command_edge.specs.declared.fault.OwnFault.TheVariants.{BadPacket, TooMany}
 use Rattle.walk_command.specs.Walks.{HasTooMany, IsNoStart, IsWalksText, WalksOf, start_kind}
 
 -- ---- one start

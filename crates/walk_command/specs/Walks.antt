@@ -10,10 +10,10 @@ use Rattle.concrete_run.specs.declared.walks.WalkFault.{WalkFault}
 use Rattle.concrete_run.specs.declared.walks.WalkFault.TheVariants.{Start, TooMany as More, NoMemory as NoWalks}
 use Rattle.walk_text.specs.Walks.{walks_text}
 use Rattle.run_answers.specs.Inputs.{Given, a_net, some_bytes}
-use Rattle.run_answers.specs.Runs.{Outcome, text, refused}
-use Rattle.run_answers.specs.declared.ending.Ending.TheVariants.{Done}
-use Rattle.run_answers.specs.declared.fault.OwnFault.{OwnFault}
-use Rattle.run_answers.specs.declared.fault.OwnFault.TheVariants.{BadPacket, TooMany, NoMemory}
+use Rattle.command_edge.specs.Puts.{Outcome, text, refused}
+use Rattle.command_edge.specs.declared.ending.Ending.TheVariants.{Done}
+use Rattle.command_edge.specs.declared.fault.OwnFault.{OwnFault}
+use Rattle.command_edge.specs.declared.fault.OwnFault.TheVariants.{BadPacket, TooMany, NoMemory}
 
 -- too few numbers, one that is too wide, a test that is not true
 abbrev pub start_kind : StartFault → Option ℕ

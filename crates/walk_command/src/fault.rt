@@ -3,8 +3,8 @@
 ghost use Rattle.std.specs.Prelude.{◌≡◌};
 ghost use Rattle.walk_command.specs.Walks.{fault_of_start, fault_of_walk};
 
+use command_edge::OwnFault;
 use concrete_run::{StartFault, WalkFault};
-use run_answers::OwnFault;
 
 /// The refusal of a packet that does not start.
 fn fault_of_start(fault: StartFault) -> OwnFault

@@ -2,7 +2,7 @@
 
 ghost use Rattle.std.specs.Prelude.{◌≡◌, ℕ, List, Option};
 ghost use Rattle.net_check.specs.Network.{Entry, Network};
-ghost use Rattle.run_answers.specs.Runs.{Outcome};
+ghost use Rattle.command_edge.specs.Puts.{Outcome};
 ghost use Rattle.walk_command.specs.Walks.{WalksOf};
 
 /// What `walk` comes to of a packet's numbers is one thing: a text, or one refusal.

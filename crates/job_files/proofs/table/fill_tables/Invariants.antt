@@ -1,20 +1,18 @@
-use Rattle.std.proofs.Common.{◌≡◌, ◌≤◌, length, take, true}
+use Rattle.std.proofs.Common.{◌≡◌, length, take, true}
+use Rattle.sn_edge.specs.Told.{FolderKept}
 use Rattle.sefl_syntax.specs.Filled.{all_code}
 use Rattle.sefl_syntax.specs.Trees.{JobTree}
 use Rattle.sefl_syntax.specs.Views.{job_tree}
 use Rattle.run_answers.specs.Tables.{FirstUnfilled, IsFilled}
-use Rattle.run_answers.specs.declared.fault.InputFault.{InputFault}
+use Rattle.command_edge.specs.declared.fault.InputFault.{InputFault}
 use Rattle.job_files.proofs.table.fill_tables.Given as goal
 
 -- the nodes before the index have code; what fills the job now fills it as it was, and what has no code now had none
 abbrev pub invariant-loop-index : goal.invariant-loop-index
 invariant-loop-index g l =
-    let files = g.F.Folder.files l.fn.folder in
+    let files = (g.F.Folder.told l.fn.folder).files in
     record {
-      faults : g.F.Folder.faults l.fn.folder ≤ g.F.Folder.faults l.folder;
-      misses : g.F.Folder.misses l.fn.folder ≤ g.F.Folder.misses l.folder;
-      excesses : g.F.Folder.excesses l.fn.folder ≤ g.F.Folder.excesses l.folder;
-      kept : g.F.Folder.files l.folder ≡ files;
+      kept : FolderKept (g.F.Folder.told l.fn.folder) (g.F.Folder.told l.folder);
       many : length l.job.net.nodes.items ≡ length l.fn.job.net.nodes.items;
       have : all_code (take l.index (job_tree l.job).net.nodes) ≡ true;
       fills : (full : JobTree) → IsFilled files (job_tree l.job) full → IsFilled files (job_tree l.fn.job) full;

@@ -10,14 +10,14 @@ use Rattle.net_check.proofs.acceptance.accept_sound.Goals as goal
 
 pub assemble-requires-clause-found : goal.assemble-requires-clause-found
 assemble-requires-clause-found g c =
-    let step = IsStep g.P.Patterns.matches g.P.Patterns.bad_patterns g.P.Patterns.refusals g.P.Patterns.find_gives in
+    let step = IsStep g.P.Patterns.told g.P.Patterns.find_gives in
     let names = c.in_ok-names.names in
     let asked = subst (λ a. AnswersAll step names.metas names.patterns c.args.patterns.now a c.found_names.new.patterns) c.in-Answered.is c.in-Ok.ensures.asked in
     sym (length-map c.in-Answered.found.items (λ ids. ids.items)) ∙ asked_length step names.metas _ _ names.patterns (lists_of c.in-Answered.found.items) asked
 
 pub assemble-requires-clause-ids : goal.assemble-requires-clause-ids
 assemble-requires-clause-ids g c =
-    let step = IsStep g.P.Patterns.matches g.P.Patterns.bad_patterns g.P.Patterns.refusals g.P.Patterns.find_gives in
+    let step = IsStep g.P.Patterns.told g.P.Patterns.find_gives in
     let names = c.in_ok-names.names in
     let asked = subst (λ a. AnswersAll step names.metas names.patterns c.args.patterns.now a c.found_names.new.patterns) c.in-Answered.is c.in-Ok.ensures.asked in
     asked_ascend step names.metas _ _ names.patterns (lists_of c.in-Answered.found.items) asked

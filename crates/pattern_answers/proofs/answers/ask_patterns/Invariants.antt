@@ -1,4 +1,5 @@
-use Rattle.std.proofs.Common.{◌≡◌, ◌≤◌, ℕ, List, ◌++◌, drop}
+use Rattle.std.proofs.Common.{ℕ, List, ◌++◌, drop}
+use Rattle.sn_edge.specs.Told.{PatternsKept}
 use Rattle.sn_width.specs.declared.ids.NameId.{NameId}
 use Rattle.pattern_answers.specs.Answers.{lists_of}
 use Rattle.pattern_answers.specs.Asking.{IsStep, AsksAll, AsksToRefusal}
@@ -7,14 +8,10 @@ use Rattle.pattern_answers.proofs.answers.ask_patterns.Given as goal
 -- however the patterns that are left are answered, all are answered so behind what was found; and so they are refused
 abbrev pub invariant-loop-index : goal.invariant-loop-index
 invariant-loop-index g l =
-    let matches = g.P.Patterns.matches in
-    let bad = g.P.Patterns.bad_patterns in
-    let refusals = g.P.Patterns.refusals in
-    let step = IsStep matches bad refusals g.P.Patterns.find_gives in
+    let told = g.P.Patterns.told in
+    let step = IsStep told g.P.Patterns.find_gives in
     record {
-      matches : matches l.patterns ≡ matches l.fn.patterns;
-      bad : bad l.patterns ≡ bad l.fn.patterns;
-      refusals : refusals l.fn.patterns ≤ refusals l.patterns;
+      kept : PatternsKept (told l.fn.patterns) (told l.patterns);
       asks : (lists : List (List NameId)) (t : _) → AsksAll step l.names.metas l.patterns (drop l.index l.names.patterns) lists t
           → AsksAll step l.names.metas l.fn.patterns l.names.patterns (lists_of l.lists.items ++ lists) t;
       refuses : (site : ℕ) (t : _) → AsksToRefusal step l.names.metas l.patterns (drop l.index l.names.patterns) site t

@@ -6,7 +6,7 @@ returns-clause-refused g c =
     let p = g.P.Patterns in
     let n = c.args.names.now in
     if_ok c.ask_patterns.result
-    (λ a h. raised p.matches p.bad_patterns p.refusals p.find_gives n.metas n.patterns c.args.patterns.now a c.ask_patterns.new.patterns h)
+    (λ a h. raised p.told p.find_gives n.metas n.patterns c.args.patterns.now a c.ask_patterns.new.patterns h)
     c.ask_patterns.ensures.asked
 
 pub returns-clause-found : goal.returns-clause-found
@@ -14,7 +14,7 @@ returns-clause-found g c =
     let p = g.P.Patterns in
     let n = c.args.names.now in
     if_ok c.ask_patterns.result
-    (λ a h. told_found p.matches p.bad_patterns p.refusals p.find_gives n.metas n.patterns c.args.patterns.now a c.ask_patterns.new.patterns h)
+    (λ a h. told_found p.told p.find_gives n.metas n.patterns c.args.patterns.now a c.ask_patterns.new.patterns h)
     c.ask_patterns.ensures.asked
 
 pub returns-clause-bad : goal.returns-clause-bad
@@ -22,5 +22,5 @@ returns-clause-bad g c =
     let p = g.P.Patterns in
     let n = c.args.names.now in
     if_ok c.ask_patterns.result
-    (λ a h. told_bad p.matches p.bad_patterns p.refusals p.find_gives n.metas n.patterns c.args.patterns.now a c.ask_patterns.new.patterns h)
+    (λ a h. told_bad p.told p.find_gives n.metas n.patterns c.args.patterns.now a c.ask_patterns.new.patterns h)
     c.ask_patterns.ensures.asked

@@ -5,7 +5,7 @@ use Rattle.sefl_syntax.specs.declared.net.TableKind.{TableKind}
 use Rattle.run_answers.specs.Inputs.{a_job, a_file}
 use Rattle.run_answers.specs.Outside.{outside}
 use Rattle.run_answers.specs.Runs.{Runs, one_piece}
-use Rattle.run_answers.specs.declared.limits.TheConstants.{FILE_LIMIT}
+use Rattle.command_edge.specs.declared.limits.TheConstants.{FILE_LIMIT}
 use Rattle.explore_command.specs.Explores.{explore_work}
 use Rattle.ask_command.specs.Asks.{AskComes}
 use Rattle.model_command.specs.Models.{ModelComes}
@@ -17,11 +17,11 @@ new-requires g c = let ranges = rw (c.in-Explore.is) at c.requires in omega (ari
 
 pub returns-in-Explore-clause-ran : goal.returns-in-Explore-clause-ran
 returns-in-Explore-clause-ran g c =
-    rw (c.in-Explore.is) (subst (λ (s : RefutedSides). Runs (g.K.Sink.taken c.args.out.now) (g.K.Sink.taken c.run.new.out)
-    (outside (g.F.Folder.files c.args.folder.now) g.P.Patterns.matches g.P.Patterns.bad_patterns g.P.Patterns.refusals g.P.Patterns.find_gives)
+    rw (c.in-Explore.is) (subst (λ (s : RefutedSides). Runs (g.K.Sink.told c.args.out.now).taken (g.K.Sink.told c.run.new.out).taken
+    (outside (g.F.Folder.told c.args.folder.now).files g.P.Patterns.told g.P.Patterns.find_gives)
     c.args.patterns.now c.run.new.patterns (a_job c.in-Explore.job.now ∷ []) (explore_work c.in-Explore.hops c.in-Explore.limit s) c.run.result) c.sides_of.ensures
-    (subst (λ (limit : ℕ). Runs (g.K.Sink.taken c.args.out.now) (g.K.Sink.taken c.run.new.out)
-    (outside (g.F.Folder.files c.args.folder.now) g.P.Patterns.matches g.P.Patterns.bad_patterns g.P.Patterns.refusals g.P.Patterns.find_gives)
+    (subst (λ (limit : ℕ). Runs (g.K.Sink.told c.args.out.now).taken (g.K.Sink.told c.run.new.out).taken
+    (outside (g.F.Folder.told c.args.folder.now).files g.P.Patterns.told g.P.Patterns.find_gives)
     c.args.patterns.now c.run.new.patterns (a_job c.in-Explore.job.now ∷ []) (explore_work c.in-Explore.hops limit c.sides_of.result) c.run.result) c.new.ensures c.run.ensures.ran))
 
 pub returns-in-Walk-clause-ran : goal.returns-in-Walk-clause-ran
@@ -35,18 +35,18 @@ returns-in-Grow-clause-ran g c = rw (c.in-Grow.is) c.run-in-Grow.ensures.ran
 
 pub returns-in-Ask-clause-ran : goal.returns-in-Ask-clause-ran
 returns-in-Ask-clause-ran g c =
-    rw (c.in-Ask.is) (subst (λ (limit : ℕ). Runs (g.K.Sink.taken c.args.out.now) (g.K.Sink.taken c.run-in-Ask.new.out)
-    (outside (g.F.Folder.files c.args.folder.now) g.P.Patterns.matches g.P.Patterns.bad_patterns g.P.Patterns.refusals g.P.Patterns.find_gives)
+    rw (c.in-Ask.is) (subst (λ (limit : ℕ). Runs (g.K.Sink.told c.args.out.now).taken (g.K.Sink.told c.run-in-Ask.new.out).taken
+    (outside (g.F.Folder.told c.args.folder.now).files g.P.Patterns.told g.P.Patterns.find_gives)
     c.args.patterns.now c.run-in-Ask.new.patterns (a_job c.in-Ask.job.now ∷ []) (one_piece (AskComes c.in-Ask.hops limit)) c.run-in-Ask.result) c.new-in-Ask.ensures
     c.run-in-Ask.ensures.ran)
 
 pub returns-in-Model-clause-ran : goal.returns-in-Model-clause-ran
 returns-in-Model-clause-ran g c =
-    rw (c.in-Model.is) (subst (λ (s : Style). Runs (g.K.Sink.taken c.args.out.now) (g.K.Sink.taken c.run-in-Model.new.out)
-    (outside (g.F.Folder.files c.args.folder.now) g.P.Patterns.matches g.P.Patterns.bad_patterns g.P.Patterns.refusals g.P.Patterns.find_gives)
+    rw (c.in-Model.is) (subst (λ (s : Style). Runs (g.K.Sink.told c.args.out.now).taken (g.K.Sink.told c.run-in-Model.new.out).taken
+    (outside (g.F.Folder.told c.args.folder.now).files g.P.Patterns.told g.P.Patterns.find_gives)
     c.args.patterns.now c.run-in-Model.new.patterns (a_file FILE_LIMIT c.in-Model.file.now ∷ []) (one_piece (ModelComes (kind_of c.in-Model.table) s c.in-Model.file.now)) c.run-in-Model.result) c.style_of.ensures
-    (subst (λ (k : TableKind). Runs (g.K.Sink.taken c.args.out.now) (g.K.Sink.taken c.run-in-Model.new.out)
-    (outside (g.F.Folder.files c.args.folder.now) g.P.Patterns.matches g.P.Patterns.bad_patterns g.P.Patterns.refusals g.P.Patterns.find_gives)
+    (subst (λ (k : TableKind). Runs (g.K.Sink.told c.args.out.now).taken (g.K.Sink.told c.run-in-Model.new.out).taken
+    (outside (g.F.Folder.told c.args.folder.now).files g.P.Patterns.told g.P.Patterns.find_gives)
     c.args.patterns.now c.run-in-Model.new.patterns (a_file FILE_LIMIT c.in-Model.file.now ∷ []) (one_piece (ModelComes k c.style_of.result c.in-Model.file.now)) c.run-in-Model.result) c.kind_of.ensures c.run-in-Model.ensures.ran))
 
 pub returns-in-Click-clause-ran : goal.returns-in-Click-clause-ran

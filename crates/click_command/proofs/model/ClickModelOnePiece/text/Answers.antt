@@ -1,7 +1,7 @@
 use Rattle.std.proofs.Common.{◌≡◌, subst, string_bytes}
 use Rattle.std.proofs.lemmas.Result.{err_from_is_err_and}
-use Rattle.run_answers.specs.Runs.{text}
-use Rattle.run_answers.specs.declared.ending.Ending.TheVariants.{Done}
+use Rattle.command_edge.specs.Puts.{text}
+use Rattle.command_edge.specs.declared.ending.Ending.TheVariants.{Done}
 use Rattle.click_model.specs.Configs.{click_of}
 use Rattle.click_command.specs.Models.{IsClickRefusal, model_of}
 use Rattle.click_command.proofs.model.ClickModelOnePiece.text.Goals as goal

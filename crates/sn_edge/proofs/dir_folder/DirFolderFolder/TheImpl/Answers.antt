@@ -6,10 +6,7 @@ pub load-tells : goal.load-tells
 load-tells g c =
     let moved = subst (λ n. Counts c.args.self.now c.result n) (sym c.ensures.next) (counts c.args.self.now c.result) in
     record {
-      kept = refl;
-      faults_stay = moved.faults_stay;
-      misses_stay = moved.misses_stay;
-      excesses_stay = moved.excesses_stay;
+      kept = record { files = refl; faults = moved.faults_stay; misses = moved.misses_stay; excesses = moved.excesses_stay };
       failed = moved.failed;
       absent = moved.absent;
       too_big = moved.too_big;

@@ -4,7 +4,7 @@ use Rattle.sn_edge.proofs.mem_sink.MemSinkSink.TheImpl.Goals as goal
 
 pub put-tells : goal.put-tells
 put-tells c = record {
-  faults_stay = search rules;
+  kept = record { faults = search rules };
   failed = search rules;
   all = search rules;
   nothing = search rules;

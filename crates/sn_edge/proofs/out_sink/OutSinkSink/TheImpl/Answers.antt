@@ -8,7 +8,7 @@ put-tells g c =
     let old = c.args.self.now in
     let moved = subst (λ (n : ℕ). (old ≤ n) × OnFailed c.result (old < n)) (sym c.ensures.next) (put_counts old c.result) in
     record {
-      faults_stay = moved.0;
+      kept = record { faults = moved.0 };
       failed = moved.1;
       all = at_all c.result refl;
       nothing = at_no_memory c.result refl;

@@ -2,7 +2,7 @@
 use Rattle.std.proofs.Common.{inl, inr, ap, sym, subst, List, [], ◌∷◌, ◌++◌}
 use Rattle.run_answers.specs.Outside.{Outside}
 use Rattle.run_answers.specs.Inputs.{Input, Given, AllOpen, FirstFails}
-use Rattle.run_answers.specs.declared.fault.InputFault.{InputFault}
+use Rattle.command_edge.specs.declared.fault.InputFault.{InputFault}
 
 module _ {S : Type 0} (o : Outside S) where
   -- a refusal in the first part

@@ -1,16 +1,12 @@
 //! What commands read before their own work.
 
-ghost use Rattle.std.specs.Prelude.{◌≡◌, ◌<◌, ◌≤◌, List, [], ◌∷◌, ◌++◌, IfOk, IfErr};
-ghost use Rattle.net_check.specs.Network.{entry, network};
-ghost use Rattle.net_check.specs.Sound.{AreOfOneJob};
-ghost use Rattle.run_answers.specs.Inputs.{AllOpen, FirstFails, Given as GivenOf, Input, a_file, a_job, given_of, some_bytes};
+ghost use Rattle.std.specs.Prelude.{List, [], ◌∷◌, ◌++◌, IfOk, IfErr};
+ghost use Rattle.sn_edge.specs.Told.{FolderKept, PatternsKept};
+ghost use Rattle.command_edge.specs.Files.{InputShows};
+ghost use Rattle.run_answers.specs.Inputs.{AllOpen, FirstFails, Given as GivenOf, Input, a_file, some_bytes};
 ghost use Rattle.run_answers.specs.Outside.{outside};
-ghost use Rattle.run_answers.specs.Runs.{InputShows};
 
-use crate::file::load_file;
-use crate::job::open_job;
-use net_check::Accepted;
-use run_answers::InputFault;
+use command_edge::{InputFault, load_file};
 use sn_edge::{Folder, Patterns};
 use std::alloc::Global;
 
@@ -34,26 +30,14 @@ pub trait Source {
         folder: &mut F,
         patterns: &mut P,
     ) -> Result<Self::Given, InputFault>
-        ensures faults_stay { F.faults folder.old ≤ F.faults folder.new }
-        ensures misses_stay { F.misses folder.old ≤ F.misses folder.new }
-        ensures excesses_stay { F.excesses folder.old ≤ F.excesses folder.new }
-        ensures files_kept { F.files folder.new ≡ F.files folder.old }
-        ensures matches_kept { P.matches patterns.new ≡ P.matches patterns.old }
-        ensures bad_kept { P.bad_patterns patterns.new ≡ P.bad_patterns patterns.old }
-        ensures refusals_stay { P.refusals patterns.old ≤ P.refusals patterns.new }
-        ensures opened { IfOk result (λ given. AllOpen (outside (F.files folder.old) P.matches P.bad_patterns P.refusals P.find_gives)
+        ensures folder_kept { FolderKept (F.told folder.old) (F.told folder.new) }
+        ensures patterns_kept { PatternsKept (P.told patterns.old) (P.told patterns.new) }
+        ensures opened { IfOk result (λ given. AllOpen (outside (F.told folder.old).files P.told P.find_gives)
             patterns.old (inputs self.now) (givens given) patterns.new) }
         ensures kept { IfOk result keeps }
-        ensures fails { IfErr result (λ fault. FirstFails (outside (F.files folder.old) P.matches P.bad_patterns P.refusals P.find_gives)
+        ensures fails { IfErr result (λ fault. FirstFails (outside (F.told folder.old).files P.told P.find_gives)
             patterns.old (inputs self.now) fault patterns.new) }
-        ensures shows { IfErr result (InputShows (F.faults folder.old < F.faults folder.new) (F.misses folder.old < F.misses folder.new)
-            (F.excesses folder.old < F.excesses folder.new) (P.refusals patterns.old < P.refusals patterns.new)) };
-}
-
-/// A job's file.
-#[derive(Clone, Copy)]
-pub struct JobFile<'a> {
-    pub name: &'a str,
+        ensures shows { IfErr result (InputShows (F.told folder.old) (F.told folder.new) (P.told patterns.old) (P.told patterns.new)) };
 }
 
 /// A file of bytes, with the most that it may have.
@@ -75,25 +59,6 @@ pub struct Both<A, B> {
 pub struct Two<A: Drop, B: Drop> {
     pub first: A,
     pub second: B,
-}
-
-impl Source for JobFile<'_> {
-    type Given = Accepted;
-
-    ghost inputs = { λ s. a_job s.name.now ∷ [] };
-
-    ghost givens = { λ job. given_of job ∷ [] };
-
-    ghost keeps = { λ job. AreOfOneJob (network job.net) (entry job.injection) };
-
-    fn open<F: Folder, P: Patterns>(
-        &self,
-        alloc: Global,
-        folder: &mut F,
-        patterns: &mut P,
-    ) -> Result<Accepted, InputFault> {
-        open_job(alloc, self.name, folder, patterns)
-    }
 }
 
 impl Source for ByteFile<'_> {

@@ -52,7 +52,7 @@ pub enum OwnFault {
 
 impl From<NoMemory> for InputFault {
     ghost use Rattle.std.specs.Prelude.{◌≡◌};
-    ghost use Rattle.run_answers.specs.declared.fault.InputFault.TheVariants.{NoMemory as OutOfMemory};
+    ghost use Rattle.command_edge.specs.declared.fault.InputFault.TheVariants.{NoMemory as OutOfMemory};
 
     ghost from_gives = { λ _ fault. fault ≡ OutOfMemory };
 
@@ -63,7 +63,7 @@ impl From<NoMemory> for InputFault {
 
 impl From<NoMemory> for OwnFault {
     ghost use Rattle.std.specs.Prelude.{◌≡◌};
-    ghost use Rattle.run_answers.specs.declared.fault.OwnFault.TheVariants.{NoMemory as OutOfMemory};
+    ghost use Rattle.command_edge.specs.declared.fault.OwnFault.TheVariants.{NoMemory as OutOfMemory};
 
     ghost from_gives = { λ _ fault. fault ≡ OutOfMemory };
 

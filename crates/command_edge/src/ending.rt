@@ -26,7 +26,7 @@ pub enum Stop {
 
 impl From<InputFault> for Stop {
     ghost use Rattle.std.specs.Prelude.{◌≡◌};
-    ghost use Rattle.run_answers.specs.declared.ending.Stop.TheVariants.{Input};
+    ghost use Rattle.command_edge.specs.declared.ending.Stop.TheVariants.{Input};
 
     ghost from_gives = { λ fault stop. stop ≡ Input fault };
 

@@ -1,0 +1,41 @@
+-- A file that is loaded, and why it is not.
+use Rattle.std.specs.Prelude.{ℕ, ◌≡◌, ◌≤◌, ◌<◌, List, length, Option, Some, None, IsSomeAnd}
+use Rattle.std.specs.Option.{ForSome}
+use Rattle.sn_edge.specs.Told.{FolderTold, PatternsTold}
+use Rattle.command_edge.specs.declared.fault.InputFault.{InputFault}
+use Rattle.command_edge.specs.declared.fault.InputFault.TheVariants.{NoFile, ReadFault, TooBig, BadPattern, NoMemory}
+
+-- the bytes of each file by its name, where a folder tells its files
+abbrev pub Files : Type 0
+Files = Option (List ℕ → Option (List ℕ))
+
+-- the file under the name has these bytes, no more than the limit
+abbrev pub HasFile : Files → ℕ → List ℕ → List ℕ → Type 0
+HasFile files limit name bytes = (length bytes ≤ limit) × ForSome files (λ at. at name ≡ Some bytes)
+
+-- why the file under the name is not loaded
+abbrev pub LoadFails : Files → ℕ → List ℕ → InputFault → Type 0
+LoadFails files limit name (NoFile own) = (own ≡ name) × ForSome files (λ at. at name ≡ None)
+LoadFails files limit name (ReadFault own) = own ≡ name
+LoadFails files limit name (TooBig own) = (own ≡ name) × ForSome files (λ at. IsSomeAnd (at name) (λ bytes. limit < length bytes))
+LoadFails files limit name NoMemory = Unit {0}
+LoadFails files limit name _ = ⊥
+
+-- which counts rose, by the refusal: of the folder faults, misses and excesses; of the patterns refusals
+abbrev pub Rose : (failed missed passed raised : Type 0) → InputFault → Type 0
+Rose failed missed passed raised (NoFile name) = missed
+Rose failed missed passed raised (ReadFault name) = failed
+Rose failed missed passed raised (TooBig name) = passed
+Rose failed missed passed raised (BadPattern site) = raised
+Rose failed missed passed raised _ = Unit {0}
+
+-- the same of a folder alone, of patterns alone, and of both
+abbrev pub FolderShows : FolderTold → FolderTold → InputFault → Type 0
+FolderShows old new fault = Rose (old.faults < new.faults) (old.misses < new.misses) (old.excesses < new.excesses) ⊥ fault
+
+abbrev pub PatternsShow : PatternsTold → PatternsTold → InputFault → Type 0
+PatternsShow before after fault = Rose ⊥ ⊥ ⊥ (before.refusals < after.refusals) fault
+
+abbrev pub InputShows : FolderTold → FolderTold → PatternsTold → PatternsTold → InputFault → Type 0
+InputShows old new before after fault =
+    Rose (old.faults < new.faults) (old.misses < new.misses) (old.excesses < new.excesses) (before.refusals < after.refusals) fault

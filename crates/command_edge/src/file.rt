@@ -1,0 +1,53 @@
+//! Files.
+
+ghost use Rattle.std.specs.Prelude.{IfOk, IfErr};
+ghost use Rattle.sn_edge.specs.Told.{FolderKept};
+ghost use Rattle.command_edge.specs.Files.{FolderShows, HasFile, LoadFails};
+ghost use Rattle.command_edge.specs.declared.limits.TheConstants.{FILE_LIMIT};
+
+use crate::fault::InputFault;
+use crate::limits::FILE_LIMIT;
+use sefl_syntax::Text;
+use sn_edge::{Folder, Loaded};
+use std::alloc::Global;
+
+/// The bytes of the file of this name, which has at most `limit` of them.
+pub fn load_file<F: Folder>(
+    alloc: Global,
+    name: &str,
+    limit: u64,
+    folder: &mut F,
+) -> Result<Vec<u8>, InputFault>
+    ensures folder_kept { FolderKept (F.told folder.old) (F.told folder.new) }
+    ensures loaded { IfOk result (λ bytes. HasFile (F.told folder.old).files limit name.now bytes.items) }
+    ensures fails { IfErr result (LoadFails (F.told folder.old).files limit name.now) }
+    ensures shows { IfErr result (FolderShows (F.told folder.old) (F.told folder.new)) }
+{
+    match folder.load(alloc, name, limit) {
+        Loaded::Bytes(bytes) => Ok(bytes),
+        Loaded::Absent => Err(InputFault::NoFile {
+            name: Text::of(alloc, name)?,
+        }),
+        Loaded::TooBig => Err(InputFault::TooBig {
+            name: Text::of(alloc, name)?,
+        }),
+        Loaded::Failed => Err(InputFault::ReadFault {
+            name: Text::of(alloc, name)?,
+        }),
+        Loaded::NoMemory => Err(InputFault::NoMemory),
+    }
+}
+
+/// The bytes of the file of this name, which has at most those that a text may have.
+pub fn load_text<F: Folder>(
+    alloc: Global,
+    name: &str,
+    folder: &mut F,
+) -> Result<Vec<u8>, InputFault>
+    ensures folder_kept { FolderKept (F.told folder.old) (F.told folder.new) }
+    ensures loaded { IfOk result (λ bytes. HasFile (F.told folder.old).files FILE_LIMIT name.now bytes.items) }
+    ensures fails { IfErr result (LoadFails (F.told folder.old).files FILE_LIMIT name.now) }
+    ensures shows { IfErr result (FolderShows (F.told folder.old) (F.told folder.new)) }
+{
+    load_file(alloc, name, FILE_LIMIT, folder)
+}

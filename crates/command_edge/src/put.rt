@@ -1,0 +1,27 @@
+//! The text of a command, put in one piece.
+
+ghost use Rattle.sn_edge.specs.Told.{SinkKept};
+ghost use Rattle.command_edge.specs.Puts.{Puts, WriteShows};
+
+use crate::ending::{Ending, Stop};
+use crate::fault::OwnFault;
+use sn_edge::{Put, Sink};
+
+/// Puts the text of a command in one piece, where there is one.
+pub fn put_text<K: Sink>(
+    answer: Result<(Ending, String), OwnFault>,
+    out: &mut K,
+) -> Result<Ending, Stop>
+    ensures out_kept { SinkKept (K.told out.old) (K.told out.new) }
+    ensures puts { Puts (K.told out.old).taken (K.told out.new).taken answer result }
+    ensures shows { WriteShows (K.told out.old) (K.told out.new) result }
+{
+    match answer {
+        Ok((ending, text)) => match out.put(text.as_bytes()) {
+            Put::All => Ok(ending),
+            Put::Failed => Err(Stop::Write),
+            Put::NoMemory => Err(Stop::NoMemory),
+        },
+        Err(fault) => Err(Stop::Own(fault)),
+    }
+}
