@@ -1,18 +1,14 @@
 -- Sets of names that are lent.
 use denote.Ref.{Bor}
-use Rattle.std.proofs.Common.{◌≡◌, ℕ, Bool, true, false, cond, ◌||◌, List, [], ◌∷◌, ◌++◌, Some, is_some, if◌then◌else◌, bytes_eq, refl, sym, ◌∙◌, ap, append_assoc, subst, true≢false}
-use Rattle.std.proofs.lemmas.Map.Keys.{sorted_head, sorted_tail}
-use Rattle.std.proofs.lemmas.Map.Text.{is_eq-slice_cmp}
-use Rattle.std.specs.Cmp.Lexicographic.{nat_list_eq_equiv}
+use Rattle.std.proofs.Common.{◌≡◌, ℕ, Bool, true, false, cond, ◌||◌, List, [], ◌∷◌, ◌++◌, Some, is_some, if◌then◌else◌, bytes_eq, refl, sym, ◌∙◌, ap, append_assoc, true≢false}
 use Rattle.std.specs.List.{list_any, AllByRecursion}
 use Rattle.std.specs.List.Sorted.{IsStrictlySortedBy}
 use Rattle.std.specs.Map.{lookup}
-use Rattle.std.specs.Ordering.{nat_cmp, match_ordering, is_eq}
+use Rattle.std.specs.Ordering.{nat_cmp, match_ordering}
 use Rattle.std.specs.declared.cmp.Ordering.TheVariants.{Less, Equal, Greater}
 use Rattle.std.specs.Cmp.Lexicographic.{slice_cmp}
 use Rattle.std.specs.BTreeSet.{insert_key}
 use Rattle.indexmap.specs.IndexMap.{insert_entry}
-use Rattle.indexmap.specs.IndexSet.{insert_key as insert_last}
 use Rattle.job_items.specs.Rules.{with_text}
 use Rattle.job_names.specs.Lent.{lent_names}
 use Rattle.job_names.specs.Occurrences.{with_first}
@@ -27,43 +23,25 @@ lent_insert (x ∷ xs) key =
     ≡ match_ordering o (key.now ∷ x.now ∷ lent_names xs) (x.now ∷ lent_names xs) (x.now ∷ with_text (lent_names xs) key.now))
     [ Less ↦ refl | Equal ↦ refl | Greater ↦ ap (λ rest. x.now ∷ rest) (lent_insert xs key) ]
 
--- what holds of each lent name holds of each name
-at_lent : (P : List ℕ → Type 0) (keys : List (Bor (List ℕ))) (before : List (List ℕ)) (name : List ℕ) (rest : List (List ℕ))
-    → before ++ name ∷ rest ≡ lent_names keys → AllByRecursion (λ key. P key.now) keys → P name
-at_lent P [] [] name rest e all = cc
-at_lent P [] (x ∷ xs) name rest e all = cc
-at_lent P (k ∷ ks) [] name rest e all = let same : k.now ≡ name = cc in subst P same all.0
-at_lent P (k ∷ ks) (x ∷ xs) name rest e all = let tails : xs ++ name ∷ rest ≡ lent_names ks = cc in at_lent P ks xs name rest tails all.1
+-- a set of lent names ascends as the names do
+lent_above : (x : List ℕ) (keys : List (Bor (List ℕ))) → AllByRecursion (λ key. slice_cmp nat_cmp x key.now ≡ Less) keys
+    → AllByRecursion (λ name. slice_cmp nat_cmp x name ≡ Less) (lent_names keys)
+lent_above x [] all = tt
+lent_above x (k ∷ ks) all = (all.0, lent_above x ks all.1)
 
--- of two names in order none is the other
-apart : (x y : List ℕ) → slice_cmp nat_cmp x y ≡ Less → bytes_eq y x ≡ false
-apart x y less = nat_list_eq_equiv.symm y x ∙ sym (is_eq-slice_cmp x y) ∙ ap is_eq less
+pub lent_ascend : (keys : List (Bor (List ℕ))) → IsStrictlySortedBy (λ x y. slice_cmp nat_cmp x.now y.now) keys
+    → IsStrictlySortedBy (slice_cmp nat_cmp) (lent_names keys)
+unfolding IsStrictlySortedBy
+lent_ascend [] sorted = tt
+lent_ascend (k ∷ ks) sorted = (lent_above k.now ks sorted.0, lent_ascend ks sorted.1)
 
--- an ascending list has each name once
-fresh : (keys : List (Bor (List ℕ))) (before : List (List ℕ)) (name : List ℕ) (rest : List (List ℕ))
-    → IsStrictlySortedBy (λ x y. slice_cmp nat_cmp x.now y.now) keys → before ++ name ∷ rest ≡ lent_names keys
-    → list_any (bytes_eq name) before ≡ false
-fresh keys [] name rest sorted e = refl
-fresh [] (x ∷ xs) name rest sorted e = cc
-fresh (k ∷ ks) (x ∷ xs) name rest sorted e =
-    let head : k.now ≡ x = cc in
-    let tails : xs ++ name ∷ rest ≡ lent_names ks = cc in
-    let less : slice_cmp nat_cmp k.now name ≡ Less
-    = at_lent (λ other. slice_cmp nat_cmp k.now other ≡ Less) ks xs name rest tails
-    (sorted_head (λ a b. slice_cmp nat_cmp a.now b.now) k ks sorted) in
-    ap (λ b. b || list_any (bytes_eq name) xs) (ap (bytes_eq name) (sym head) ∙ apart k.now name less)
-    ∙ fresh ks xs name rest (sorted_tail (λ a b. slice_cmp nat_cmp a.now b.now) k ks sorted) tails
-
--- one more copy of the names of an ascending list
+-- one more copy of the names of a list
 pub copied : (keys : List (Bor (List ℕ))) (old new : List (List ℕ)) (copy : List ℕ) (name : Bor (List ℕ)) (left rest : List (Bor (List ℕ)))
-    → IsStrictlySortedBy (λ x y. slice_cmp nat_cmp x.now y.now) keys → old ++ lent_names left ≡ lent_names keys
-    → left ≡ name ∷ rest → copy ≡ name.now → new ≡ insert_last bytes_eq old copy
+    → old ++ lent_names left ≡ lent_names keys → left ≡ name ∷ rest → copy ≡ name.now → new ≡ old ++ copy ∷ []
     → new ++ lent_names rest ≡ lent_names keys
-copied keys old new copy name left rest sorted whole next same made =
+copied keys old new copy name left rest whole next same made =
     let split : old ++ name.now ∷ lent_names rest ≡ lent_names keys = ap (λ l. old ++ lent_names l) (sym next) ∙ whole in
-    let added : new ≡ old ++ name.now ∷ []
-    = made ∙ ap (insert_last bytes_eq old) same
-    ∙ ap (λ b. if b then old else (old ++ name.now ∷ [])) (fresh keys old name.now (lent_names rest) sorted split) in
+    let added : new ≡ old ++ name.now ∷ [] = made ∙ ap (λ n. old ++ n ∷ []) same in
     ap (λ l. l ++ lent_names rest) added ∙ append_assoc old (name.now ∷ []) (lent_names rest) ∙ split
 
 -- patterns

@@ -3,3 +3,4 @@ pub mod Names
 pub mod Noted
 pub mod Occurrences
 pub mod Surveyed
+pub mod Tables

@@ -4,6 +4,7 @@
 pub mod laws;
 mod mentions;
 mod names;
+mod patterns;
 mod survey;
 mod table;
 

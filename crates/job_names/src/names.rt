@@ -9,9 +9,9 @@ ghost use Rattle.job_names.specs.Names.{names_of};
 ghost use Rattle.job_names.specs.Surveyed.{noted_job, surveyed_nodes};
 
 use crate::mentions::Mentions;
+use crate::patterns::PatternTable;
 use crate::survey::Survey;
 use crate::table::NameTable;
-use indexmap::IndexMap;
 use sefl_syntax::{Job, Name, Text};
 use sn_width::{NameId, NoMemory, TagId};
 use std::alloc::Global;
@@ -24,7 +24,7 @@ use std::marker::Model;
 pub struct JobNames {
     metas: NameTable,
     tags: NameTable,
-    patterns: IndexMap<Text, u64>,
+    patterns: PatternTable,
 }
 
 impl Model for JobNames {
@@ -32,7 +32,7 @@ impl Model for JobNames {
 
     ghost Value = { Names };
 
-    ghost view = { λ n. record { metas = n.metas; tags = n.tags; patterns = n.patterns.entries } };
+    ghost view = { λ n. record { metas = n.metas; tags = n.tags; patterns = n.patterns } };
 }
 
 /// The names and the patterns of a job. More than 2^32 - 1 names, or 2^64 - 1 items, answer
@@ -49,6 +49,7 @@ pub fn names_of(alloc: Global, job: &Job) -> Result<JobNames, NoMemory>
     let Mentions { metas, tags } = mentions;
     let metas = NameTable::of(alloc, &metas)?;
     let tags = NameTable::of(alloc, &tags)?;
+    let patterns = PatternTable::of(alloc, patterns)?;
     Ok(JobNames {
         metas,
         tags,
@@ -111,8 +112,7 @@ impl JobNames {
         requires { index < length self.now.patterns }
         ensures { slice_get self.now.patterns index ≡ Some (result.0.now, result.1) }
     {
-        let (pattern, site) = self.patterns.get_index(index).unwrap();
-        (pattern, *site)
+        self.patterns.row(index)
     }
 
     /// The id of a metadata name; None exactly where there is no such name.
@@ -139,6 +139,6 @@ impl JobNames {
     pub fn pattern_index(&self, pattern: &Text) -> Option<usize>
         ensures { result ≡ position (bytes_eq pattern.now) (keys_of self.now.patterns) }
     {
-        self.patterns.get_index_of(pattern)
+        self.patterns.index_of(pattern)
     }
 }

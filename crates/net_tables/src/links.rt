@@ -7,7 +7,6 @@ ghost use Rattle.net_tables.specs.Lookups.{number_of, position_at, way_at};
 ghost use Rattle.net_tables.specs.Places.{way_from, way_of};
 
 use crate::ports::{Port, enter};
-use indexmap::IndexMap;
 use sefl_syntax::{Link, Name};
 use sn_width::{NoMemory, NodeId};
 use std::alloc::Global;
@@ -16,7 +15,7 @@ use std::collections::BTreeMap;
 /// Where links lead, by the output port that they leave.
 pub(crate) fn ways_of(
     alloc: Global,
-    ids: &IndexMap<Name, NodeId>,
+    ids: &BTreeMap<Name, NodeId>,
     links: &[Link],
 ) -> Result<BTreeMap<Port, Port>, NoMemory>
     ensures { IfOk result (λ ways. (node : NodeId) (port : ℕ) → way_at ways.entries node port
@@ -32,7 +31,7 @@ pub(crate) fn ways_of(
 /// Enters where a link leads, unless an earlier one leaves the same port.
 fn enter_link(
     ways: &mut BTreeMap<Port, Port>,
-    ids: &IndexMap<Name, NodeId>,
+    ids: &BTreeMap<Name, NodeId>,
     link: &Link,
 ) -> Result<(), NoMemory>
     ensures { OnOk result ((node : NodeId) (port : ℕ) → way_at ways.new.entries node port
@@ -49,7 +48,7 @@ fn enter_link(
 }
 
 /// The id of the node of the name.
-pub(crate) fn id_named(ids: &IndexMap<Name, NodeId>, name: &Name) -> Option<NodeId>
+pub(crate) fn id_named(ids: &BTreeMap<Name, NodeId>, name: &Name) -> Option<NodeId>
     ensures { option_map number_of result ≡ position_at ids.now.entries name.now }
 {
     ids.get(name).copied()

@@ -7,16 +7,16 @@ ghost use Rattle.net_tables.specs.Lookups.{position_at};
 ghost use Rattle.net_tables.specs.Places.{has_name};
 
 use crate::sizes::id_of;
-use indexmap::IndexMap;
 use sefl_syntax::{Name, NodeDecl};
 use sn_width::{NoMemory, NodeId};
 use std::alloc::Global;
+use std::collections::BTreeMap;
 
-/// The ids of nodes by their names. Where no name stands twice, the place of a name in the map is its id.
-pub(crate) fn ids_of(alloc: Global, nodes: &[NodeDecl]) -> Result<IndexMap<Name, NodeId>, NoMemory>
+/// The ids of nodes by their names. Of nodes of one name the first counts.
+pub(crate) fn ids_of(alloc: Global, nodes: &[NodeDecl]) -> Result<BTreeMap<Name, NodeId>, NoMemory>
     ensures { IfOk result (λ ids. (name : List ℕ) → position_at ids.entries name ≡ position (has_name name) (map decl_tree nodes.now)) }
 {
-    let mut ids = IndexMap::new(alloc);
+    let mut ids = BTreeMap::new(alloc);
     for (number, node) in nodes.iter().enumerate() {
         enter_name(&mut ids, &node.name, id_of(number)?)?;
     }
@@ -24,13 +24,14 @@ pub(crate) fn ids_of(alloc: Global, nodes: &[NodeDecl]) -> Result<IndexMap<Name,
 }
 
 /// Enters the id, unless the name has one.
-fn enter_name(ids: &mut IndexMap<Name, NodeId>, name: &Name, id: NodeId) -> Result<(), NoMemory>
+fn enter_name(ids: &mut BTreeMap<Name, NodeId>, name: &Name, id: NodeId) -> Result<(), NoMemory>
     ensures { OnOk result ((other : List ℕ) → position_at ids.new.entries other
         ≡ option_or (position_at ids.old.entries other) (cond (bytes_eq other name.now) (Some id.0) None)) }
 {
     if ids.contains_key(name) {
         return Ok(());
     }
-    ids.insert(name.clone()?, id)?;
+    let own = name.clone()?;
+    ids.insert(own, id)?;
     Ok(())
 }

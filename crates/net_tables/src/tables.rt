@@ -10,7 +10,6 @@ use crate::links::{id_named, ways_of};
 use crate::names::ids_of;
 use crate::place::CodePlace;
 use crate::ports::Port;
-use indexmap::IndexMap;
 use sefl_syntax::{Name, RawNet, Side};
 use sn_width::{NoMemory, NodeId};
 use std::alloc::Global;
@@ -21,7 +20,7 @@ use std::marker::Model;
 /// their entries; what a net's tables answer is what the net says.
 #[derive(Drop)]
 pub struct NetTables {
-    ids: IndexMap<Name, NodeId>,
+    ids: BTreeMap<Name, NodeId>,
     codes: Codes,
     ways: BTreeMap<Port, Port>,
 }

@@ -9,5 +9,5 @@ returns c =
     λ i. record {
       metas = (c.in_ok-metas.ensures ∙ ap (λ n. n.metas) c.in_ok-survey.ensures.names ∙ noted_job-metas j) i;
       tags = (c.in_ok-tags.ensures ∙ ap (λ n. n.tags) c.in_ok-survey.ensures.names ∙ noted_job-tags j) i;
-      patterns = (c.in_ok-survey.ensures.patterns ∙ surveyed_nodes-patterns j) i;
+      patterns = (c.in_ok-patterns.ensures ∙ c.in_ok-survey.ensures.patterns ∙ surveyed_nodes-patterns j) i;
     }
