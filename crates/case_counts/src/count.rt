@@ -1,7 +1,6 @@
 //! The number of choices of cases of a condition.
 
-ghost use Rattle.std.specs.Prelude.{◌≡◌, ◌<◌, ◌*◌, length, map, IfOk, IfSome, slice_get};
-ghost use Rattle.path_cond.specs.Conditions.{Condition};
+ghost use Rattle.std.specs.Prelude.{◌≡◌, ◌<◌, ◌*◌, length, map, IfOk};
 ghost use Rattle.path_cases.specs.Counts.{capped};
 ghost use Rattle.case_counts.specs.Coupled.{coupled_symbols as symbols_coupled};
 ghost use Rattle.case_counts.specs.Counts.{formula_choices, product, range_count, choice_count};

@@ -1,6 +1,6 @@
 //! The values of a symbol that meet formulas which are simple on it.
 
-ghost use Rattle.std.specs.Prelude.{◌≡◌, ◌<◌, ◌&&◌, true, false, Some, length, reverse, slice_get, slice_index, unwrap_or, option_copied, [], IfOk};
+ghost use Rattle.std.specs.Prelude.{◌≡◌, ◌<◌, ◌&&◌, true, Some, length, reverse, slice_get, slice_index, unwrap_or, option_copied, [], IfOk};
 ghost use Rattle.sn_ranges.specs.Ranges.{IsSetOf, IsCanonical, fits_width, is_member};
 ghost use Rattle.path_formula.specs.Solutions.{alone};
 ghost use Rattle.path_cond.specs.Conditions.{in_domain, simple_picks};

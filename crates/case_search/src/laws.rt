@@ -1,6 +1,6 @@
 //! Laws of refutations, each the contract of a function that does nothing.
 
-ghost use Rattle.std.specs.Prelude.{ℕ, ℤ, List, [], ◌∷◌};
+ghost use Rattle.std.specs.Prelude.{ℤ, List, [], ◌∷◌};
 ghost use Rattle.case_search.specs.Choices.{Case, MeetsEach};
 ghost use Rattle.case_search.specs.Steps.{Refutes};
 ghost use Rattle.case_search.specs.declared.choice.Step.{Step};

@@ -1,6 +1,6 @@
 //! Refutations that use no bounds of a case, as refutations without the case.
 
-ghost use Rattle.std.specs.Prelude.{◌≡◌, map, OnOk, IfOk};
+ghost use Rattle.std.specs.Prelude.{◌≡◌, map, IfOk};
 ghost use Rattle.std.specs.List.{AllZip};
 ghost use Rattle.case_search.specs.Lifting.{is_apart, all_apart, avoids, all_avoid, lowered, IsLowered};
 

@@ -1,7 +1,7 @@
 //! Unknowns of a part, numbered anew from 1 on.
 
 ghost use Rattle.std.specs.Prelude.{◌≡◌, ◌+◌, ◌<◌, ◌≤◌, ◌++◌, map, length, suc, IfOk, OnOk};
-ghost use Rattle.case_search.specs.Choices.{lists_of, cases_of, items_of};
+ghost use Rattle.case_search.specs.Choices.{cases_of, items_of};
 ghost use Rattle.case_search.specs.Parts.{has_label};
 ghost use Rattle.case_search.specs.Renaming.{one_name, names_of, place_of, renamed, renamed_case, renamed_cases, spread_at, spread};
 

@@ -1,6 +1,6 @@
 //! Laws of the definitions of stacks. Each is the contract of a function that does nothing.
 
-ghost use Rattle.std.specs.Prelude.{◌≡◌, ℕ, List, [], Ok};
+ghost use Rattle.std.specs.Prelude.{◌≡◌, ℕ, List, Ok};
 ghost use Rattle.std.specs.declared.cmp.Ordering.TheVariants.{Equal};
 ghost use Rattle.sn_tree.specs.Pairs.{IsAscending};
 ghost use Rattle.sn_width.specs.declared.faults.LayoutFault.{LayoutFault};

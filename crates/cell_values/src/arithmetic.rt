@@ -1,6 +1,6 @@
 //! Values of cells and truths of tests, as the operations on them.
 
-ghost use Rattle.std.specs.Prelude.{◌≡◌, ℕ, map, IfOk};
+ghost use Rattle.std.specs.Prelude.{◌≡◌, map, IfOk};
 ghost use Rattle.sefl_meaning.specs.Terms.{joined};
 ghost use Rattle.sefl_meaning.specs.Values.{Values};
 

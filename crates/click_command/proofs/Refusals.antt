@@ -1,8 +1,8 @@
 -- Why a configuration's file has no text.
-use Rattle.std.proofs.Common.{◌≡◌, sym, ap, ℕ, List, Err}
+use Rattle.std.proofs.Common.{sym, ap, ℕ, List, Err}
 use Rattle.click_model.specs.declared.fault.ClickFault.{ClickFault}
 use Rattle.click_model.specs.declared.fault.ClickFault.TheVariants.{BadLine, Conflict, Limit, NoClass, BadArgument, PortClash, NoElement, NoMemory}
-use Rattle.click_model.specs.Configs.{Answers, ConfigSeen, click_of}
+use Rattle.click_model.specs.Configs.{Answers, click_of}
 use Rattle.click_command.specs.Models.{IsClickRefusal, model_of, own_fault}
 
 pub refused : (name bytes : List ℕ) (fault : ClickFault) → Answers (click_of bytes) (Err fault) → IsClickRefusal name bytes (own_fault name fault)

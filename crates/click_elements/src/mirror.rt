@@ -1,10 +1,10 @@
 //! The code of elements that exchange fields.
 
-ghost use Rattle.std.specs.Prelude.{◌≡◌, ◌≤◌, ◌++◌, [], ◌∷◌, IsTrue, map, IfOk};
+ghost use Rattle.std.specs.Prelude.{◌≡◌, ◌≤◌, IsTrue, map, IfOk};
 ghost use Rattle.sefl_syntax.specs.Name.{is_name};
-ghost use Rattle.sefl_syntax.specs.Trees.{assign, reading, no_code};
+ghost use Rattle.sefl_syntax.specs.Trees.{assign, reading};
 ghost use Rattle.sefl_syntax.specs.Views.{code_tree, instr_tree};
-ghost use Rattle.click_elements.specs.Codes.{first_field, second_field, between, swap_list, swap_code, ether_mirror_code, mirrored_ports, ip_mirror_code};
+ghost use Rattle.click_elements.specs.Codes.{first_field, second_field, between, swap_list, ether_mirror_code, mirrored_ports, ip_mirror_code};
 
 use crate::code::{add, add_forward};
 use crate::field::{Field, cell, named, width_of};

@@ -1,6 +1,6 @@
 -- The arguments of an element, which commas separate, and their words.
 use Rattle.std.specs.Prelude.{ℕ, Bool, true, false, List, [], ◌∷◌, Option, None, Some}
-use Rattle.sefl_syntax.specs.declared.net.TableKind.TheVariants.{Mac, Fib}
+use Rattle.sefl_syntax.specs.declared.net.TableKind.TheVariants.{Mac}
 use Rattle.table_lines.specs.declared.pieces.Separator.TheVariants.{Comma}
 use Rattle.table_lines.specs.Pieces.{pieces}
 use Rattle.table_lines.specs.Words.{words}

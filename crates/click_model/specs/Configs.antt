@@ -1,5 +1,5 @@
 -- The configuration of a text, or the fault that is told.
-use Rattle.std.specs.Prelude.{◌≡◌, ℕ, List, map, Option, None, Some, Result, Ok, Err}
+use Rattle.std.specs.Prelude.{◌≡◌, ℕ, List, Option, None, Some, Result, Ok, Err}
 use Rattle.sefl_syntax.specs.declared.net.Link.{Link}
 use Rattle.click_text.specs.declared.fault.Unread.{Unread}
 use Rattle.click_text.specs.declared.fault.Unread.TheVariants as unread

@@ -1,5 +1,5 @@
 -- The nets of configurations.
-use Rattle.std.specs.Prelude.{ℕ, Bool, ◌+◌, ◌==◌, ◌||◌, nat_lt, bytes_eq, if◌then◌else◌, List, [], ◌∷◌, map, false}
+use Rattle.std.specs.Prelude.{ℕ, ◌+◌, ◌==◌, ◌||◌, nat_lt, bytes_eq, if◌then◌else◌, List, [], ◌∷◌, map, false}
 use Rattle.sefl_syntax.specs.declared.net.Link.{Link}
 use Rattle.sefl_syntax.specs.Trees.{NodeTree, DeclTree, NetTree, code}
 use Rattle.click_elements.specs.declared.node.Leads.{Leads}

@@ -3,9 +3,8 @@
 ghost use Rattle.std.specs.Prelude.{◌≡◌, ◌+◌, true, bytes_eq, map, All, IfOk, OnOk};
 ghost use Rattle.std.specs.Map.{lookup};
 ghost use Rattle.sefl_lex.specs.Words.{is_name};
-ghost use Rattle.click_elements.specs.Classes.{class_named};
 ghost use Rattle.click_text.specs.Items.{seen_item};
-ghost use Rattle.click_model.specs.Declarations.{seen_element, made, seen_made, seen_declared, most_of, class_wrong, conflict_with, limit_at, first_wrong, with_name, with_element, with_declaration, declared, declared_from, nothing_declared};
+ghost use Rattle.click_model.specs.Declarations.{seen_element, made, seen_made, seen_declared, most_of, class_wrong, first_wrong, with_name, with_element, with_declaration, declared, declared_from, nothing_declared};
 
 use crate::class::made;
 use crate::element::Element;

@@ -1,6 +1,6 @@
 //! The run of code up to its next question.
 
-ghost use Rattle.std.specs.Prelude.{◌≡◌, ◌+◌, ◌<◌, ◌≤◌, ◌∷◌, ℕ, List, Some, IfOk, OnOk, length, reverse};
+ghost use Rattle.std.specs.Prelude.{◌≡◌, ◌+◌, ◌<◌, ◌≤◌, ◌∷◌, Some, IfOk, OnOk, length, reverse};
 ghost use Rattle.sn_tree.specs.Ends.{first, tail};
 ghost use Rattle.sn_width.specs.declared.ids.NodeId.{NodeId as Box};
 ghost use Rattle.sefl_syntax.specs.Views.{code_tree};

@@ -1,8 +1,8 @@
 //! The commands, and the words that give them.
 
-ghost use Rattle.std.specs.Prelude.{◌≡◌, ◌≤◌, IfOk, IfSome, Some, option_map, codes, map, string_bytes};
+ghost use Rattle.std.specs.Prelude.{◌≡◌, ◌≤◌, IfOk, IfSome, Some, option_map, map, string_bytes};
 ghost use Rattle.clap.specs.Words.{first_value, found_of};
-ghost use Rattle.command_words.specs.Commands.{Command as CommandOf, HasRanges, command_from, command_of, form_of_verb, hops_in, limit_in, model_of, named, pruned_in, pruned_of, reading, style_in, style_of, verb_of};
+ghost use Rattle.command_words.specs.Commands.{HasRanges, command_from, command_of, form_of_verb, hops_in, limit_in, model_of, named, pruned_in, pruned_of, reading, style_in, style_of, verb_of};
 ghost use Rattle.command_words.specs.Shapes.{form_of, named_of};
 
 use crate::form::Form;

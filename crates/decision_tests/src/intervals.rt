@@ -1,6 +1,6 @@
 //! Domains of symbols, and what constant and simple formulas decide.
 
-ghost use Rattle.std.specs.Prelude.{◌≡◌, ℕ, List, IfOk};
+ghost use Rattle.std.specs.Prelude.{ℕ, List};
 ghost use Rattle.path_formula.specs.Typed.{IsTyped};
 ghost use Rattle.path_formula.specs.View.{view as tree_of};
 ghost use Rattle.interval_solver.specs.Domains.{AreDomainsOf};

@@ -1,6 +1,5 @@
-ghost use Rattle.std.specs.Prelude.{◌≡◌, ◌+◌, ◌≤◌, List, Some, IfOk, IsSome};
+ghost use Rattle.std.specs.Prelude.{List, Some, IfOk};
 ghost use Rattle.difference_solver.specs.declared.bound.Bound.{Bound};
-ghost use Rattle.difference_solver.specs.Table.{entry};
 ghost use Rattle.difference_solver.specs.Elimination.{HasSources, HasSums, IsLoop};
 ghost use Rattle.difference_solver.specs.Cycle.{IsNegativeCycle};
 

@@ -1,4 +1,4 @@
-ghost use Rattle.std.specs.Prelude.{◌≡◌, ℕ, ◌+◌, ◌^◌, ◌<◌, ◌≤◌, ◌↔◌, All, None, length, IfOk, IfNone, IfSome};
+ghost use Rattle.std.specs.Prelude.{◌≡◌, ℕ, ◌^◌, ◌<◌, ◌≤◌, ◌↔◌, All, None, length, IfOk, IfNone, IfSome};
 ghost use Rattle.difference_solver.specs.Table.{entry};
 ghost use Rattle.difference_solver.specs.Bound.{IsInRange, IsSolution, IsUnsolvable, HasLowerBounds, IsLeast};
 ghost use Rattle.difference_solver.specs.Cycle.{IsNegativeCycle};

@@ -1,11 +1,10 @@
 //! Laws of what `explore` writes. Each is the contract of a function that does nothing.
 
-ghost use Rattle.std.specs.Prelude.{◌⊎◌, ℕ, List, ◌++◌};
+ghost use Rattle.std.specs.Prelude.{◌⊎◌, ℕ, List};
 ghost use Rattle.sn_edge.specs.Pieces.{IsPrefix};
 ghost use Rattle.net_check.specs.Network.{Entry, Network};
 ghost use Rattle.record_lines.specs.declared.lines.RefutedSides.{RefutedSides as SidesOf};
 ghost use Rattle.record_lines.specs.declared.lines.RefutedSides.TheVariants.{Written};
-ghost use Rattle.record_text.specs.Reports.{head_text};
 ghost use Rattle.command_edge.specs.declared.ending.Ending.{Ending as EndingOf};
 ghost use Rattle.command_edge.specs.declared.ending.Ending.TheVariants.{Done};
 ghost use Rattle.explore_command.specs.Explores.{BehindHead, IsCut, IsReport, IsSoFar};

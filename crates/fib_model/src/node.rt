@@ -1,6 +1,6 @@
 //! The nodes of forwarding tables.
 
-ghost use Rattle.std.specs.Prelude.{◌≡◌, ℕ, ◌<◌, ◌^◌, [], All, IsPermutation, IfOk};
+ghost use Rattle.std.specs.Prelude.{◌≡◌, ℕ, ◌<◌, ◌^◌, [], IsPermutation, IfOk};
 ghost use Rattle.std.specs.List.Sorted.{IsNonDecreasingBy};
 ghost use Rattle.sefl_syntax.specs.Views.{node_tree};
 ghost use Rattle.table_nodes.specs.Exits.{exits};

@@ -1,5 +1,5 @@
 -- What a packet carries in its headers: tags and cells, what each call leaves, and why it is refused.
-use Rattle.std.specs.Prelude.{ℕ, ◌≤◌, length, Bool, if◌then◌else◌, List, [], ◌∷◌, Option, Some, None, Result, Ok, Err, ℤ, pos, ◌+ℤ◌, map, reverse}
+use Rattle.std.specs.Prelude.{ℕ, ◌≤◌, length, if◌then◌else◌, List, [], ◌∷◌, Option, Some, None, Result, Ok, Err, ℤ, pos, ◌+ℤ◌, map, reverse}
 use Rattle.std.specs.List.{AllByRecursion}
 use Rattle.std.specs.Ordering.{nat_cmp, int_cmp}
 use Rattle.sn_width.specs.Address.{is_address}

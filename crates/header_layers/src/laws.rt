@@ -1,7 +1,7 @@
 //! Laws of the definitions of header cells and tags. Each is the contract of a function that does
 //! nothing.
 
-ghost use Rattle.std.specs.Prelude.{◌≡◌, ℕ, ℤ, List, Option, Ok, IfOk};
+ghost use Rattle.std.specs.Prelude.{◌≡◌, ℕ, ℤ, Option, Ok, IfOk};
 ghost use Rattle.std.specs.Ordering.{int_cmp};
 ghost use Rattle.sn_width.specs.declared.ids.TagId.{TagId};
 ghost use Rattle.cell_stacks.specs.Outcome.{on_ok};

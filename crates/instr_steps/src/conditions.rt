@@ -1,8 +1,7 @@
 //! Truths of conditions.
 
-ghost use Rattle.std.specs.Prelude.{◌≡◌, ◌++◌, OnOk, map};
+ghost use Rattle.std.specs.Prelude.{◌≡◌, map};
 ghost use Rattle.sefl_syntax.specs.Views.{cond_tree, cond_trees, expr_tree, summand_trees};
-ghost use Rattle.cell_stacks.specs.Outcome.{on_ok};
 ghost use Rattle.job_items.specs.Atoms.{expr_reads, summand_reads, comparison, membership};
 ghost use Rattle.job_items.specs.AtomRules.{atom_width};
 ghost use Rattle.sefl_meaning.specs.Terms.{compared, looked_up, truth_in, truths_in};

@@ -1,6 +1,6 @@
 //! The decision of a condition by its constant and its simple formulas.
 
-ghost use Rattle.std.specs.Prelude.{◌≡◌, ◌<◌, ℕ, true, false, [], List, None, length, reverse, unwrap_or, option_copied, IfOk, IfSome};
+ghost use Rattle.std.specs.Prelude.{◌≡◌, ◌<◌, ℕ, true, false, [], List, None, reverse, unwrap_or, option_copied, IfOk, IfSome};
 ghost use Rattle.sn_ranges.specs.Ranges.{IsLeast, is_member};
 ghost use Rattle.path_cond.specs.Conditions.{first_broken, holds_at};
 ghost use Rattle.interval_solver.specs.Domains.{AreDomainsOf, first_empty};

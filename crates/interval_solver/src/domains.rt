@@ -1,13 +1,11 @@
 //! The domains of the symbols of a condition.
 
-ghost use Rattle.std.specs.Prelude.{◌≡◌, ◌<◌, ℕ, [], ◌∷◌, ◌++◌, ◌&&◌, true, length, slice_get, slice_set, IfOk, option_copied};
+ghost use Rattle.std.specs.Prelude.{◌≡◌, ◌<◌, [], ◌∷◌, ◌++◌, ◌&&◌, true, slice_get, slice_set, IfOk, option_copied};
 ghost use Rattle.std.specs.Option.{option_map};
 ghost use Rattle.sn_ranges.specs.Ranges.{RangeSet, IsSetOf, fits_width};
-ghost use Rattle.sn_width.specs.declared.ids.SymId.{SymId as Symbol};
 ghost use Rattle.path_formula.specs.Kinds.{kind_of};
 ghost use Rattle.path_formula.specs.Typed.{IsTyped};
 ghost use Rattle.path_formula.specs.View.{view as tree_of};
-ghost use Rattle.path_formula.specs.declared.kinds.Kind.{Kind as FormulaKind};
 ghost use Rattle.path_formula.specs.declared.kinds.Kind.TheVariants.{Simple as SimpleKind};
 ghost use Rattle.path_cond.specs.Conditions.{AllTyped, Condition};
 

@@ -1,6 +1,6 @@
 //! The job: its boxes, the links between them, and the packet that comes into the first.
 
-ghost use Rattle.std.specs.Prelude.{◌≡◌, ◌≤◌, ◌<◌, ◌^◌, ◌++◌, map, IfOk, OnOk};
+ghost use Rattle.std.specs.Prelude.{◌≡◌, ◌<◌, ◌++◌, map, IfOk, OnOk};
 ghost use Rattle.std.specs.List.{flat_map};
 ghost use Rattle.sefl_syntax.specs.Views.{decl_tree, injection_tree, job_tree};
 ghost use Rattle.job_gen.specs.Grown.{box_name, box_of, grown, injection, link_to, links_of, numbers_from, unknown};

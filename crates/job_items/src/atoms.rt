@@ -4,7 +4,7 @@ ghost use Rattle.std.specs.Prelude.{◌≡◌, ◌++◌, [], ◌∷◌, OnOk, If
 ghost use Rattle.std.specs.List.{list_any};
 ghost use Rattle.sefl_syntax.specs.Views.{cond_tree, cond_trees, instr_tree};
 ghost use Rattle.job_items.specs.Atoms.{lone, cond_atoms, conds_atoms, instr_atoms};
-ghost use Rattle.job_items.specs.AtomRules.{is_mixed, is_too_wide, is_reversed, ranges_in};
+ghost use Rattle.job_items.specs.AtomRules.{is_mixed, is_too_wide, is_reversed};
 
 use crate::atom::Atom;
 use sefl_syntax::{Cond, Instr, Target};

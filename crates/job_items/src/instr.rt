@@ -1,6 +1,6 @@
 //! The rules on one instruction.
 
-ghost use Rattle.std.specs.Prelude.{◌≡◌, ◌&&◌, nat_le, length};
+ghost use Rattle.std.specs.Prelude.{◌≡◌, ◌&&◌, nat_le};
 ghost use Rattle.std.specs.List.{list_any};
 ghost use Rattle.sefl_syntax.specs.Views.{instr_tree};
 ghost use Rattle.job_items.specs.Atoms.{instr_atoms};

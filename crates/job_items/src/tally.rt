@@ -1,12 +1,11 @@
 //! What the items so far have, and the limits on it.
 
-ghost use Rattle.std.specs.Prelude.{◌≡◌, ◌+◌, OnOk, IfOk, OnErr, Some, None, Option};
-ghost use Rattle.job_items.specs.declared.halt.Halt.TheVariants.{NoMemory as OutOfMemory};
+ghost use Rattle.std.specs.Prelude.{◌≡◌, ◌+◌, OnOk, IfOk, Some, None, Option};
 ghost use Rattle.sefl_syntax.specs.Views.{instr_tree};
 ghost use Rattle.job_items.specs.AtomRules.{ranges_in, meta_name};
 ghost use Rattle.job_items.specs.Gathered.{lent};
-ghost use Rattle.job_items.specs.Rules.{with_names, with_text, names_in, with_atoms, with_instr, count_of, limit_rows, first_breach, or_else, no_counts};
-ghost use Rattle.job_items.specs.Progress.{Progress, progress_of, lent_texts, IsNoMemory, Weighs};
+ghost use Rattle.job_items.specs.Rules.{with_names, with_text, names_in, with_atoms, with_instr, count_of, limit_rows, first_breach, no_counts};
+ghost use Rattle.job_items.specs.Progress.{progress_of, lent_texts, IsNoMemory, Weighs};
 ghost use Rattle.std.specs.List.{flat_map};
 
 use crate::atom::Atom;

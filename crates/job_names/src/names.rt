@@ -4,7 +4,7 @@ ghost use Rattle.std.specs.Prelude.{◌≡◌, ◌<◌, length, position, slice_
 ghost use Rattle.std.specs.Map.{keys_of};
 ghost use Rattle.std.specs.Option.{option_map};
 ghost use Rattle.sefl_syntax.specs.Views.{job_tree};
-ghost use Rattle.job_names.specs.Lent.{noted_by, surveyed_by};
+ghost use Rattle.job_names.specs.Lent.{noted_by};
 ghost use Rattle.job_names.specs.Names.{names_of};
 ghost use Rattle.job_names.specs.Surveyed.{noted_job, surveyed_nodes};
 

@@ -1,7 +1,7 @@
 //! The walk over the nodes of a job, item by item.
 
 ghost use Rattle.std.specs.Prelude.{◌≡◌, ◌+◌, OnOk, map, fold};
-ghost use Rattle.sefl_syntax.specs.Views.{instr_tree, code_tree, port_tree, body_tree, decl_tree, net_tree};
+ghost use Rattle.sefl_syntax.specs.Views.{instr_tree, code_tree, port_tree, body_tree, decl_tree};
 ghost use Rattle.job_items.specs.Nodes.{codes_of};
 ghost use Rattle.job_names.specs.Lent.{surveyed_by};
 ghost use Rattle.job_names.specs.Occurrences.{with_first};

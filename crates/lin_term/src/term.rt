@@ -1,6 +1,6 @@
 //! Terms.
 
-ghost use Rattle.std.specs.Prelude.{◌≡◌, ℕ, ◌+◌, ◌*◌, ◌%◌, ◌^◌, ◌<◌, ◌≤◌, ◌↔◌, List, [], ◌∷◌, length, slice_get, slice_index, IsTrue, IsNone, IsSome, IfOk, IfSome};
+ghost use Rattle.std.specs.Prelude.{◌≡◌, ℕ, ◌*◌, ◌%◌, ◌^◌, ◌<◌, ◌≤◌, ◌↔◌, List, [], ◌∷◌, length, slice_get, slice_index, IsTrue, IsNone, IsSome, IfOk, IfSome};
 ghost use Rattle.sn_width.specs.Width.{FitsWidth, wrapped_sum, wrapped_difference};
 
 use crate::merge::{Part, merged, plus_times};
@@ -29,7 +29,7 @@ impl Model for Term {
 }
 
 impl Term {
-    ghost use Rattle.lin_term.specs.Terms.{LinearTerm, IsReduced, coefficient_of, value_at, IsSum, IsDifference, IsCombination};
+    ghost use Rattle.lin_term.specs.Terms.{LinearTerm, IsReduced, value_at, IsSum, IsDifference, IsCombination};
     ghost use Rattle.lin_term.specs.Sums.{term_sum, term_difference};
 
     /// A number. It must be at most the width's maximum.

@@ -1,11 +1,11 @@
 -- A node whose code only tests one cell lets packets out as the definition by the cell's number says.
-use Rattle.std.proofs.Common.{◌≡◌, ◌∙◌, refl, sym, ap, subst, ℕ, suc, Bool, List, [], ◌∷◌, filter, Option, None, Some, Result, Ok}
+use Rattle.std.proofs.Common.{◌≡◌, sym, ap, subst, ℕ, suc, List, [], filter, Ok}
 use Rattle.std.specs.Prelude.{is_none, unwrap_or}
 use Rattle.sn_width.specs.declared.ids.NodeId.{NodeId}
 use Rattle.sefl_syntax.specs.declared.reference.Target.{Target}
 use Rattle.sefl_syntax.specs.declared.net.Side.{Side}
 use Rattle.sefl_syntax.specs.declared.net.Side.TheVariants.{Inward, Outward}
-use Rattle.sefl_syntax.specs.Trees.{CodeTree, NodeTree}
+use Rattle.sefl_syntax.specs.Trees.{NodeTree}
 use Rattle.job_items.specs.AtomRules.{width_of}
 use Rattle.net_check.specs.Network.{code_at}
 use Rattle.table_nodes.specs.Exits.{code_in, exits, passes, way}
@@ -13,7 +13,7 @@ use Rattle.sefl_meaning.specs.Network.{Network, code_of}
 use Rattle.sefl_meaning.specs.Carried.{Carried, read_at, scene_at}
 use Rattle.sefl_meaning.specs.Runs.{Progress, Ran, run_code}
 use Rattle.sefl_meaning.specs.Walks.{run_port}
-use Rattle.model_laws.specs.Leaving.{goes_out, leaves_by, left_by, ports_of}
+use Rattle.model_laws.specs.Leaving.{goes_out, leaves_by}
 use Rattle.model_laws.specs.Reads.{OnlyTests}
 use Rattle.model_laws.proofs.Testing.{WentBy, went}
 

@@ -22,7 +22,7 @@ use Rattle.sefl_meaning.specs.Carried.{Carried, Key, base_tag, Scene, owner_of, 
 use Rattle.sefl_meaning.specs.Network.{code_size, inner_size, name_id}
 use Rattle.sefl_meaning.specs.Terms.{truth_in}
 use Rattle.sefl_meaning.specs.Runs.{Progress, then_run, run_code}
-use Rattle.sefl_meaning.specs.Steps.{allocated, assigned, deallocated, evaluated}
+use Rattle.sefl_meaning.specs.Steps.{allocated, deallocated, evaluated}
 use Rattle.model_laws.specs.Elements.{progress}
 use Rattle.model_laws.specs.Outcomes.{Outcome, sent, unless}
 use Rattle.model_laws.specs.Passing.{has_ports}

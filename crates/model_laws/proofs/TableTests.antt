@@ -1,5 +1,5 @@
 -- The code of the nodes of tables tests the destination alone.
-use Rattle.std.proofs.Common.{◌≡◌, refl, sym, subst, ℕ, suc, ◌^◌, ◌<◌, Bool, true, false, cond, List, [], ◌∷◌, map, Option, Some, option_map}
+use Rattle.std.proofs.Common.{refl, sym, subst, ℕ, suc, ◌^◌, ◌<◌, Bool, true, false, cond, List, [], ◌∷◌, map, Option, Some, option_map}
 use Rattle.std.specs.Prelude.{unwrap_or, find}
 use Rattle.std.specs.List.{AllByRecursion}
 use Rattle.sefl_syntax.specs.declared.reference.Target.{Target}

@@ -1,8 +1,7 @@
 -- What code that only tests one cell does where that cell reads a number.
-use Rattle.std.proofs.Common.{◌≡◌, ◌∙◌, refl, sym, ap, subst, ℕ, suc, ◌+◌, ◌%◌, ◌^◌, nat_le, Bool, true, false, not, ◌&&◌, ◌||◌, if◌then◌else◌, List, [], ◌∷◌, ◌++◌, Option, None, Some, Result, Ok, Err}
+use Rattle.std.proofs.Common.{◌≡◌, ◌∙◌, refl, sym, ap, subst, ℕ, suc, ◌+◌, ◌%◌, ◌^◌, nat_le, Bool, true, false, not, ◌&&◌, ◌||◌, if◌then◌else◌, List, [], ◌∷◌, Option, None, Some, Ok}
 use Rattle.std.specs.List.{list_all, list_any}
 use Rattle.std.proofs.Math.Nat.{mod-eq_of_lt}
-use Rattle.sn_width.specs.declared.faults.LayoutFault.{LayoutFault}
 use Rattle.sn_width.specs.declared.rel.Rel.{Rel}
 use Rattle.sn_width.specs.Rel.{relates}
 use Rattle.sefl_syntax.specs.declared.reference.Target.{Target}

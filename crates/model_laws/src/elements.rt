@@ -1,6 +1,6 @@
 //! The laws of Click elements, one for each class.
 
-ghost use Rattle.std.specs.Prelude.{◌≡◌, ℕ, List, Bool, Option, Ok};
+ghost use Rattle.std.specs.Prelude.{◌≡◌, ℕ, List, Option, Ok};
 ghost use Rattle.std.specs.declared.cmp.Ordering.TheVariants.{Equal};
 ghost use Rattle.sn_width.specs.declared.faults.LayoutFault.{LayoutFault};
 ghost use Rattle.sn_tree.specs.Pairs.{IsAscending};

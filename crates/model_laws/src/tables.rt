@@ -8,7 +8,6 @@ ghost use Rattle.net_check.specs.Network.{code_at, network};
 ghost use Rattle.table_nodes.specs.Exits.{code_in, exits};
 ghost use Rattle.table_nodes.specs.TableNodes.{destination};
 ghost use Rattle.sefl_meaning.specs.Carried.{read_at, scene_at};
-ghost use Rattle.sefl_meaning.specs.Runs.{Progress};
 ghost use Rattle.sefl_meaning.specs.View.{carried_of};
 ghost use Rattle.model_laws.specs.Leaving.{leaves_by};
 ghost use Rattle.model_laws.specs.Tables.{IsTableNode};

@@ -1,12 +1,11 @@
 //! Acceptance.
 
-ghost use Rattle.std.specs.Prelude.{◌≡◌, ◌<◌, ℕ, length, map, IfOk, OnOk, Some, None, Err};
+ghost use Rattle.std.specs.Prelude.{◌≡◌, ◌<◌, ℕ, length, map, IfOk, Some, Err};
 ghost use Rattle.std.specs.List.{AllByRecursion};
 ghost use Rattle.std.specs.Option.{ForSome};
 ghost use Rattle.sn_width.specs.declared.ids.Site.{Site as SiteOf};
 ghost use Rattle.sn_edge.specs.Told.{PatternsKept};
-ghost use Rattle.sefl_syntax.specs.Trees.{JobTree};
-ghost use Rattle.sefl_syntax.specs.Views.{job_tree, injection_tree, net_tree};
+ghost use Rattle.sefl_syntax.specs.Views.{job_tree};
 ghost use Rattle.job_items.specs.Rules.{refusal};
 ghost use Rattle.job_items.specs.declared.rule.Rule.{Rule as RuleOf};
 ghost use Rattle.job_items.specs.declared.rule.Rule.TheVariants.{BadPattern};

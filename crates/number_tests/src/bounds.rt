@@ -1,6 +1,6 @@
 //! Bounds between unknowns, as the solvers take them.
 
-ghost use Rattle.std.specs.Prelude.{◌≡◌, ℕ, ◌+◌, ◌^◌, ◌<◌, ◌≤◌, IsTrue, All};
+ghost use Rattle.std.specs.Prelude.{◌<◌, IsTrue, All};
 ghost use Rattle.difference_solver.specs.Bound.{IsInRange};
 
 use difference_solver::Bound;

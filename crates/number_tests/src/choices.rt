@@ -1,6 +1,6 @@
 //! Choices of cases, and the least integers that meet them.
 
-ghost use Rattle.std.specs.Prelude.{◌≡◌, ℕ, ◌+◌, ◌^◌, ◌<◌, ◌≤◌, IsTrue, All, length};
+ghost use Rattle.std.specs.Prelude.{◌+◌, ◌<◌, ◌≤◌, IsTrue, All, length};
 ghost use Rattle.difference_solver.specs.Bound.{IsInRange};
 ghost use Rattle.case_search.specs.Choices.{lists_of, cases_of, HasBelow, EachHasBelow, OneHasBelow, AreBelow, AreInRange};
 

@@ -1,6 +1,5 @@
 //! What the laws of the crates below say, of names and of widths.
 
-ghost use Rattle.std.specs.Prelude.{ℕ};
 ghost use Rattle.net_check.specs.Network.{Entry, Network};
 ghost use Rattle.own_records.specs.Below.{Below};
 

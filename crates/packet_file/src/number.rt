@@ -1,6 +1,6 @@
 //! Words that are numbers.
 
-ghost use Rattle.std.specs.Prelude.{◌≡◌, ◌≢◌, ◌∷◌, [], true, false, length, All, IfOk, IfErr, IfSome, IfNone};
+ghost use Rattle.std.specs.Prelude.{◌≡◌, ◌≢◌, ◌∷◌, [], true, false, All, IfOk, IfErr, IfSome, IfNone};
 ghost use Rattle.sefl_lex.specs.Words.{is_number, value_of};
 ghost use Rattle.sefl_lex.specs.Reads.{IsTokenOf, token_at};
 ghost use Rattle.sefl_lex.specs.declared.token.TokenKind.TheVariants.{Number};

@@ -1,7 +1,6 @@
 //! The cases of comparisons and memberships.
 
-ghost use Rattle.std.specs.Prelude.{◌≡◌, ◌≤◌, ◌<◌, ◌^◌, ◌∷◌, [], map, length, IfOk};
-ghost use Rattle.lin_term.specs.Terms.{LinearTerm};
+ghost use Rattle.std.specs.Prelude.{◌≡◌, ◌≤◌, ◌<◌, ◌^◌, [], map, IfOk};
 ghost use Rattle.path_formula.specs.Atoms.{comparison_kind, membership_kind};
 ghost use Rattle.path_formula.specs.Formulas.{compared, belongs, truth_at};
 ghost use Rattle.path_formula.specs.Solutions.{IsOver, agrees, alone};

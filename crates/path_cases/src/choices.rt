@@ -1,8 +1,8 @@
 //! The cases of a formula.
 
-ghost use Rattle.std.specs.Prelude.{◌≡◌, ◌++◌, IfOk, OnOk, map};
+ghost use Rattle.std.specs.Prelude.{◌≡◌, ◌++◌, IfOk, OnOk};
 ghost use Rattle.path_formula.specs.View.{view, views};
-ghost use Rattle.path_cases.specs.Bounds.{lists_of, items_of};
+ghost use Rattle.path_cases.specs.Bounds.{lists_of};
 ghost use Rattle.path_cases.specs.Cases.{cases_of, cases_of_all, cases_of_any, joined, with_bounds};
 ghost use Rattle.path_cases.specs.Splits.{CanSplit, EachCanSplit};
 

@@ -6,7 +6,7 @@ ghost use Rattle.path_formula.specs.Atoms.{comparison_kind, membership_kind};
 ghost use Rattle.path_formula.specs.Formulas.{compared, belongs, truth_at};
 ghost use Rattle.path_formula.specs.Solutions.{IsOver, agrees, alone};
 ghost use Rattle.path_formula.specs.View.{view, views};
-ghost use Rattle.path_cases.specs.Cases.{constant_cases, single_cases, relation_with, cases_by_shapes, cases_of, cases_of_all, cases_of_any};
+ghost use Rattle.path_cases.specs.Cases.{constant_cases, single_cases, relation_with, cases_of_all, cases_of_any};
 ghost use Rattle.path_cases.specs.Counts.{capped, case_count};
 ghost use Rattle.path_cases.specs.Pairs.{regions_of, list_of, relation_cases, pair_cases};
 ghost use Rattle.path_cases.specs.Splits.{AtomCanSplit, CanSplit, EachCanSplit};

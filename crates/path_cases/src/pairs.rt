@@ -1,9 +1,8 @@
 //! The cases of a comparison of two symbols plus constants.
 
-ghost use Rattle.std.specs.Prelude.{◌≡◌, ◌≤◌, ◌<◌, ◌^◌, ◌%◌, [], ◌∷◌, ◌++◌, ℕ, pos, IfOk, OnOk, IfSome, map, option_to_list};
-ghost use Rattle.std.specs.List.{flat_map};
+ghost use Rattle.std.specs.Prelude.{◌≡◌, ◌≤◌, ◌<◌, ◌^◌, ◌%◌, [], ◌∷◌, ◌++◌, pos, IfOk, OnOk, IfSome, option_to_list};
 ghost use Rattle.path_cases.specs.Bounds.{lists_of};
-ghost use Rattle.path_cases.specs.Pairs.{IsNear, AreNear, weak_bound, strict_bound, low_region, high_region, both_regions, regions_of, list_of, relation_cases, in_regions, region_cases, row_cases, pair_cases};
+ghost use Rattle.path_cases.specs.Pairs.{IsNear, AreNear, weak_bound, strict_bound, low_region, high_region, regions_of, list_of, in_regions, region_cases, row_cases, pair_cases};
 
 use crate::bound::SymBound;
 use lin_term::Term;

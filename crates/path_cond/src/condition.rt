@@ -1,6 +1,6 @@
 //! Path conditions.
 
-ghost use Rattle.std.specs.Prelude.{◌≡◌, ◌<◌, ℕ, [], ◌∷◌, ◌++◌, ◌&&◌, length, reverse, slice_get, slice_index, unwrap_or, option_copied, IfOk};
+ghost use Rattle.std.specs.Prelude.{◌≡◌, ◌<◌, [], ◌∷◌, ◌++◌, ◌&&◌, length, reverse, slice_get, slice_index, unwrap_or, option_copied, IfOk};
 ghost use Rattle.std.specs.Option.{option_map};
 ghost use Rattle.sn_ranges.specs.Ranges.{IsSetOf, fits_width};
 ghost use Rattle.path_formula.specs.Typed.{IsTyped};

@@ -1,6 +1,6 @@
 //! What is kept of the formulas of a condition beside their picks by symbol.
 
-ghost use Rattle.std.specs.Prelude.{◌≡◌, ◌==◌, [], ◌∷◌, ◌++◌, ℕ, true, List, length, if◌then◌else◌, IfOk};
+ghost use Rattle.std.specs.Prelude.{◌≡◌, ◌==◌, [], ◌∷◌, ◌++◌, true, List, length, if◌then◌else◌, IfOk};
 ghost use Rattle.path_formula.specs.Kinds.{kind_of};
 ghost use Rattle.path_formula.specs.View.{view};
 ghost use Rattle.path_cases.specs.Counts.{capped};

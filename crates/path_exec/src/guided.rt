@@ -1,7 +1,6 @@
 //! The run that decisions guide.
 
 ghost use Rattle.std.specs.Prelude.{◌≡◌, IfOk};
-ghost use Rattle.sefl_meaning.specs.declared.walk.Decision.{Decision as DecisionOf};
 ghost use Rattle.exact_records.specs.Spots.{IsAt};
 ghost use Rattle.path_exec.specs.Here.{behind_last};
 ghost use Rattle.path_exec.specs.Offers.{is_offered};

@@ -1,6 +1,6 @@
 //! The values of one symbol that give a formula a truth.
 
-ghost use Rattle.std.specs.Prelude.{◌≡◌, ◌&&◌, IfOk};
+ghost use Rattle.std.specs.Prelude.{◌&&◌, IfOk};
 ghost use Rattle.sn_width.specs.Rel.{relates};
 ghost use Rattle.sn_ranges.specs.Ranges.{IsSetOf, fits_width, is_member};
 ghost use Rattle.lin_term.specs.Terms.{value_at};

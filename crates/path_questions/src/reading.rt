@@ -1,6 +1,6 @@
 //! What a reference reads in a state.
 
-ghost use Rattle.std.specs.Prelude.{◌≡◌, true, Ok};
+ghost use Rattle.std.specs.Prelude.{◌≡◌};
 ghost use Rattle.cell_stacks.specs.Outcome.{lent};
 ghost use Rattle.net_check.specs.Network.{network};
 ghost use Rattle.sefl_meaning.specs.Carried.{base_tag, owner_of, read_at, scene_at};

@@ -6,7 +6,7 @@ ghost use Rattle.serde_json.specs.Find.{at};
 ghost use Rattle.serde_json.specs.View.{view};
 ghost use Rattle.net_check.specs.Network.{network};
 ghost use Rattle.report_shape.specs.declared.part.Part.TheVariants as part;
-ghost use Rattle.record_text.specs.Records.{empty_data, numbered_data, cycle_data, step_data, refutation_data};
+ghost use Rattle.record_text.specs.Records.{step_data, refutation_data};
 ghost use Rattle.std.specs.List.{AllByRecursion};
 ghost use Rattle.report_forms.specs.Fits.{StepFits};
 ghost use Rattle.path_report.specs.Having.{HasForm, IsRow};

@@ -1,6 +1,6 @@
 //! Laws of questions. Each is the contract of a function that does nothing.
 
-ghost use Rattle.std.specs.Prelude.{ℕ, List};
+ghost use Rattle.std.specs.Prelude.{ℕ};
 ghost use Rattle.sefl_meaning.specs.Network.{Entry, Network};
 ghost use Rattle.question_meaning.specs.Laws.{FormulasAreTyped, KeptIsRight};
 

@@ -1,9 +1,8 @@
 //! The stops of a guided run. Runs of records that follow one another share their first stops.
 
-ghost use Rattle.std.specs.Prelude.{◌≡◌, ◌≤◌, [], IfOk, length, take};
+ghost use Rattle.std.specs.Prelude.{◌≡◌, ◌≤◌, IfOk, length, take};
 ghost use Rattle.sefl_meaning.specs.Order.{BeginsWith};
-ghost use Rattle.record_checks.specs.Stops.{LeadsTo};
-ghost use Rattle.record_checks.specs.Trails.{IsLedAlong, IsTrail, decisions_of, taken, top_of};
+ghost use Rattle.record_checks.specs.Trails.{IsLedAlong, IsTrail, taken, top_of};
 
 use crate::guide::Guide;
 use lin_term::Term;

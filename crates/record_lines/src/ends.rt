@@ -1,6 +1,6 @@
 //! The head and the tail of a report.
 
-ghost use Rattle.std.specs.Prelude.{◌≡◌, ◌<◌};
+ghost use Rattle.std.specs.Prelude.{◌<◌};
 ghost use Rattle.sn_edge.specs.Told.{SinkKept};
 ghost use Rattle.sn_edge.specs.Put.{OnFailed};
 ghost use Rattle.record_text.specs.Reports.{head_text, tail_text};

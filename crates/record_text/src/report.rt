@@ -1,6 +1,6 @@
 //! Reports.
 
-ghost use Rattle.std.specs.Prelude.{◌≡◌, string_bytes, map, IfOk};
+ghost use Rattle.std.specs.Prelude.{◌≡◌, string_bytes, IfOk};
 ghost use Rattle.serde_json.specs.Data.{string};
 ghost use Rattle.net_check.specs.Network.{network};
 ghost use Rattle.compact_json.specs.Tokens.{Gains};

@@ -6,7 +6,6 @@ ghost use Rattle.case_counts.specs.Counts.{domain_cases};
 ghost use Rattle.case_counts.specs.Picks.{are_simple_picks, is_simple_pick};
 ghost use Rattle.path_cond.specs.Conditions.{is_simple_on};
 ghost use Rattle.refutation_check.specs.Accepted.{IsUnmeetable, IsDivisible, IsSplitInto, Leaves};
-ghost use Rattle.refutation_check.specs.Cycles.{IsNegativeCycle};
 
 use crate::cycle::is_negative_cycle;
 use crate::steps::Refute;

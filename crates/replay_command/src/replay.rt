@@ -1,6 +1,6 @@
 //! The command `replay`.
 
-ghost use Rattle.std.specs.Prelude.{◌≡◌, Ok, [], ◌∷◌, IfOk, IfErr, string_bytes};
+ghost use Rattle.std.specs.Prelude.{Ok, [], ◌∷◌, IfOk, IfErr, string_bytes};
 ghost use Rattle.net_check.specs.Network.{entry, network};
 ghost use Rattle.net_check.specs.Sound.{AreOfOneJob};
 ghost use Rattle.exact_records.specs.View.{record_trees};

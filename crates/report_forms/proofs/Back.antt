@@ -1,14 +1,13 @@
 -- The report that JSON shows, by the names of a net: so the JSON of a report that fits fixes it.
-use Rattle.std.proofs.Common.{◌≡◌, ◌<◌, ◌≤◌, ◌^◌, ◌==◌, ℕ, ℤ, List, [], ◌∷◌, ◌++◌, map, Bool, true, false, Option, Some, None, refl, sym, ap, ◌∙◌, subst}
-use Rattle.std.specs.Prelude.{codes, decimal, pos, negsuc, bytes_eq, if◌then◌else◌, option_map, option_and_then, unwrap_or}
+use Rattle.std.proofs.Common.{◌≡◌, ◌<◌, ◌≤◌, ◌^◌, ◌==◌, ℕ, ℤ, List, [], ◌∷◌, map, Bool, true, false, Option, Some, None, refl, sym, ap, ◌∙◌, subst}
+use Rattle.std.specs.Prelude.{codes, pos, negsuc, bytes_eq, if◌then◌else◌, option_map, option_and_then, unwrap_or}
 use Rattle.std.specs.List.{AllByRecursion}
-use Rattle.serde_json.specs.Data.{Data, null, number, string, array, object, Items, no_items, item, Members}
-use Rattle.serde_json.specs.Find.{get, at, as_number, as_str, as_array, as_object, as_u64, as_integer, of_integer}
+use Rattle.serde_json.specs.Data.{Data, null, Items, no_items, item, Members}
+use Rattle.serde_json.specs.Find.{get, at, as_number, as_str, as_array, as_object, as_integer}
 use Rattle.serde_json.specs.View.{items_of}
 use Rattle.sn_width.specs.declared.ids.NodeId.{NodeId}
 use Rattle.sn_width.specs.declared.ids.NameId.{NameId}
 use Rattle.sn_width.specs.declared.ids.TagId.{TagId}
-use Rattle.sn_width.specs.declared.ids.SymId.{SymId}
 use Rattle.sn_width.specs.declared.ids.Site.{Site}
 use Rattle.sn_width.specs.declared.faults.LayoutFault.{LayoutFault}
 use Rattle.sn_width.specs.declared.faults.LayoutFault.TheVariants.{NoTag, AddressRange, NoField, WidthDiffers, Overlap, Unset, NoMeta}
@@ -35,15 +34,14 @@ use Rattle.path_records.specs.declared.records.Record.{Record}
 use Rattle.path_records.specs.declared.records.Record.TheVariants.{Path, Pruned, Unexplored}
 use Rattle.path_records.specs.Shown.{fields_seen}
 use Rattle.report_shape.specs.Reduced.{number_in}
-use Rattle.run_text.specs.Names.{node_name, meta_name, tag_name}
-use Rattle.run_text.specs.Forms.{list, count, value_data, values_data, address_data, decision_data, decisions_data, place_data, places_data, fault_data, failure_data, end_data, owner_data, tag_data, tags_data, term_part_data, term_parts_data, term_data, given_by, cell_data, cells_data, head_data, heads_data, meta_data, metas_data, fields_data}
+use Rattle.run_text.specs.Forms.{list, count, value_data, values_data, address_data, decision_data, decisions_data, place_data, places_data, failure_data, end_data, owner_data, tag_data, tags_data, term_part_data, term_parts_data, term_data, given_by, cell_data, cells_data, head_data, heads_data, meta_data, metas_data, fields_data}
 use Rattle.record_text.specs.declared.report.Report.{Report}
 use Rattle.record_text.specs.Records.{ids_data, step_data, refutation_data, cause_data, verdict_data, before_data, path_data, pruned_data, unexplored_data, record_data, records_data}
 use Rattle.record_text.specs.Reports.{state_text, report_data, data_of}
 use Rattle.report_names.specs.Names.{node_named, meta_named, tag_named, place_named}
 use Rattle.report_names.specs.Own.{IsOwnPlace}
 use Rattle.report_forms.specs.Seen.{RecordSeen, path, pruned, unexplored, record_seen, ReportSeen, line_seen, report_seen}
-use Rattle.report_forms.specs.Fits.{DecisionFits, EndFits, AddressFits, PartFits, TermFits, ValueFits, CellFits, HeadFits, OwnerFits, MetaFits, TagFits, FieldsFit, Fit128, Fit32, CauseFits, VerdictFits, BeforeFits, StepFits, PathFits, LineFits, RecordFits, ReportFits}
+use Rattle.report_forms.specs.Fits.{DecisionFits, ValueFits, CellFits, HeadFits, OwnerFits, MetaFits, TagFits, FieldsFit, Fit128, Fit32, CauseFits, VerdictFits, BeforeFits, StepFits, LineFits, RecordFits, ReportFits}
 use Rattle.report_forms.proofs.Written.{HasDigits, FindsPlaces, value_in, power_within, parts_fit, PartFits128}
 
 -- ---- parts of a value, whatever it is

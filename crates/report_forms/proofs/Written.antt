@@ -1,14 +1,13 @@
 -- What is written has its form.
-use Rattle.std.proofs.Common.{◌≡◌, ◌≢◌, ◌^◌, ◌-◌, ◌<◌, ◌≤◌, ℕ, ℤ, zero, suc, List, [], ◌∷◌, ◌++◌, map, length, get_or, Bool, true, false, Option, Some, None, nat_lt, refl, sym, ap, ◌∙◌, subst, arith}
-use Rattle.std.specs.Prelude.{◌&&◌, ◌==◌, codes, decimal, pos, negsuc, int_lt, nat_le, if◌then◌else◌, is_some, position, unwrap_or}
-use Rattle.std.specs.List.{AllByRecursion, list_all}
-use Rattle.std.specs.Option.{option_or}
+use Rattle.std.proofs.Common.{◌≡◌, ◌^◌, ◌-◌, ◌<◌, ◌≤◌, ℕ, ℤ, suc, List, [], ◌∷◌, ◌++◌, map, Bool, true, false, Option, Some, None, nat_lt, refl, sym, ap, subst, arith}
+use Rattle.std.specs.Prelude.{codes, decimal, pos, negsuc, int_lt, nat_le, if◌then◌else◌, is_some, unwrap_or}
+use Rattle.std.specs.List.{AllByRecursion}
 use Rattle.std.specs.Str.Parse.{digits_value}
 use Rattle.std.proofs.lemmas.Bool.Decides.{nat_tests}
 use Rattle.std.proofs.lemmas.Int.{ints}
 use Rattle.std.proofs.lemmas.Nat.{pow_below}
 use Rattle.std.proofs.lemmas.Fmt.{decimal_is_IsNumeral_wide}
-use Rattle.serde_json.specs.Data.{Data, number, unsigned, negative, string, array, object, member, no_members}
+use Rattle.serde_json.specs.Data.{Data, string}
 use Rattle.serde_json.specs.View.{items_of}
 use Rattle.sn_width.specs.declared.ids.NodeId.{NodeId}
 use Rattle.sn_width.specs.declared.ids.NameId.{NameId}
@@ -16,7 +15,7 @@ use Rattle.sn_width.specs.declared.ids.TagId.{TagId}
 use Rattle.sn_width.specs.declared.faults.LayoutFault.{LayoutFault}
 use Rattle.sn_width.specs.declared.faults.LayoutFault.TheVariants.{NoTag, AddressRange, NoField, WidthDiffers, Overlap, Unset, NoMeta}
 use Rattle.sn_width.specs.Faults.{fault_number}
-use Rattle.lin_term.specs.Terms.{LinearTerm, Part, IsReduced, AscendsFrom, CoefficientsFit}
+use Rattle.lin_term.specs.Terms.{LinearTerm, Part, AscendsFrom, CoefficientsFit}
 use Rattle.cell_stacks.specs.declared.cell.Cell.{Cell}
 use Rattle.sefl_meaning.specs.declared.walk.Decision.{Decision}
 use Rattle.sefl_meaning.specs.declared.walk.Decision.TheVariants.{Then, Else, Pass, Broken, Copy}
@@ -38,17 +37,17 @@ use Rattle.path_records.specs.declared.records.Record.TheVariants.{Path, Pruned,
 use Rattle.report_shape.specs.declared.part.Part.{Part as Shaped}
 use Rattle.report_shape.specs.declared.part.Part.TheVariants as part
 use Rattle.report_shape.specs.Forms.{same}
-use Rattle.report_shape.specs.Faults.{fault, items_fault, under, unless, is_within}
+use Rattle.report_shape.specs.Faults.{fault, items_fault, unless, is_within}
 use Rattle.report_shape.specs.Numbers.{is_large, large_of}
-use Rattle.report_shape.specs.Reduced.{number_in, greatest, is_behind, term_fits, ascends, is_reduced}
-use Rattle.run_text.specs.Names.{node_name, meta_name, tag_name}
+use Rattle.report_shape.specs.Reduced.{number_in, greatest, is_behind, ascends, is_reduced}
+use Rattle.run_text.specs.Names.{node_name}
 use Rattle.run_text.specs.Forms.{list, count, value_data, values_data, address_data, decision_data, decisions_data, side_text, place_data, places_data, fault_data, failure_data, end_data, owner_data, tag_data, tags_data, term_part_data, term_parts_data, term_data, given_by, cell_data, cells_data, head_data, heads_data, meta_data, metas_data, fields_data}
 use Rattle.record_text.specs.declared.report.Report.{Report}
 use Rattle.record_text.specs.Records.{ids_data, step_data, refutation_data, cause_data, verdict_data, before_data, path_data, pruned_data, unexplored_data, record_data, records_data}
 use Rattle.record_text.specs.Reports.{state_text, report_data, data_of}
 use Rattle.report_names.specs.Names.{knows, place_named}
 use Rattle.report_names.specs.Own.{IsOwnPlace}
-use Rattle.report_forms.specs.Fits.{DecisionFits, EndFits, AddressFits, PartFits, TermFits, ValueFits, CellFits, HeadFits, OwnerFits, MetaFits, TagFits, FieldsFit, Fit128, Fit32, CauseFits, VerdictFits, BeforeFits, StepFits, PathFits, LineFits, RecordFits, ReportFits}
+use Rattle.report_forms.specs.Fits.{DecisionFits, EndFits, AddressFits, PartFits, TermFits, ValueFits, CellFits, HeadFits, OwnerFits, MetaFits, TagFits, FieldsFit, Fit128, Fit32, CauseFits, VerdictFits, BeforeFits, StepFits, LineFits, RecordFits, ReportFits}
 
 -- no place of the value is refused
 abbrev HasForm : Network → Shaped → Data → Type 0

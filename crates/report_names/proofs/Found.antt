@@ -1,6 +1,6 @@
 -- What the name of an id is.
-use Rattle.std.proofs.Common.{◌≡◌, ℕ, List, [], Bool, true, false, Option, Some, None, length, get_or, refl, sym, ap, ◌∙◌}
-use Rattle.std.specs.Prelude.{bytes_eq, is_some, option_map, position, slice_get, unwrap_or, if◌then◌else◌}
+use Rattle.std.proofs.Common.{◌≡◌, ℕ, List, [], Bool, true, false, Option, Some, None, get_or, refl, sym, ap, ◌∙◌}
+use Rattle.std.specs.Prelude.{bytes_eq, option_map, position, slice_get, unwrap_or, if◌then◌else◌}
 use Rattle.std.proofs.lemmas.List.Quantifiers.{position-Some}
 use Rattle.std.proofs.lemmas.Option.{unwrap_or-slice_get}
 use Rattle.std.proofs.lemmas.Slice.Eq.{bytes_eq-Decides}
@@ -11,7 +11,7 @@ use Rattle.sefl_syntax.specs.Name.{is_name}
 use Rattle.sefl_syntax.specs.Trees.{DeclTree, NetTree}
 use Rattle.net_tables.specs.Places.{node_position}
 use Rattle.net_tables.specs.Laws.{IsNamed}
-use Rattle.net_check.specs.Network.{Network, node_number, name_number, tag_number}
+use Rattle.net_check.specs.Network.{Network}
 use Rattle.run_text.specs.Names.{node_name, meta_name, tag_name}
 use Rattle.report_names.specs.Names.{node_named, meta_named, tag_named}
 use Rattle.report_names.specs.Own.{IsOwnNode, IsOwnName, IsOwnTag}

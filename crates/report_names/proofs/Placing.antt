@@ -4,7 +4,7 @@ use Rattle.std.specs.Prelude.{◌&&◌, codes, decimal, nat_le, bytes_eq, option
 use Rattle.std.specs.List.{list_all}
 use Rattle.std.proofs.lemmas.Bool.Decides.{nat_tests}
 use Rattle.std.proofs.lemmas.Slice.Eq.{bytes_eq-Decides}
-use Rattle.serde_json.specs.Data.{Data, string}
+use Rattle.serde_json.specs.Data.{string}
 use Rattle.sn_width.specs.declared.ids.NodeId.{NodeId}
 use Rattle.sefl_lex.specs.Bytes.{begins, is_name_byte, is_name_start}
 use Rattle.sefl_syntax.specs.Name.{is_name}

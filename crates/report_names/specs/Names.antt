@@ -1,7 +1,6 @@
 -- The texts that a net knows: names of its nodes, metadata and tags, and its places.
-use Rattle.std.specs.Prelude.{ℕ, ◌^◌, ◌==◌, ◌&&◌, List, [], ◌∷◌, Bool, true, false, codes, decimal, bytes_eq, nat_lt, if◌then◌else◌, Option, Some, None, option_map, option_and_then, is_some, position}
+use Rattle.std.specs.Prelude.{ℕ, ◌^◌, ◌==◌, ◌&&◌, List, [], ◌∷◌, Bool, false, codes, decimal, bytes_eq, nat_lt, if◌then◌else◌, Option, Some, None, option_map, is_some, position}
 use Rattle.std.specs.Str.Parse.{digits_value}
-use Rattle.sn_width.specs.declared.ids.NodeId.{NodeId}
 use Rattle.sefl_syntax.specs.Name.{is_name}
 use Rattle.sefl_syntax.specs.declared.net.Side.{Side}
 use Rattle.sefl_syntax.specs.declared.net.Side.TheVariants.{Inward, Outward}

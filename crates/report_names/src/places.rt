@@ -2,7 +2,7 @@
 
 ghost use Rattle.std.specs.Prelude.{◌≡◌, IfOk, option_map};
 ghost use Rattle.net_check.specs.Network.{network, node_number};
-ghost use Rattle.report_names.specs.Names.{halves, side_named, port_of, placed, placed_by, place_by, place_named};
+ghost use Rattle.report_names.specs.Names.{halves, side_named, port_of, placed, placed_by, place_named};
 
 use crate::names::node_named;
 use net_check::Net;

@@ -1,11 +1,11 @@
 -- The first place of a value that has not its form, as a JSON Pointer.
-use Rattle.std.specs.Prelude.{ℕ, suc, ◌^◌, ◌==◌, ◌&&◌, ◌||◌, not, ℤ, pos, List, [], ◌∷◌, ◌++◌, length, codes, decimal, Bool, true, false, Option, Some, None, option_map, option_and_then, unwrap_or, if◌then◌else◌, nat_le, int_lt, slice_get, Result, Ok, Err}
+use Rattle.std.specs.Prelude.{ℕ, suc, ◌==◌, ◌&&◌, ◌||◌, not, ℤ, pos, List, [], ◌∷◌, ◌++◌, length, codes, decimal, Bool, true, false, Option, Some, None, option_map, option_and_then, unwrap_or, if◌then◌else◌, nat_le, int_lt, slice_get, Result, Ok, Err}
 use Rattle.std.specs.Option.{option_or}
 use Rattle.std.specs.Str.{bytes_eq}
 use Rattle.serde_json.specs.Data.{Num, unsigned, negative, float, Data, null, boolean, number, string, array, object, Items, no_items, item, Members, no_members, member}
 use Rattle.serde_json.specs.Find.{as_number, as_str, as_u64, get_member}
 use Rattle.serde_json.specs.Events.{items_len}
-use Rattle.report_shape.specs.Forms.{Form, TextForm, no_text, any_text, words, large, known, ListForm, no_list, list_of, rows, headed, ObjectForm, no_object, keyed, by_word, by_number, Field, Parts, same, in_order}
+use Rattle.report_shape.specs.Forms.{TextForm, no_text, any_text, words, large, known, ListForm, no_list, list_of, rows, headed, ObjectForm, no_object, keyed, by_word, by_number, Field, Parts, same, in_order}
 use Rattle.report_shape.specs.Shape.{form}
 use Rattle.report_shape.specs.Numbers.{is_large}
 use Rattle.report_shape.specs.Reduced.{is_reduced}

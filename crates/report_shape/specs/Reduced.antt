@@ -1,5 +1,5 @@
 -- A cell that holds a reduced term.
-use Rattle.std.specs.Prelude.{ℕ, ◌^◌, ◌-◌, ◌&&◌, Bool, true, false, Option, Some, None, if◌then◌else◌, option_and_then, option_map, unwrap_or, nat_le, nat_lt}
+use Rattle.std.specs.Prelude.{ℕ, ◌^◌, ◌-◌, ◌&&◌, Bool, true, Option, Some, None, if◌then◌else◌, option_and_then, option_map, unwrap_or, nat_le, nat_lt}
 use Rattle.serde_json.specs.Data.{Data, null, boolean, number, string, array, object, Items, no_items, item}
 use Rattle.serde_json.specs.Find.{as_number, as_u64, as_array, at}
 use Rattle.report_shape.specs.Numbers.{large_of}

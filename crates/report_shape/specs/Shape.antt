@@ -1,5 +1,5 @@
 -- The shape of a report: the form of each of its parts.
-use Rattle.std.specs.Prelude.{ℕ, ℤ, pos, negsuc, List, [], ◌∷◌, true, false, codes, Some, None}
+use Rattle.std.specs.Prelude.{ℤ, pos, negsuc, List, [], ◌∷◌, true, false, codes, Some, None}
 use Rattle.report_shape.specs.declared.part.Part.{Part}
 use Rattle.report_shape.specs.declared.part.Part.TheVariants.{Report, Hops, Limit, Records, Record, State, Version, Word, Decisions, Decision, Places, Place, End, Text, Fields, Heads, Head, Metas, Meta, Owner, MetaName, Tags, Tag, TagName, Address, Cells, Cell, Width, Value, Terms, Term, Verdict, Before, Cause, Values, Refutation, Step, Ids, Id, Count, Nothing}
 use Rattle.report_shape.specs.Forms.{TextForm, no_text, any_text, words, large, known, ListForm, no_list, list_of, rows, headed, ObjectForm, no_object, keyed, by_word, by_number, Form, Field}

@@ -2,7 +2,7 @@
 
 ghost use Rattle.std.specs.Prelude.{◌≡◌, ℕ, List, Bool, map, string_bytes, option_map, IfOk};
 ghost use Rattle.serde_json.specs.View.{view, number_view, items_view, members_view};
-ghost use Rattle.report_shape.specs.Held.{text_form, fields_of, field_of, parts_of};
+ghost use Rattle.report_shape.specs.Held.{text_form, field_of, parts_of};
 ghost use Rattle.report_shape.specs.Faults.{number_fits, is_within, text_fits, fault, items_fault, members_fault, is_whole, pointer_to, unless};
 
 use crate::form::{Field, Parts, Texts};

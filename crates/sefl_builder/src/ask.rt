@@ -1,6 +1,6 @@
 //! Reads questions.
 
-ghost use Rattle.std.specs.Prelude.{◌≡◌, map};
+ghost use Rattle.std.specs.Prelude.{map};
 ghost use Rattle.sefl_syntax.specs.Views.{ask_tree, cond_tree};
 ghost use Rattle.sefl_builder.specs.Reading.{Answers};
 ghost use Rattle.sefl_builder.specs.Nets.{ask, asks, invariant, place, question, reach, target_at, visible, with_test};

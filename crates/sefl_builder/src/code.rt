@@ -1,6 +1,6 @@
 //! Reads instructions and blocks.
 
-ghost use Rattle.std.specs.Prelude.{◌≡◌, map};
+ghost use Rattle.std.specs.Prelude.{map};
 ghost use Rattle.sefl_syntax.specs.Views.{code_tree, instr_tree};
 ghost use Rattle.sefl_builder.specs.Reading.{Answers};
 ghost use Rattle.sefl_builder.specs.Instructions.{block_here, blocks, for_rest, if_rest, instr, instrs};

@@ -1,8 +1,8 @@
 //! Reads conditions.
 
-ghost use Rattle.std.specs.Prelude.{◌≡◌, ◌∷◌, [], IfOk, map};
+ghost use Rattle.std.specs.Prelude.{◌≡◌, IfOk, map};
 ghost use Rattle.sefl_syntax.specs.Trees.{negation};
-ghost use Rattle.sefl_syntax.specs.Views.{cond_tree, expr_tree};
+ghost use Rattle.sefl_syntax.specs.Views.{cond_tree};
 ghost use Rattle.sefl_builder.specs.Reading.{Answers};
 ghost use Rattle.sefl_builder.specs.Conditions.{atom, braced_ranges, bracket, cond, conj, conjs_from, goes_expr, neg, negs_from, next_conj, next_neg, next_range, opposite, range, ranges, ranges_from, rel, rel_ahead, truth};
 

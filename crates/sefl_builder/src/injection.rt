@@ -1,6 +1,6 @@
 //! Reads the packet that is injected.
 
-ghost use Rattle.std.specs.Prelude.{◌≡◌, map};
+ghost use Rattle.std.specs.Prelude.{map};
 ghost use Rattle.sefl_syntax.specs.Views.{cond_tree, injection_tree};
 ghost use Rattle.sefl_builder.specs.Reading.{Answers};
 ghost use Rattle.sefl_builder.specs.Nets.{field, field_value, fields, injection, tag, tags, tests, where_test};

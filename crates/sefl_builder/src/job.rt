@@ -1,6 +1,5 @@
 //! Reads jobs.
 
-ghost use Rattle.std.specs.Prelude.{◌≡◌};
 ghost use Rattle.sefl_syntax.specs.Views.{job_tree};
 ghost use Rattle.sefl_builder.specs.Reading.{Answers};
 ghost use Rattle.sefl_builder.specs.Nets.{finished, heading, job, version};

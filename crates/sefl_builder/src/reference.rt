@@ -1,6 +1,5 @@
 //! Reads addresses and targets.
 
-ghost use Rattle.std.specs.Prelude.{◌≡◌, ◌||◌, pos};
 ghost use Rattle.sefl_builder.specs.Reading.{Answers};
 ghost use Rattle.sefl_builder.specs.Terms.{addr, ahead, back, bound, header, meta, scope, signed, sized, tagged, target, unsigned, untagged};
 

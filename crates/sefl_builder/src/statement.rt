@@ -1,6 +1,5 @@
 //! Reads instructions that have no block.
 
-ghost use Rattle.std.specs.Prelude.{◌≡◌, ◌∷◌, []};
 ghost use Rattle.sefl_syntax.specs.Views.{instr_tree};
 ghost use Rattle.sefl_builder.specs.Reading.{Answers};
 ghost use Rattle.sefl_builder.specs.Instructions.{allocate_rest, any_rest, assign_rest, constrain_rest, deallocate_rest, fail_rest, fork_rest, forward_rest, next_port, no_op_rest, ports, ports_from, retag_rest, set_rest, statement_rest, tag_line, tag_rest, target_line, untag_rest};

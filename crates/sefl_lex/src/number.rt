@@ -1,9 +1,9 @@
 //! The values of numbers.
 
-ghost use Rattle.std.specs.Prelude.{◌≡◌, ◌≤◌, ◌<◌, ◌^◌, ◌+◌, ◌*◌, true, false, IsTrue, IfSome, IfNone};
+ghost use Rattle.std.specs.Prelude.{◌≡◌, ◌≤◌, ◌<◌, ◌^◌, ◌+◌, ◌*◌, true, false, IfSome, IfNone};
 ghost use Rattle.std.specs.Option.{SomeIff};
 ghost use Rattle.std.specs.Str.Parse.{digits_value};
-ghost use Rattle.sefl_lex.specs.Words.{base_of, digits_of, is_hexadecimal, have_value, are_digits, is_number, value_of};
+ghost use Rattle.sefl_lex.specs.Words.{is_hexadecimal, have_value, are_digits, is_number, value_of};
 
 /// The number with one digit more.
 fn append(value: u128, base: u32, digit: u32) -> Option<u128>

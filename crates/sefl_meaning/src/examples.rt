@@ -1,6 +1,6 @@
 //! Worked examples of the meaning. Each is the contract of a function that does nothing.
 
-ghost use Rattle.std.specs.Prelude.{◌≡◌, ℕ, [], ◌∷◌, None, suc, codes};
+ghost use Rattle.std.specs.Prelude.{◌≡◌, ℕ, [], ◌∷◌, suc, codes};
 ghost use Rattle.sn_width.specs.declared.faults.LayoutFault.TheVariants.{NoMeta};
 ghost use Rattle.sefl_syntax.specs.declared.net.Side.TheVariants.{Inward, Outward};
 ghost use Rattle.sefl_meaning.specs.declared.walk.Decision.TheVariants.{Then, Else, Pass, Copy};

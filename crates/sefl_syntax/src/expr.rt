@@ -1,6 +1,6 @@
 //! Expressions.
 
-ghost use Rattle.std.specs.Prelude.{◌≡◌, ◌++◌, Some, OnOk, string_bytes, codes};
+ghost use Rattle.std.specs.Prelude.{◌≡◌, ◌++◌, Some, OnOk, string_bytes};
 ghost use Rattle.sefl_syntax.specs.TermText.{sign_text, expr_text, operand_text, summands_text};
 ghost use Rattle.sefl_syntax.specs.Views.{expr_tree, summand_trees};
 

@@ -2,8 +2,8 @@
 
 ghost use Rattle.std.specs.Prelude.{◌≡◌, ◌++◌, IfOk, OnOk, map, string_bytes};
 ghost use Rattle.std.specs.List.{flat_map};
-ghost use Rattle.sefl_syntax.specs.NetText.{node_heading, node_text, port_text, table_text, body_text, decl_text, link_text, net_text};
-ghost use Rattle.sefl_syntax.specs.Views.{port_tree, node_tree, body_tree, decl_tree, net_tree};
+ghost use Rattle.sefl_syntax.specs.NetText.{node_heading, node_text, port_text, table_text, decl_text, link_text, net_text};
+ghost use Rattle.sefl_syntax.specs.Views.{port_tree, node_tree, decl_tree, net_tree};
 
 use crate::code::write_code;
 use crate::name::Name;

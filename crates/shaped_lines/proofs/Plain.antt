@@ -1,6 +1,6 @@
 -- What has its form is read back as it was written: its numbers are whole and of 64 bits, its keys ascend, and it nests to ten at most.
-use Rattle.std.proofs.Common.{◌≡◌, ◌^◌, ◌-◌, ◌<◌, ◌≤◌, ◌+◌, ℕ, ℤ, max, zero, suc, List, [], ◌∷◌, ◌++◌, Bool, true, false, Option, Some, None, Ordering, Less, Equal, Greater, nat_cmp, nat_lt, refl, sym, ap, ◌∙◌, subst, arith}
-use Rattle.std.specs.Prelude.{◌&&◌, ◌==◌, not, pos, negsuc, int_lt, nat_le, decimal, length, if◌then◌else◌, Result, Ok, Err, slice_get, unwrap_or, option_and_then}
+use Rattle.std.proofs.Common.{◌≡◌, ◌<◌, ◌≤◌, ℕ, ℤ, max, zero, suc, List, [], ◌∷◌, ◌++◌, Bool, true, false, Option, Some, None, Ordering, Less, Equal, Greater, nat_cmp, nat_lt, refl, subst, arith}
+use Rattle.std.specs.Prelude.{◌&&◌, ◌==◌, not, pos, negsuc, int_lt, nat_le, decimal, length, if◌then◌else◌, Result, Ok, Err, option_and_then}
 use Rattle.std.specs.Cmp.Lexicographic.{slice_cmp}
 use Rattle.std.specs.Option.{option_or}
 use Rattle.std.specs.Str.{bytes_eq}
@@ -12,12 +12,12 @@ use Rattle.serde_json.specs.Find.{as_str, as_number, as_u64, get_member}
 use Rattle.serde_json.specs.Events.{items_len}
 use Rattle.serde_json.specs.Read.{read, max_depth}
 use Rattle.serde_json.specs.Written.{compact_text}
-use Rattle.compact_json.specs.Plain.{IsAbove, AllAbove, IsSorted, IsPlainNumber, IsPlain, ArePlain, HasPlain}
+use Rattle.compact_json.specs.Plain.{AllAbove, IsSorted, IsPlainNumber, IsPlain, ArePlain, HasPlain}
 use Rattle.report_shape.specs.declared.part.Part.{Part}
 use Rattle.report_shape.specs.declared.part.Part.TheVariants as part
 use Rattle.report_shape.specs.Forms.{Parts, same, in_order, ListForm, no_list, list_of, rows, headed, ObjectForm, no_object, keyed, by_word, by_number, Field}
 use Rattle.report_shape.specs.Shape.{form}
-use Rattle.report_shape.specs.Faults.{fault, items_fault, members_fault, number_fits, is_within, list_parts, object_fields, row_of, row_named, row_by_head, fits_row, decided_by, by_member, with_keys, if_keys, for_word, for_number, keys_are, part_at, part_of, picked, under, unless, is_whole}
+use Rattle.report_shape.specs.Faults.{fault, items_fault, members_fault, number_fits, list_parts, object_fields, row_of, row_named, fits_row, decided_by, by_member, with_keys, if_keys, for_word, for_number, keys_are, part_at, part_of, picked, under, unless, is_whole}
 
 both : (a b : Bool) → a && b ≡ true → (a ≡ true) × (b ≡ true)
 both true b h = (refl, h)

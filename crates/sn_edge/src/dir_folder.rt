@@ -1,5 +1,5 @@
 //! The files of the system.
-ghost use Rattle.std.specs.Prelude.{◌≡◌, ◌<◌, ◌≤◌, ◌+◌, length, None};
+ghost use Rattle.std.specs.Prelude.{◌≡◌, ◌<◌, ◌≤◌, length, None};
 ghost use Rattle.sn_edge.specs.Loaded.{IfBytes};
 ghost use Rattle.sn_edge.specs.DirFolder.{FolderCounts, IsCounted, after_answer};
 

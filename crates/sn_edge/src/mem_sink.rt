@@ -1,5 +1,5 @@
 //! Bytes kept in memory.
-ghost use Rattle.std.specs.Prelude.{◌≡◌, ◌<◌, ◌+◌, ◌^◌, ◌-◌, ◌↔◌, [], Some, Contains};
+ghost use Rattle.std.specs.Prelude.{◌≡◌, ◌<◌, ◌+◌, ◌-◌, [], Some, Contains};
 ghost use Rattle.sn_edge.specs.MemSink.{SinkState, after_put};
 
 use crate::{Put, Sink};

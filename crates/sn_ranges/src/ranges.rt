@@ -1,6 +1,6 @@
 //! Sets of values of a width.
 
-ghost use Rattle.std.specs.Prelude.{◌≡◌, ◌==◌, ℕ, ◌≤◌, ◌↔◌, ◌&&◌, ◌||◌, not, false, [], length, slice_get, IsNone, IfSome, IfNone, IfOk, IsOkUnless};
+ghost use Rattle.std.specs.Prelude.{◌≡◌, ◌==◌, ℕ, ◌≤◌, ◌↔◌, ◌&&◌, ◌||◌, not, false, length, slice_get, IsNone, IfSome, IfNone, IfOk, IsOkUnless};
 ghost use Rattle.sn_width.specs.Width.{FitsWidth, wrapped_sum, wrapped_difference};
 ghost use Rattle.sn_ranges.specs.Ranges.{is_member, fits_width, IsCanonical, IsSetOf, IsLeast};
 ghost use Rattle.sn_ranges.specs.Sets.{set_of};

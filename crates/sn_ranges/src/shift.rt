@@ -1,6 +1,6 @@
 //! The numbers of a list of ranges, each raised by a constant modulo two to a width.
 
-ghost use Rattle.std.specs.Prelude.{◌≡◌, ℕ, ◌+◌, ◌-◌, ◌^◌, ◌<◌, ◌≤◌, ◌&&◌, ◌||◌, true, nat_le, IfOk, OnOk};
+ghost use Rattle.std.specs.Prelude.{◌+◌, ◌-◌, ◌^◌, ◌<◌, ◌≤◌, ◌&&◌, ◌||◌, nat_le, IfOk, OnOk};
 ghost use Rattle.sn_ranges.specs.Ranges.{is_member, HasExactly, AscendFrom, last_start};
 
 use crate::merge::append;

@@ -1,6 +1,6 @@
 //! Instructions that only touch what is carried, and choices.
 
-ghost use Rattle.std.specs.Prelude.{◌≡◌, ◌≤◌, ℕ, List, length};
+ghost use Rattle.std.specs.Prelude.{◌≤◌, ℕ, List, length};
 ghost use Rattle.cell_stacks.specs.Outcome.{Meets, on_ok};
 ghost use Rattle.instr_steps.specs.Scenes.{scene_of};
 ghost use Rattle.job_items.specs.AtomRules.{width_of};

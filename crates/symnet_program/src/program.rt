@@ -1,6 +1,6 @@
 //! The program's top call.
 
-ghost use Rattle.std.specs.Prelude.{◌≡◌, ◌⊎◌, List, ℕ, Some, None, IsSome};
+ghost use Rattle.std.specs.Prelude.{◌≡◌, ◌⊎◌, List, ℕ, Some, None};
 ghost use Rattle.std.specs.Io.KnownBytes.{append_known};
 ghost use Rattle.sn_edge.specs.Told.{FolderKept, PatternsKept, SinkKept};
 ghost use Rattle.run_answers.specs.Inputs.{FirstFails, IsSettled};

@@ -1,6 +1,6 @@
 //! What a line of a table file says.
 
-ghost use Rattle.std.specs.Prelude.{◌≡◌, bytes_eq, codes, ◌∷◌, []};
+ghost use Rattle.std.specs.Prelude.{◌≡◌, bytes_eq, codes};
 ghost use Rattle.table_lines.specs.Contents.{header_of, row_of, two_words, words_say, content_of};
 ghost use Rattle.table_lines.specs.Words.{words};
 

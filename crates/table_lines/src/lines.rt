@@ -1,6 +1,6 @@
 //! Lines, and files that are read line by line.
 
-ghost use Rattle.std.specs.Prelude.{◌≡◌, ◌<◌, ◌^◌, [], ◌∷◌, length, ℕ, List, Result, IfSome, IfNone};
+ghost use Rattle.std.specs.Prelude.{◌≡◌, ◌<◌, [], ◌∷◌, length, ℕ, List, Result, IfSome, IfNone};
 ghost use Rattle.table_lines.specs.Lines.{lines, without_return};
 ghost use Rattle.table_lines.specs.Reading.{Leaves, read_from};
 ghost use Rattle.table_lines.specs.declared.fault.TableFault.{TableFault};

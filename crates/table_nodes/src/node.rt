@@ -1,6 +1,6 @@
 //! The nodes of tables.
 
-ghost use Rattle.std.specs.Prelude.{◌≡◌, ◌≤◌, [], ◌∷◌, ◌++◌, length, map, All, List, IfOk};
+ghost use Rattle.std.specs.Prelude.{◌≡◌, ◌≤◌, [], ◌∷◌, length, map, All, IfOk};
 ghost use Rattle.sefl_syntax.specs.Trees.{CodeTree};
 ghost use Rattle.sefl_syntax.specs.Views.{code_tree, instr_tree, node_tree, port_tree};
 ghost use Rattle.table_nodes.specs.TableNodes.{guarded, set_guards, row_guard, destination, last_of, in_code, out_code, out_codes, to_all, node_with, guard_instr};

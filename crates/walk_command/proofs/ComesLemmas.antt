@@ -1,5 +1,5 @@
 -- What `walk` comes to, by the numbers of the packet's file.
-use Rattle.std.proofs.Common.{◌≡◌, refl, sym, subst, ℕ, List, [], ◌∷◌, None, Some}
+use Rattle.std.proofs.Common.{◌≡◌, refl, sym, subst, ℕ, List, [], ◌∷◌, Some}
 use Rattle.sefl_syntax.specs.Trees.{AskTree}
 use Rattle.net_check.specs.Network.{Network, Entry}
 use Rattle.packet_file.specs.Packet.{packet_of}

@@ -1,5 +1,5 @@
 -- The text of walks: compact JSON, its keys ascending, and a line feed.
-use Rattle.std.specs.Prelude.{List, [], ◌∷◌, ◌++◌, ℕ, map, codes}
+use Rattle.std.specs.Prelude.{List, ◌++◌, ℕ, map, codes}
 use Rattle.serde_json.specs.Data.{Data, object, no_members, member}
 use Rattle.serde_json.specs.Written.{compact_text}
 use Rattle.net_check.specs.Network.{Network}

@@ -1,6 +1,6 @@
 //! Conditions over two symbols of 2 bits, compared with plain evaluation at all sixteen pairs of values.
 
-ghost use Rattle.std.specs.Prelude.{◌≡◌, ℕ, List, IfOk};
+ghost use Rattle.std.specs.Prelude.{ℕ, List, IfOk};
 ghost use Rattle.path_formula.specs.Typed.{IsTyped};
 ghost use Rattle.path_formula.specs.View.{view as tree_of};
 

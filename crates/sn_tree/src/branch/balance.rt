@@ -1,5 +1,5 @@
 //! Nodes made anew, and in balance.
-ghost use Rattle.std.specs.Prelude.{◌≡◌, ◌∷◌, ◌++◌, ◌≤◌, ◌+◌, max, IfOk};
+ghost use Rattle.std.specs.Prelude.{◌≡◌, ◌∷◌, ◌++◌, ◌+◌, max, IfOk};
 ghost use Rattle.sn_tree.specs.Pairs.{IsAscending};
 ghost use Rattle.sn_tree.specs.Nodes.{DifferByAtMost, IsHeightOver, IsUpToOneMore};
 

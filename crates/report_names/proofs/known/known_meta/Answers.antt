@@ -1,7 +1,6 @@
-use Rattle.std.proofs.Common.{◌≡◌, Some, sym, ap, ◌∙◌}
+use Rattle.std.proofs.Common.{sym, ap, ◌∙◌}
 use Rattle.net_check.specs.Network.{network, name_number}
 use Rattle.std.specs.Prelude.{option_map}
-use Rattle.report_names.specs.Names.{meta_named}
 use Rattle.report_names.proofs.Found.{meta_is, own_name}
 use Rattle.report_names.proofs.known.known_meta.Goals as goal
 

@@ -1,7 +1,6 @@
-use Rattle.std.proofs.Common.{◌≡◌, Some, sym, ap, ◌∙◌}
+use Rattle.std.proofs.Common.{sym, ap, ◌∙◌}
 use Rattle.net_check.specs.Network.{network, node_number}
 use Rattle.std.specs.Prelude.{option_map}
-use Rattle.report_names.specs.Names.{node_named}
 use Rattle.report_names.proofs.Found.{node_is, own_node}
 use Rattle.report_names.proofs.known.known_node.Goals as goal
 

@@ -1,4 +1,4 @@
-use Rattle.std.proofs.Common.{◌≡◌, Some, sym, ap, ◌∙◌}
+use Rattle.std.proofs.Common.{sym, ◌∙◌}
 use Rattle.net_check.specs.Network.{network}
 use Rattle.report_names.proofs.Placing.{place_shows, own_place}
 use Rattle.report_names.proofs.known.known_place.Goals as goal

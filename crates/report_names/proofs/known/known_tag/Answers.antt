@@ -1,7 +1,6 @@
-use Rattle.std.proofs.Common.{◌≡◌, Some, sym, ap, ◌∙◌}
+use Rattle.std.proofs.Common.{sym, ap, ◌∙◌}
 use Rattle.net_check.specs.Network.{network, tag_number}
 use Rattle.std.specs.Prelude.{option_map}
-use Rattle.report_names.specs.Names.{tag_named}
 use Rattle.report_names.proofs.Found.{tag_is, own_tag}
 use Rattle.report_names.proofs.known.known_tag.Goals as goal
 

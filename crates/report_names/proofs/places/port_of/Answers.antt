@@ -1,4 +1,4 @@
-use Rattle.std.proofs.Common.{◌≡◌, Ok, string_bytes, true≢false, sym, ap, ◌∙◌, arith, rules}
+use Rattle.std.proofs.Common.{◌≡◌, string_bytes, true≢false, sym, ap, ◌∙◌, arith, rules}
 use Rattle.std.specs.Prelude.{decimal}
 use Rattle.std.proofs.lemmas.Slice.Eq.{bytes_eq-Decides}
 use Rattle.report_names.proofs.Ports.{port_some, port_none}

@@ -1,4 +1,4 @@
-use Rattle.std.proofs.Common.{◌≡◌, map, drop, sym, ap, ◌∙◌, subst, rules}
+use Rattle.std.proofs.Common.{◌≡◌, map, drop, sym, ap, ◌∙◌, rules}
 use Rattle.serde_json.specs.View.{members_view}
 use Rattle.report_shape.specs.Held.{field_of}
 use Rattle.report_shape.specs.Faults.{keys_are}

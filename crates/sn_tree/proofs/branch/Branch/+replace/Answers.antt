@@ -1,7 +1,7 @@
-use Rattle.std.proofs.Common.{rules, ◌≡◌, ◌++◌, ◌∷◌, ◌+◌, max, OnOk, IsOk, ◌<◌, length, sym, subst, ap, ◌∙◌}
+use Rattle.std.proofs.Common.{rules, ◌≡◌, ◌+◌, max, OnOk, IsOk, ◌<◌, length, sym, subst, ap, ◌∙◌}
 use Rattle.sn_tree.specs.Nodes.{IsBalanced, pairs_and_height, DifferByAtMost}
-use Rattle.sn_tree.specs.Pairs.{IsAscending, pairs_with}
-use Rattle.sn_tree.proofs.Around.{with_less_whole, with_greater_whole, with_equal, with_equal_ascends}
+use Rattle.sn_tree.specs.Pairs.{pairs_with}
+use Rattle.sn_tree.proofs.Around.{with_less_whole, with_greater_whole}
 use Rattle.sn_tree.proofs.Owned.{at_owned, shorter_left, shorter_right, present_left, present_right, left_changed_ascends, right_changed_ascends, balanced_after, pairs_after_change, on_ok_map, set_balanced, set_pairs}
 use Rattle.sn_tree.proofs.branch.Branch.+replace.Goals as goal
 use Rattle.sn_tree.proofs.branch.Branch.+replace.Goals.{in-Less, in-Equal, in-Some-get_mut, in_default-get_mut+in_ok-node-in-Equal, in-Greater}
