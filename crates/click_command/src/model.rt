@@ -10,8 +10,7 @@ ghost use Rattle.command_edge.specs.declared.ending.Ending.TheVariants.{Done};
 
 use click_model::{ClickConfig, ClickFault, click_net, read_click};
 use command_edge::{Ending, OwnFault};
-use command_inputs::ByteFile;
-use command_runs::OnePiece;
+use command_runs::{ByteFile, OnePiece};
 use sefl_syntax::{Text, print_net};
 use sn_width::NoMemory;
 use std::alloc::Global;

@@ -5,9 +5,9 @@ ghost use Rattle.command_edge.specs.Puts.{Outcome, text};
 ghost use Rattle.run_answers.specs.Inputs.{Given as GivenOf};
 ghost use Rattle.run_answers.specs.Runs.{IsRefusal, one_piece};
 
+use crate::source::Source;
 use crate::work::Work;
 use command_edge::{Ending, OwnFault, Stop, put_text};
-use command_inputs::Source;
 use sn_edge::Sink;
 use std::alloc::Global;
 

@@ -6,8 +6,8 @@ ghost use Rattle.run_answers.specs.Outside.{outside};
 ghost use Rattle.command_edge.specs.Puts.{WriteShows};
 ghost use Rattle.run_answers.specs.Runs.{OwnWork, Performs, Runs, Shows};
 
+use crate::source::Source;
 use command_edge::{Ending, Stop};
-use command_inputs::Source;
 use sn_edge::{Folder, Patterns, Sink};
 use std::alloc::Global;
 

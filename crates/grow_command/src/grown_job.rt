@@ -7,7 +7,7 @@ ghost use Rattle.run_answers.specs.Inputs.{a_made_job, given_of};
 ghost use Rattle.job_gen.specs.Grown.{grown};
 
 use command_edge::InputFault;
-use command_inputs::Source;
+use command_runs::Source;
 use job_acceptance::accept_filled;
 use job_gen::grow;
 use net_check::Accepted;

@@ -12,7 +12,7 @@ ghost use Rattle.run_answers.specs.Jobs.{HasFilled, IsOnlyJob, JobFails, ReadFai
 use crate::refusal::fault_of_reading;
 use crate::table::fill_tables;
 use command_edge::{InputFault, load_text};
-use command_inputs::Source;
+use command_runs::Source;
 use job_acceptance::accept_filled;
 use net_check::Accepted;
 use sefl_reader::read_job;

@@ -10,8 +10,7 @@ ghost use Rattle.table_files.specs.FileNodes.{IsNodeOf};
 ghost use Rattle.model_command.specs.Models.{IsModelRefusal, ModelComes};
 
 use command_edge::{Ending, OwnFault};
-use command_inputs::ByteFile;
-use command_runs::OnePiece;
+use command_runs::{ByteFile, OnePiece};
 use sefl_syntax::{Name, RawNode, Style, TableKind, Text, print_node};
 use sn_width::NoMemory;
 use std::alloc::Global;

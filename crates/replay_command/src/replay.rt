@@ -13,8 +13,7 @@ ghost use Rattle.replay_command.specs.Replays.{IsCountsText, IsNoReport, IsRepla
 use crate::counts::confirmed_text;
 use crate::fault::{fault_of_replay, fault_of_report};
 use command_edge::{Ending, OwnFault};
-use command_inputs::{Both, ByteFile, Two};
-use command_runs::OnePiece;
+use command_runs::{Both, ByteFile, OnePiece, Two};
 use job_files::JobFile;
 use net_check::{Accepted, Net};
 use path_records::Record;

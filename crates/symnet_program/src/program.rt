@@ -20,8 +20,7 @@ ghost use Rattle.exit_status.specs.declared.status.Status.TheVariants.{Done, Usa
 use ask_command::Ask;
 use click_command::ClickModel;
 use command_edge::{Ending, FILE_LIMIT, Stop};
-use command_inputs::{Both, ByteFile};
-use command_runs::{Piece, run};
+use command_runs::{Both, ByteFile, Piece, run};
 use command_words::{Command, LIMIT, Pruned, Style, Table, reading};
 use exit_status::{Status, status_of};
 use explore_command::laws::finished_reports_tell_all;

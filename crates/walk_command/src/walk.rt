@@ -11,8 +11,7 @@ ghost use Rattle.walk_command.specs.Walks.{IsNoPacket, IsWalkRefusal, IsWalksTex
 
 use crate::fault::fault_of_walk;
 use command_edge::{Ending, OwnFault};
-use command_inputs::{Both, ByteFile, Two};
-use command_runs::OnePiece;
+use command_runs::{Both, ByteFile, OnePiece, Two};
 use concrete_run::walk_all;
 use job_files::JobFile;
 use net_check::Accepted;

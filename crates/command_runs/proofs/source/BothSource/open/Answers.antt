@@ -2,8 +2,8 @@ use Rattle.std.proofs.Common.{subst}
 use Rattle.std.proofs.lemmas.Result.{err_from_is_err_and}
 use Rattle.run_answers.specs.Inputs.{AllOpen, FirstFails}
 use Rattle.run_answers.specs.Outside.{outside}
-use Rattle.command_inputs.proofs.InputLemmas.{fails_first, fails_later, open_both}
-use Rattle.command_inputs.proofs.source.BothSource.open.Goals as goal
+use Rattle.command_runs.proofs.InputLemmas.{fails_first, fails_later, open_both}
+use Rattle.command_runs.proofs.source.BothSource.open.Goals as goal
 
 pub returns-in_err-first-clause-fails : goal.returns-in_err-first-clause-fails
 returns-in_err-first-clause-fails g c =
