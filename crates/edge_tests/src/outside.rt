@@ -1,12 +1,12 @@
 //! Rows of the objects in memory, and tries of the adapters.
 
 ghost use Rattle.std.specs.Prelude.{◌≡◌};
-ghost use Rattle.sn_edge.specs.RegexPatterns.{refusals_after};
+ghost use Rattle.regex_patterns.specs.Found.{refusals_after};
 
 use crate::disk::{Disk, Fault, Sevens};
+use regex_patterns::RegexPatterns;
 use sn_edge::{
-    DirFolder, Folder, Found, Loaded, MemFolder, MemPatterns, MemSink, OutSink, Patterns, Put,
-    RegexPatterns, Sink,
+    DirFolder, Folder, Found, Loaded, MemFolder, MemPatterns, MemSink, OutSink, Patterns, Put, Sink,
 };
 use std::alloc::Global;
 use std::cell::RefCell;

@@ -9,4 +9,3 @@ pub mod MemSink
 pub mod MemPatterns
 pub mod DirFolder
 pub mod OutSink
-pub mod RegexPatterns

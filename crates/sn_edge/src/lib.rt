@@ -13,10 +13,10 @@ mod mem_patterns;
 mod mem_sink;
 mod out_sink;
 mod patterns;
-mod regex_patterns;
 mod sink;
 mod transfer;
 
+pub use count::raise;
 pub use dir_folder::DirFolder;
 pub use folder::{Folder, Loaded};
 pub use mem_folder::MemFolder;
@@ -24,5 +24,4 @@ pub use mem_patterns::MemPatterns;
 pub use mem_sink::MemSink;
 pub use out_sink::OutSink;
 pub use patterns::{Found, Patterns};
-pub use regex_patterns::RegexPatterns;
 pub use sink::{Put, Sink};

@@ -3,7 +3,8 @@
 
 use exit_status::{Status, status_text};
 use fault_places::place_text;
-use sn_edge::{DirFolder, OutSink, RegexPatterns};
+use regex_patterns::RegexPatterns;
+use sn_edge::{DirFolder, OutSink};
 use std::process::ExitCode;
 use std::rt::{Env, Files};
 use std::{env, io};

@@ -1,9 +1,9 @@
 use Rattle.std.proofs.Common.{◌≡◌, is_some}
 use Rattle.regex.specs.Patterns.{find_str}
 use Rattle.regex.specs.Strings.{regex_pattern, regex_source}
-use Rattle.sn_edge.specs.RegexPatterns.{finds_match}
-use Rattle.sn_edge.proofs.Regexes.{pattern_of_compiled, match_of_compiled}
-use Rattle.sn_edge.proofs.regex_patterns.has_match.Goals as goal
+use Rattle.regex_patterns.specs.Found.{finds_match}
+use Rattle.regex_patterns.proofs.Regexes.{pattern_of_compiled, match_of_compiled}
+use Rattle.regex_patterns.proofs.patterns.has_match.Goals as goal
 
 pub returns-clause-pattern : goal.returns-clause-pattern
 returns-clause-pattern c = pattern_of_compiled c.args.regex.now c.requires

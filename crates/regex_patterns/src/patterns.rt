@@ -2,11 +2,10 @@
 ghost use Rattle.std.specs.Prelude.{◌≡◌, ◌≢◌, None, Some, IfOk, OnOk, IfSome, IfNone};
 ghost use Rattle.std.specs.Option.{ForSome};
 ghost use Rattle.regex.specs.Strings.{regex_source};
-ghost use Rattle.sn_edge.specs.RegexPatterns.{IsByDefault, IsPattern, finds_match, IsFoundByRegex, refusals_after, search_answer};
+ghost use Rattle.regex_patterns.specs.Found.{IsByDefault, IsPattern, finds_match, IsFoundByRegex, refusals_after, search_answer};
 
-use crate::count::raise;
-use crate::{Found, Patterns};
 use regex::{Error, Regex};
+use sn_edge::{Found, Patterns, raise};
 use std::alloc::{AllocError, Global};
 use std::marker::Model;
 
@@ -22,7 +21,7 @@ pub struct RegexPatterns {
 impl Model for RegexPatterns {
     ghost use Rattle.std.specs.Prelude.{ℕ};
     ghost use Rattle.std.specs.Option.{ForSome};
-    ghost use Rattle.sn_edge.specs.RegexPatterns.{IsByDefault};
+    ghost use Rattle.regex_patterns.specs.Found.{IsByDefault};
 
     ghost Value = { ℕ };
 

@@ -8,7 +8,7 @@ use Rattle.regex.specs.declared.string.regex.Regex.{Regex}
 use Rattle.regex.proofs.ForCallers.{is_match_alike}
 use Rattle.regex_syntax.specs.Brackets.{Nested}
 use Rattle.regex_syntax.specs.Grammar.{Names, group_count, read}
-use Rattle.sn_edge.specs.RegexPatterns.{IsPattern, IsByDefault, finds_match}
+use Rattle.regex_patterns.specs.Found.{IsPattern, IsByDefault, finds_match}
 
 weaker : {A : Type 0} (o : Option A) {P Q : A → Type 0} → ((x : A) → P x → Q x) → IsSomeAnd o P → IsSomeAnd o Q
 weaker None f p = p
