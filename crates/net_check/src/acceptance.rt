@@ -135,11 +135,7 @@ fn assemble(
     ensures parts { IfOk result (IsAcceptedAs (job_tree job)) }
     ensures found { IfOk result (λ a. a.net.found ≡ map (λ ids. ids.items) found.items) }
 {
-    let Job {
-        net,
-        injection,
-        asks,
-    } = job;
+    let (net, injection, asks) = job.into_parts();
     let net = Net::of(alloc, net, names, found)?;
     let injection = Injection::of(&net, injection);
     Ok(Accepted {

@@ -50,11 +50,38 @@ pub enum Ask {
 }
 
 /// A job: what is explored, and what is asked.
-#[derive(Drop)]
 pub struct Job {
     pub net: RawNet,
     pub injection: RawInjection,
     pub asks: Vec<Ask>,
+}
+
+// Written out, and not derived, so that the proof of a function that lets a job go sees a call.
+impl Drop for Job {
+    fn drop(self) {
+        let Job {
+            net,
+            injection,
+            asks,
+        } = self;
+        drop(net);
+        drop(injection);
+        drop(asks);
+    }
+}
+
+impl Job {
+    /// Its parts.
+    pub fn into_parts(self) -> (RawNet, RawInjection, Vec<Ask>)
+        ensures { result ≡ (self.net, self.injection, self.asks) }
+    {
+        let Job {
+            net,
+            injection,
+            asks,
+        } = self;
+        (net, injection, asks)
+    }
 }
 
 impl fmt::Display for RawPlace {
