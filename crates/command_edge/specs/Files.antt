@@ -1,6 +1,9 @@
 -- A file that is loaded, and why it is not.
-use Rattle.std.specs.Prelude.{ℕ, ◌≡◌, ◌≤◌, ◌<◌, List, length, Option, Some, None, IsSomeAnd}
+use Rattle.std.specs.Prelude.{ℕ, ◌≡◌, ◌≤◌, ◌<◌, List, length, Option, Some, None, IsSomeAnd, Result, Ok, Err, Vec}
 use Rattle.std.specs.Option.{ForSome}
+use Rattle.std.specs.declared.alloc.Global.{Global}
+use Rattle.sn_edge.specs.declared.folder.Loaded.{Loaded}
+use Rattle.sn_edge.specs.declared.folder.Loaded.TheVariants.{Bytes, Absent, TooBig as Longer, Failed, NoMemory as NoRoom}
 use Rattle.sn_edge.specs.Told.{FolderTold, PatternsTold}
 use Rattle.command_edge.specs.declared.fault.InputFault.{InputFault}
 use Rattle.command_edge.specs.declared.fault.InputFault.TheVariants.{NoFile, ReadFault, TooBig, BadPattern, NoMemory}
@@ -20,6 +23,14 @@ LoadFails files limit name (ReadFault own) = own ≡ name
 LoadFails files limit name (TooBig own) = (own ≡ name) × ForSome files (λ at. IsSomeAnd (at name) (λ bytes. limit < length bytes))
 LoadFails files limit name NoMemory = Unit {0}
 LoadFails files limit name _ = ⊥
+
+-- what comes of a load of the file under the name
+abbrev pub bytes_of : Loaded → List ℕ → Result (Vec ℕ Global) InputFault
+bytes_of (Bytes bytes) name = Ok bytes
+bytes_of Absent name = Err (NoFile name)
+bytes_of Longer name = Err (TooBig name)
+bytes_of Failed name = Err (ReadFault name)
+bytes_of NoRoom name = Err NoMemory
 
 -- which counts rose, by the refusal: of the folder faults, misses and excesses; of the patterns refusals
 abbrev pub Rose : (failed missed passed raised : Type 0) → InputFault → Type 0

@@ -2,6 +2,8 @@
 use Rattle.std.specs.Prelude.{ℕ, ◌≡◌, ◌<◌, List, Option, Result, Ok, Err, String, string_bytes}
 use Rattle.std.specs.Io.KnownBytes.{append_known}
 use Rattle.std.specs.declared.alloc.Global.{Global}
+use Rattle.sn_edge.specs.declared.sink.Put.{Put}
+use Rattle.sn_edge.specs.declared.sink.Put.TheVariants.{All, Failed, NoMemory as NoRoom}
 use Rattle.sn_edge.specs.Pieces.{IsPrefix}
 use Rattle.sn_edge.specs.Told.{SinkTold}
 use Rattle.command_edge.specs.declared.fault.OwnFault.{OwnFault}
@@ -17,6 +19,12 @@ pub data Outcome : Type 0 where
 -- the sink, which held what is known, gained such bytes
 abbrev pub Gains : Option (List ℕ) → Option (List ℕ) → (List ℕ → Type 0) → Type 0
 Gains known now Is = (part : List ℕ) × Is part × (now ≡ append_known known part)
+
+-- how a text ends that is put in one piece
+abbrev pub ending_of : Put → Ending → Result Ending Stop
+ending_of All ending = Ok ending
+ending_of Failed ending = Err Write
+ending_of NoRoom ending = Err NoMemory
 
 -- one piece was put, if there is one
 abbrev pub Puts : Option (List ℕ) → Option (List ℕ) → Result (Ending × String Global) OwnFault → Result Ending Stop → Type 0

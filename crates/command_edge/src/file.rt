@@ -1,8 +1,8 @@
 //! Files.
 
-ghost use Rattle.std.specs.Prelude.{IfOk, IfErr};
+ghost use Rattle.std.specs.Prelude.{◌≡◌, IfOk, IfErr};
 ghost use Rattle.sn_edge.specs.Told.{FolderKept};
-ghost use Rattle.command_edge.specs.Files.{FolderShows, HasFile, LoadFails};
+ghost use Rattle.command_edge.specs.Files.{FolderShows, HasFile, LoadFails, bytes_of};
 ghost use Rattle.command_edge.specs.declared.limits.TheConstants.{FILE_LIMIT};
 
 use crate::fault::InputFault;
@@ -10,6 +10,19 @@ use crate::limits::FILE_LIMIT;
 use sefl_syntax::Text;
 use sn_edge::{Folder, Loaded};
 use std::alloc::Global;
+
+/// The bytes that were loaded, or the refusal that tells why there are none.
+fn bytes_of(loaded: Loaded, name: Text) -> Result<Vec<u8>, InputFault>
+    ensures { result ≡ bytes_of loaded name }
+{
+    match loaded {
+        Loaded::Bytes(bytes) => Ok(bytes),
+        Loaded::Absent => Err(InputFault::NoFile { name }),
+        Loaded::TooBig => Err(InputFault::TooBig { name }),
+        Loaded::Failed => Err(InputFault::ReadFault { name }),
+        Loaded::NoMemory => Err(InputFault::NoMemory),
+    }
+}
 
 /// The bytes of the file of this name, which has at most `limit` of them.
 pub fn load_file<F: Folder>(
@@ -23,19 +36,8 @@ pub fn load_file<F: Folder>(
     ensures fails { IfErr result (LoadFails (F.told folder.old).files limit name.now) }
     ensures shows { IfErr result (FolderShows (F.told folder.old) (F.told folder.new)) }
 {
-    match folder.load(alloc, name, limit) {
-        Loaded::Bytes(bytes) => Ok(bytes),
-        Loaded::Absent => Err(InputFault::NoFile {
-            name: Text::of(alloc, name)?,
-        }),
-        Loaded::TooBig => Err(InputFault::TooBig {
-            name: Text::of(alloc, name)?,
-        }),
-        Loaded::Failed => Err(InputFault::ReadFault {
-            name: Text::of(alloc, name)?,
-        }),
-        Loaded::NoMemory => Err(InputFault::NoMemory),
-    }
+    let own = Text::of(alloc, name)?;
+    bytes_of(folder.load(alloc, name, limit), own)
 }
 
 /// The bytes of the file of this name, which has at most those that a text may have.
