@@ -95,12 +95,13 @@ number_of (NotConfirmed number kind) = 15
 number_of (BadAsk number kind) = 16
 number_of (BadCompare kind one other) = 18
 
+-- words with a number behind them, and a kind behind that
+unfoldable pub numbered : List ℕ → ℕ → ℕ → List ℕ
+numbered words number kind = words ++ (decimal number ++ (codes " " ++ decimal kind))
+
 unfoldable pub syntax_text : ℕ → ℕ → ℕ → List ℕ
 syntax_text line column kind =
     codes "symnet: syntax " ++ (decimal line ++ (codes ":" ++ (decimal column ++ (codes " " ++ decimal kind))))
-
-unfoldable pub refused_text : ℕ → ℕ → List ℕ
-refused_text site kind = codes "symnet: refused at " ++ (decimal site ++ (codes " " ++ decimal kind))
 
 unfoldable pub bad_table_text : List ℕ → ℕ → ℕ → List ℕ
 bad_table_text name line kind =
@@ -108,12 +109,6 @@ bad_table_text name line kind =
 
 unfoldable pub bad_report_text : ℕ → List ℕ → List ℕ
 bad_report_text kind pointer = codes "symnet: bad report " ++ (decimal kind ++ (codes " " ++ pointer))
-
-unfoldable pub not_confirmed_text : ℕ → ℕ → List ℕ
-not_confirmed_text number kind = codes "symnet: not confirmed " ++ (decimal number ++ (codes " " ++ decimal kind))
-
-unfoldable pub bad_ask_text : ℕ → ℕ → List ℕ
-bad_ask_text number kind = codes "symnet: bad ask " ++ (decimal number ++ (codes " " ++ decimal kind))
 
 -- what standard error shows
 abbrev pub text_of : Status → List ℕ
@@ -126,12 +121,12 @@ text_of WriteFault = codes "symnet: cannot write"
 text_of (TooBig name) = codes "symnet: too big " ++ name
 text_of (Syntax line column kind) = syntax_text line column kind
 text_of (BadPattern site) = codes "symnet: bad pattern at " ++ decimal site.0
-text_of (Refused site kind) = refused_text site.0 kind
+text_of (Refused site kind) = numbered (codes "symnet: refused at ") site.0 kind
 text_of (BadTable name line kind) = bad_table_text name line kind
 text_of (BadPacket kind) = codes "symnet: bad packet " ++ decimal kind
 text_of Partial = codes "symnet: partial"
 text_of (TooMany count) = codes "symnet: too many walks " ++ decimal count
 text_of (BadReport kind pointer) = bad_report_text kind pointer
-text_of (NotConfirmed number kind) = not_confirmed_text number kind
-text_of (BadAsk number kind) = bad_ask_text number kind
+text_of (NotConfirmed number kind) = numbered (codes "symnet: not confirmed ") number kind
+text_of (BadAsk number kind) = numbered (codes "symnet: bad ask ") number kind
 text_of (BadCompare kind one other) = codes "symnet: bad compare " ++ decimal kind

@@ -1,7 +1,7 @@
 //! How a run ends.
 
 ghost use Rattle.std.specs.Prelude.{◌≡◌, ◌++◌, decimal, string_bytes, IfOk};
-ghost use Rattle.exit_status.specs.Status.{bad_ask_text, bad_report_text, bad_table_text, input_status, not_confirmed_text, own_status, refused_text, status_of, syntax_text, text_of};
+ghost use Rattle.exit_status.specs.Status.{bad_report_text, bad_table_text, input_status, numbered, own_status, status_of, syntax_text, text_of};
 
 use command_edge::{Ending, InputFault, OwnFault, Stop};
 use sefl_syntax::Text;
@@ -143,18 +143,19 @@ fn with_number(alloc: Global, words: &str, number: u64) -> Result<String, NoMemo
     Ok(format!(in alloc; "{words}{number}")?)
 }
 
+/// Words with a number behind them, and a kind behind that.
+#[tactic(auto, unfolding(crate::specs::Status::numbered))]
+fn with_numbers(alloc: Global, words: &str, number: u64, kind: u8) -> Result<String, NoMemory>
+    ensures { IfOk result (λ text. string_bytes text ≡ numbered words.now number kind) }
+{
+    Ok(format!(in alloc; "{words}{number} {kind}")?)
+}
+
 #[tactic(auto, unfolding(crate::specs::Status::syntax_text))]
 fn syntax_text(alloc: Global, line: u64, column: u64, kind: u8) -> Result<String, NoMemory>
     ensures { IfOk result (λ text. string_bytes text ≡ syntax_text line column kind) }
 {
     Ok(format!(in alloc; "symnet: syntax {line}:{column} {kind}")?)
-}
-
-#[tactic(auto, unfolding(crate::specs::Status::refused_text))]
-fn refused_text(alloc: Global, site: Site, kind: u8) -> Result<String, NoMemory>
-    ensures { IfOk result (λ text. string_bytes text ≡ refused_text site.0 kind) }
-{
-    Ok(format!(in alloc; "symnet: refused at {} {kind}", site.0)?)
 }
 
 #[tactic(auto, unfolding(crate::specs::Status::bad_table_text))]
@@ -169,20 +170,6 @@ fn bad_report_text(alloc: Global, kind: u8, pointer: &Text) -> Result<String, No
     ensures { IfOk result (λ text. string_bytes text ≡ bad_report_text kind pointer.now) }
 {
     Ok(format!(in alloc; "symnet: bad report {kind} {pointer}")?)
-}
-
-#[tactic(auto, unfolding(crate::specs::Status::not_confirmed_text))]
-fn not_confirmed_text(alloc: Global, number: u64, kind: u8) -> Result<String, NoMemory>
-    ensures { IfOk result (λ text. string_bytes text ≡ not_confirmed_text number kind) }
-{
-    Ok(format!(in alloc; "symnet: not confirmed {number} {kind}")?)
-}
-
-#[tactic(auto, unfolding(crate::specs::Status::bad_ask_text))]
-fn bad_ask_text(alloc: Global, number: u64, kind: u8) -> Result<String, NoMemory>
-    ensures { IfOk result (λ text. string_bytes text ≡ bad_ask_text number kind) }
-{
-    Ok(format!(in alloc; "symnet: bad ask {number} {kind}")?)
 }
 
 /// What standard error shows of a status: nothing where it is Done, else a line without its end.
@@ -203,14 +190,24 @@ pub fn status_text(alloc: Global, status: &Status) -> Result<String, NoMemory>
             "symnet: bad pattern at ",
             u64::from(site.0),
         ),
-        Status::Refused { site, kind } => refused_text(alloc, *site, *kind),
+        Status::Refused { site, kind } => with_numbers(
+            alloc,
+            "symnet: refused at ",
+            u64::from(site.0),
+            *kind,
+        ),
         Status::BadTable { name, line, kind } => bad_table_text(alloc, name, *line, *kind),
         Status::BadPacket { kind } => with_number(alloc, "symnet: bad packet ", u64::from(*kind)),
         Status::Partial => fixed(alloc, "symnet: partial"),
         Status::TooMany { count } => with_number(alloc, "symnet: too many walks ", *count),
         Status::BadReport { kind, pointer } => bad_report_text(alloc, *kind, pointer),
-        Status::NotConfirmed { number, kind } => not_confirmed_text(alloc, *number, *kind),
-        Status::BadAsk { number, kind } => bad_ask_text(alloc, *number, *kind),
+        Status::NotConfirmed { number, kind } => with_numbers(
+            alloc,
+            "symnet: not confirmed ",
+            *number,
+            *kind,
+        ),
+        Status::BadAsk { number, kind } => with_numbers(alloc, "symnet: bad ask ", *number, *kind),
         Status::BadCompare { kind, .. } => with_number(
             alloc,
             "symnet: bad compare ",
