@@ -2,8 +2,6 @@
 use Rattle.std.specs.Prelude.{ℕ, ◌≡◌, ◌<◌, List, Option, Result, Ok, Err, String, string_bytes}
 use Rattle.std.specs.Io.KnownBytes.{append_known}
 use Rattle.std.specs.declared.alloc.Global.{Global}
-use Rattle.sn_edge.specs.declared.sink.Put.{Put}
-use Rattle.sn_edge.specs.declared.sink.Put.TheVariants.{All, Failed, NoMemory as NoRoom}
 use Rattle.sn_edge.specs.Pieces.{IsPrefix}
 use Rattle.sn_edge.specs.Told.{SinkTold}
 use Rattle.command_edge.specs.declared.fault.OwnFault.{OwnFault}
@@ -20,17 +18,16 @@ pub data Outcome : Type 0 where
 abbrev pub Gains : Option (List ℕ) → Option (List ℕ) → (List ℕ → Type 0) → Type 0
 Gains known now Is = (part : List ℕ) × Is part × (now ≡ append_known known part)
 
--- how a text ends that is put in one piece
-abbrev pub ending_of : Put → Ending → Result Ending Stop
-ending_of All ending = Ok ending
-ending_of Failed ending = Err Write
-ending_of NoRoom ending = Err NoMemory
+-- the text was put in one piece, with this ending
+abbrev pub PutsWhole : Option (List ℕ) → Option (List ℕ) → List ℕ → Ending → Result Ending Stop → Type 0
+PutsWhole known now whole ending (Ok own) = (own ≡ ending) × (now ≡ append_known known whole)
+PutsWhole known now whole ending (Err Write) = Gains known now (λ part. IsPrefix part whole)
+PutsWhole known now whole ending (Err NoMemory) = now ≡ known
+PutsWhole known now whole ending _ = ⊥
 
--- one piece was put, if there is one
+-- it was put so, if there is one
 abbrev pub Puts : Option (List ℕ) → Option (List ℕ) → Result (Ending × String Global) OwnFault → Result Ending Stop → Type 0
-Puts known now (Ok (ending, whole)) (Ok own) = (own ≡ ending) × (now ≡ append_known known (string_bytes whole))
-Puts known now (Ok (ending, whole)) (Err Write) = Gains known now (λ part. IsPrefix part (string_bytes whole))
-Puts known now (Ok (ending, whole)) (Err NoMemory) = now ≡ known
+Puts known now (Ok (ending, whole)) result = PutsWhole known now (string_bytes whole) ending result
 Puts known now (Err fault) (Err (Own own)) = (own ≡ fault) × (now ≡ known)
 Puts known now _ _ = ⊥
 

@@ -1,18 +1,19 @@
 //! The text of a command, put in one piece.
 
 ghost use Rattle.sn_edge.specs.Told.{SinkKept};
-ghost use Rattle.std.specs.Prelude.{◌≡◌};
-ghost use Rattle.command_edge.specs.Puts.{Puts, WriteShows, ending_of};
+ghost use Rattle.command_edge.specs.Puts.{Puts, PutsWhole, WriteShows};
 
 use crate::ending::{Ending, Stop};
 use crate::fault::OwnFault;
 use sn_edge::{Put, Sink};
 
-/// How a command ends that put its whole text in one piece.
-fn ending_of(put: Put, ending: Ending) -> Result<Ending, Stop>
-    ensures { result ≡ ending_of put ending }
+/// Puts the bytes of a whole text in one piece.
+fn put_whole<K: Sink>(whole: &[u8], ending: Ending, out: &mut K) -> Result<Ending, Stop>
+    ensures out_kept { SinkKept (K.told out.old) (K.told out.new) }
+    ensures puts { PutsWhole (K.told out.old).taken (K.told out.new).taken whole.now ending result }
+    ensures shows { WriteShows (K.told out.old) (K.told out.new) result }
 {
-    match put {
+    match out.put(whole) {
         Put::All => Ok(ending),
         Put::Failed => Err(Stop::Write),
         Put::NoMemory => Err(Stop::NoMemory),
@@ -29,7 +30,7 @@ pub fn put_text<K: Sink>(
     ensures shows { WriteShows (K.told out.old) (K.told out.new) result }
 {
     match answer {
-        Ok((ending, text)) => ending_of(out.put(text.as_bytes()), ending),
+        Ok((ending, text)) => put_whole(text.as_bytes(), ending, out),
         Err(fault) => Err(Stop::Own(fault)),
     }
 }
