@@ -2,8 +2,8 @@
 
 use command_edge::load_text;
 use command_words::{Command, reading};
-use exit_status::Status;
 use job_files::load_job;
+use run_answers::Status;
 use sefl_lex::tokens;
 use sefl_reader::{position, read_job};
 use sefl_syntax::{Job, is_filled};

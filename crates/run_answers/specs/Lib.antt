@@ -5,3 +5,4 @@ pub mod Jobs
 pub mod Outside
 pub mod Inputs
 pub mod Runs
+pub mod Status

@@ -1,4 +1,7 @@
-//! How a command of the program ends, and what each answer says. These functions do nothing: their contracts are laws.
+//! How a command of the program ends: the statuses, and what each answer says. The functions of `laws` do nothing: their contracts are laws.
 #![tactic(auto)]
 
 pub mod laws;
+mod status;
+
+pub use status::{Status, status_of};

@@ -1,9 +1,9 @@
 //! The program `symnet`: symbolic execution of SEFL network models.
 #![tactic(auto)]
 
-use exit_status::{Status, status_text};
 use fault_places::place_text;
 use regex_patterns::RegexPatterns;
+use run_answers::Status;
 use sn_edge::{DirFolder, OutSink};
 use std::process::ExitCode;
 use std::rt::{Env, Files};
@@ -34,12 +34,11 @@ fn status_without_words(error: &io::Error) -> Status {
 }
 
 /// Shows a status that is not Done on standard error.
-fn show<R: Eprint + AllocGlobal>(rt: &R, status: &Status) -> io::Result<()> {
-    let text = status_text(rt.alloc(), status).map_err(|_| io::ErrorKind::OutOfMemory)?;
-    if text.is_empty() {
-        return Ok(());
+fn show<R: Eprint>(rt: &R, status: &Status) -> io::Result<()> {
+    match status {
+        Status::Done => Ok(()),
+        _ => rt.eprintln(status),
     }
-    rt.eprintln(text)
 }
 
 /// Shows the place that a status blames, below it.

@@ -26,11 +26,11 @@ use Rattle.command_edge.specs.declared.fault.OwnFault.TheVariants as working
 use Rattle.explore_command.specs.Explores.{ReportsOf}
 use Rattle.symnet_program.specs.Commands.{inputs, sides_of, work}
 use Rattle.symnet_program.specs.Program.{Cause, Comes, IsCaused}
-use Rattle.exit_status.specs.Status.{IsStopped, IsUnread, IsWritten, MayBeBad, input_status, outcome_status}
+use Rattle.run_answers.specs.Status.{IsStopped, IsUnread, IsWritten, MayBeBad, input_status, outcome_status}
 use Rattle.command_words.specs.Commands.{Command, explore}
 use Rattle.command_words.specs.declared.command.Pruned.{Pruned}
-use Rattle.exit_status.specs.declared.status.Status.{Status}
-use Rattle.exit_status.specs.declared.status.Status.TheVariants.{Done, NoMemory, Usage, NoFile, ReadFault, WriteFault, TooBig, Syntax, BadPattern, Refused, BadTable, BadPacket, Partial, TooMany, BadReport, NotConfirmed, BadAsk, BadCompare}
+use Rattle.run_answers.specs.declared.status.Status.{Status}
+use Rattle.run_answers.specs.declared.status.Status.TheVariants.{Done, NoMemory, Usage, NoFile, ReadFault, WriteFault, TooBig, Syntax, BadPattern, Refused, BadTable, BadPacket, Partial, TooMany, BadReport, NotConfirmed, BadAsk, BadCompare}
 
 some_and : {T : Type 0} (o : Option T) (P : T → Type 0) → IsSomeAnd o P → (x : T) × (o ≡ Some x) × P x
 some_and None P h = absurd h

@@ -9,10 +9,10 @@ use Rattle.command_edge.specs.declared.fault.InputFault.{InputFault}
 use Rattle.command_edge.specs.declared.fault.InputFault.TheVariants as input
 use Rattle.command_edge.specs.declared.fault.OwnFault.TheVariants as own
 use Rattle.symnet_program.specs.Program.{Cause, Comes}
-use Rattle.exit_status.specs.Status.{outcome_status}
+use Rattle.run_answers.specs.Status.{outcome_status}
 use Rattle.symnet_program.specs.Told.{MayStop}
-use Rattle.exit_status.specs.declared.status.Status.{Status}
-use Rattle.exit_status.specs.declared.status.Status.TheVariants.{Done, NoMemory, Usage, NoFile, ReadFault, WriteFault, TooBig, Syntax, BadPattern, Refused, BadTable, BadPacket, Partial, TooMany, BadReport, NotConfirmed, BadAsk, BadCompare}
+use Rattle.run_answers.specs.declared.status.Status.{Status}
+use Rattle.run_answers.specs.declared.status.Status.TheVariants.{Done, NoMemory, Usage, NoFile, ReadFault, WriteFault, TooBig, Syntax, BadPattern, Refused, BadTable, BadPacket, Partial, TooMany, BadReport, NotConfirmed, BadAsk, BadCompare}
 
 module _ (is : List Input) (w : OwnWork) (p : World) (given : List Given)
     (once : (other : List Given) → AllOpen (world p) tt is other tt → other ≡ given)

@@ -20,7 +20,7 @@ use Rattle.command_edge.specs.declared.ending.Ending.TheVariants as ending
 use Rattle.command_edge.specs.declared.ending.Stop.{Stop}
 use Rattle.command_edge.specs.declared.ending.Stop.TheVariants.{Input as ByInput, Own, Write, NoMemory as NoRoom}
 use Rattle.symnet_program.proofs.ToldLemmas.{first_told, all_told}
-use Rattle.exit_status.specs.Status.{input_status, own_status, status_of}
+use Rattle.run_answers.specs.Status.{input_status, own_status, status_of}
 use Rattle.symnet_program.specs.Told.{MayBeUnread}
 use Rattle.symnet_program.specs.Commands.{inputs, sides_of, work}
 use Rattle.explore_command.specs.Explores.{IsReport}
@@ -29,8 +29,8 @@ use Rattle.symnet_program.specs.Headline.{TellsJob}
 use Rattle.command_words.specs.Commands.{Command, HasRanges, explore}
 use Rattle.command_words.specs.declared.command.Pruned.{Pruned}
 use Rattle.symnet_program.specs.Program.{Cause, Comes, IsAnswered, IsCaused, MayWrite, RefusesInput, Shown, Stops, Writes}
-use Rattle.exit_status.specs.declared.status.Status.{Status}
-use Rattle.exit_status.specs.declared.status.Status.TheVariants.{Done, NoMemory, Usage, NoFile, ReadFault, WriteFault, TooBig, Syntax, BadPattern, Refused, BadTable, BadPacket, Partial, TooMany, BadReport, NotConfirmed, BadAsk, BadCompare}
+use Rattle.run_answers.specs.declared.status.Status.{Status}
+use Rattle.run_answers.specs.declared.status.Status.TheVariants.{Done, NoMemory, Usage, NoFile, ReadFault, WriteFault, TooBig, Syntax, BadPattern, Refused, BadTable, BadPacket, Partial, TooMany, BadReport, NotConfirmed, BadAsk, BadCompare}
 
 gains_nothing : (known now : Option (List ℕ)) → now ≡ known → now ≡ append_known known []
 gains_nothing None now same = same

@@ -18,11 +18,11 @@ use Rattle.command_edge.specs.declared.fault.InputFault.TheVariants as input
 use Rattle.walk_command.specs.Walks.{WalksOf}
 use Rattle.symnet_program.specs.Commands.{inputs, work}
 use Rattle.symnet_program.specs.Program.{IsCaused}
-use Rattle.exit_status.specs.Status.{IsUnread, MayBeBad, OrBad, input_status, outcome_status}
+use Rattle.run_answers.specs.Status.{IsUnread, MayBeBad, OrBad, input_status, outcome_status}
 use Rattle.symnet_program.specs.Told.{MayBeUnread, MayStop, TellsNet}
 use Rattle.command_words.specs.Commands.{walk}
-use Rattle.exit_status.specs.declared.status.Status.{Status}
-use Rattle.exit_status.specs.declared.status.Status.TheVariants.{NoMemory, NoFile, ReadFault, WriteFault, TooBig, BadPattern}
+use Rattle.run_answers.specs.declared.status.Status.{Status}
+use Rattle.run_answers.specs.declared.status.Status.TheVariants.{NoMemory, NoFile, ReadFault, WriteFault, TooBig, BadPattern}
 use Rattle.symnet_program.proofs.CaseLemmas.{FilledOnce, JobCase, case_of, has_bad, is_unfilled, breaks_rule, is_taken, job_in, sound_or_refused, unread_stops}
 use Rattle.symnet_program.proofs.OwnLemmas.{own_told}
 use Rattle.symnet_program.proofs.ProgramLemmas.{Decides, exact_of}

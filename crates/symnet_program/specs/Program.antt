@@ -11,8 +11,8 @@ use Rattle.command_edge.specs.declared.fault.OwnFault.TheVariants as own
 use Rattle.command_edge.specs.declared.ending.Ending.TheVariants as ending
 use Rattle.command_words.specs.Commands.{Command}
 use Rattle.symnet_program.specs.Commands.{inputs, work}
-use Rattle.exit_status.specs.declared.status.Status.{Status}
-use Rattle.exit_status.specs.declared.status.Status.TheVariants.{Done, NoMemory, Usage, NoFile, ReadFault, WriteFault, TooBig, Syntax, BadPattern, Refused, BadTable, BadPacket, Partial, TooMany, BadReport, NotConfirmed, BadAsk, BadCompare}
+use Rattle.run_answers.specs.declared.status.Status.{Status}
+use Rattle.run_answers.specs.declared.status.Status.TheVariants.{Done, NoMemory, Usage, NoFile, ReadFault, WriteFault, TooBig, Syntax, BadPattern, Refused, BadTable, BadPacket, Partial, TooMany, BadReport, NotConfirmed, BadAsk, BadCompare}
 
 -- of an outside whose patterns go from state to state, a command with these inputs and this own work
 module _ {S : Type 0} (o : Outside S) (u v : S) (is : List Input) (w : OwnWork) where

@@ -7,8 +7,8 @@ use Rattle.run_answers.specs.Jobs.{IsTextOf, ListsFound}
 use Rattle.run_answers.specs.Outside.{World}
 use Rattle.run_answers.specs.Tables.{IsFilled}
 use Rattle.command_edge.specs.declared.limits.TheConstants.{FILE_LIMIT}
-use Rattle.exit_status.specs.declared.status.Status.{Status}
-use Rattle.exit_status.specs.declared.status.Status.TheVariants.{NoMemory, ReadFault, WriteFault, BadPattern}
+use Rattle.run_answers.specs.declared.status.Status.{Status}
+use Rattle.run_answers.specs.declared.status.Status.TheVariants.{NoMemory, ReadFault, WriteFault, BadPattern}
 
 -- the outside failed, or there was no memory; or a pattern was refused, where it is not told which are bad
 abbrev pub MayStop : World → Status → Type 0

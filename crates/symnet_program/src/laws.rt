@@ -22,12 +22,12 @@ ghost use Rattle.command_edge.specs.declared.limits.TheConstants.{FILE_LIMIT};
 ghost use Rattle.symnet_program.specs.Commands.{ReadsJob, inputs, work};
 ghost use Rattle.symnet_program.specs.Program.{IsCaused};
 ghost use Rattle.walk_command.specs.Walks.{WalksOf};
-ghost use Rattle.exit_status.specs.Status.{IsUnread, IsWritten, MayBeBad, OrBad, input_status, outcome_status};
+ghost use Rattle.run_answers.specs.Status.{IsUnread, IsWritten, MayBeBad, OrBad, input_status, outcome_status};
 ghost use Rattle.symnet_program.specs.Told.{MayStop, TellsNet};
 ghost use Rattle.command_words.specs.Commands.{Command as CommandOf, explore, walk};
 ghost use Rattle.command_words.specs.declared.command.Pruned.{Pruned as PrunedOf};
-ghost use Rattle.exit_status.specs.declared.status.Status.{Status as StatusOf};
-ghost use Rattle.exit_status.specs.declared.status.Status.TheVariants.{BadPattern, NoFile, Syntax, TooBig};
+ghost use Rattle.run_answers.specs.declared.status.Status.{Status as StatusOf};
+ghost use Rattle.run_answers.specs.declared.status.Status.TheVariants.{BadPattern, NoFile, Syntax, TooBig};
 
 use run_answers::laws::{jobs_are_filled_once, worlds_decide};
 use walk_command::laws::walks_have_one_outcome;

@@ -1,7 +1,7 @@
 //! Runs of rows.
 
-use exit_status::{Status, status_text};
 use row_tables::{Ending, Given};
+use run_answers::Status;
 use sn_edge::{MemFolder, MemPatterns, MemSink};
 use std::alloc::{AllocError, Global};
 use symnet_program::symnet;
@@ -30,12 +30,9 @@ pub fn run_given(alloc: Global, given: Given) -> Result<Ending, AllocError> {
 /// How a run ended that left the sink so.
 fn ending_of(alloc: Global, status: &Status, out: &MemSink) -> Result<Ending, AllocError> {
     let output = out.bytes().to_vec(alloc)?;
-    let Ok(error) = status_text(alloc, status) else {
-        return Err(AllocError);
-    };
     Ok(Ending {
         status: status.number(),
-        error,
+        error: status.to_string(alloc)?,
         output,
     })
 }

@@ -10,8 +10,8 @@ use Rattle.command_edge.specs.declared.fault.InputFault.{InputFault}
 use Rattle.command_edge.specs.declared.fault.InputFault.TheVariants as input
 use Rattle.command_edge.specs.declared.fault.OwnFault.{OwnFault}
 use Rattle.command_edge.specs.declared.fault.OwnFault.TheVariants as own
-use Rattle.exit_status.specs.declared.status.Status.{Status}
-use Rattle.exit_status.specs.declared.status.Status.TheVariants.{Done, NoMemory, Usage, NoFile, ReadFault, WriteFault, TooBig, Syntax, BadPattern, Refused, BadTable, BadPacket, Partial, TooMany, BadReport, NotConfirmed, BadAsk, BadCompare}
+use Rattle.run_answers.specs.declared.status.Status.{Status}
+use Rattle.run_answers.specs.declared.status.Status.TheVariants.{Done, NoMemory, Usage, NoFile, ReadFault, WriteFault, TooBig, Syntax, BadPattern, Refused, BadTable, BadPacket, Partial, TooMany, BadReport, NotConfirmed, BadAsk, BadCompare}
 
 -- why an input is refused
 abbrev pub input_status : InputFault → Status
@@ -95,21 +95,6 @@ number_of (NotConfirmed number kind) = 15
 number_of (BadAsk number kind) = 16
 number_of (BadCompare kind one other) = 18
 
--- words with a number behind them, and a kind behind that
-unfoldable pub numbered : List ℕ → ℕ → ℕ → List ℕ
-numbered words number kind = words ++ (decimal number ++ (codes " " ++ decimal kind))
-
-unfoldable pub syntax_text : ℕ → ℕ → ℕ → List ℕ
-syntax_text line column kind =
-    codes "symnet: syntax " ++ (decimal line ++ (codes ":" ++ (decimal column ++ (codes " " ++ decimal kind))))
-
-unfoldable pub bad_table_text : List ℕ → ℕ → ℕ → List ℕ
-bad_table_text name line kind =
-    codes "symnet: bad table " ++ (name ++ (codes ":" ++ (decimal line ++ (codes " " ++ decimal kind))))
-
-unfoldable pub bad_report_text : ℕ → List ℕ → List ℕ
-bad_report_text kind pointer = codes "symnet: bad report " ++ (decimal kind ++ (codes " " ++ pointer))
-
 -- what standard error shows
 abbrev pub text_of : Status → List ℕ
 text_of Done = []
@@ -119,14 +104,16 @@ text_of (NoFile name) = codes "symnet: no file " ++ name
 text_of (ReadFault name) = codes "symnet: cannot read " ++ name
 text_of WriteFault = codes "symnet: cannot write"
 text_of (TooBig name) = codes "symnet: too big " ++ name
-text_of (Syntax line column kind) = syntax_text line column kind
+text_of (Syntax line column kind) =
+    codes "symnet: syntax " ++ (decimal line ++ (codes ":" ++ (decimal column ++ (codes " " ++ decimal kind))))
 text_of (BadPattern site) = codes "symnet: bad pattern at " ++ decimal site.0
-text_of (Refused site kind) = numbered (codes "symnet: refused at ") site.0 kind
-text_of (BadTable name line kind) = bad_table_text name line kind
+text_of (Refused site kind) = codes "symnet: refused at " ++ (decimal site.0 ++ (codes " " ++ decimal kind))
+text_of (BadTable name line kind) =
+    codes "symnet: bad table " ++ (name ++ (codes ":" ++ (decimal line ++ (codes " " ++ decimal kind))))
 text_of (BadPacket kind) = codes "symnet: bad packet " ++ decimal kind
 text_of Partial = codes "symnet: partial"
 text_of (TooMany count) = codes "symnet: too many walks " ++ decimal count
-text_of (BadReport kind pointer) = bad_report_text kind pointer
-text_of (NotConfirmed number kind) = numbered (codes "symnet: not confirmed ") number kind
-text_of (BadAsk number kind) = numbered (codes "symnet: bad ask ") number kind
+text_of (BadReport kind pointer) = codes "symnet: bad report " ++ (decimal kind ++ (codes " " ++ pointer))
+text_of (NotConfirmed number kind) = codes "symnet: not confirmed " ++ (decimal number ++ (codes " " ++ decimal kind))
+text_of (BadAsk number kind) = codes "symnet: bad ask " ++ (decimal number ++ (codes " " ++ decimal kind))
 text_of (BadCompare kind one other) = codes "symnet: bad compare " ++ decimal kind

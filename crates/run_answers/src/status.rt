@@ -1,12 +1,12 @@
-//! How a run ends.
+//! The statuses with which the program ends.
 
-ghost use Rattle.std.specs.Prelude.{◌≡◌, ◌++◌, decimal, string_bytes, IfOk};
-ghost use Rattle.exit_status.specs.Status.{bad_report_text, bad_table_text, input_status, numbered, own_status, status_of, syntax_text, text_of};
+ghost use Rattle.std.specs.Prelude.{◌≡◌};
+ghost use Rattle.run_answers.specs.Status.{input_status, own_status, status_of};
 
 use command_edge::{Ending, InputFault, OwnFault, Stop};
 use sefl_syntax::Text;
-use sn_width::{NoMemory, Site};
-use std::alloc::Global;
+use sn_width::Site;
+use std::fmt;
 
 /// The status of a run of the program; `name` is the file's. Lines and columns count from 1, columns in bytes.
 #[derive(Drop)]
@@ -47,7 +47,7 @@ pub enum Status {
 }
 
 impl Status {
-    ghost use Rattle.exit_status.specs.Status.{number_of};
+    ghost use Rattle.run_answers.specs.Status.{number_of};
 
     /// The number with which the process ends.
     pub fn number(&self) -> u8
@@ -122,96 +122,42 @@ pub fn status_of(answer: Result<Ending, Stop>) -> Status
     }
 }
 
-/// A fixed text.
-fn fixed(alloc: Global, words: &str) -> Result<String, NoMemory>
-    ensures { IfOk result (λ text. string_bytes text ≡ words.now) }
-{
-    Ok(String::from_str(alloc, words)?)
-}
+/// What standard error shows of it: nothing of Done, else a line without its end.
+impl fmt::Display for Status {
+    ghost use Rattle.std.specs.Prelude.{Some};
+    ghost use Rattle.run_answers.specs.Status.{text_of};
 
-/// Words with a name behind them.
-fn with_name(alloc: Global, words: &str, name: &Text) -> Result<String, NoMemory>
-    ensures { IfOk result (λ text. string_bytes text ≡ words.now ++ name.now) }
-{
-    Ok(format!(in alloc; "{words}{name}")?)
-}
+    ghost output = { λ status. Some (text_of status) };
 
-/// Words with a number behind them.
-fn with_number(alloc: Global, words: &str, number: u64) -> Result<String, NoMemory>
-    ensures { IfOk result (λ text. string_bytes text ≡ words.now ++ decimal number) }
-{
-    Ok(format!(in alloc; "{words}{number}")?)
-}
-
-/// Words with a number behind them, and a kind behind that.
-#[tactic(auto, unfolding(crate::specs::Status::numbered))]
-fn with_numbers(alloc: Global, words: &str, number: u64, kind: u8) -> Result<String, NoMemory>
-    ensures { IfOk result (λ text. string_bytes text ≡ numbered words.now number kind) }
-{
-    Ok(format!(in alloc; "{words}{number} {kind}")?)
-}
-
-#[tactic(auto, unfolding(crate::specs::Status::syntax_text))]
-fn syntax_text(alloc: Global, line: u64, column: u64, kind: u8) -> Result<String, NoMemory>
-    ensures { IfOk result (λ text. string_bytes text ≡ syntax_text line column kind) }
-{
-    Ok(format!(in alloc; "symnet: syntax {line}:{column} {kind}")?)
-}
-
-#[tactic(auto, unfolding(crate::specs::Status::bad_table_text))]
-fn bad_table_text(alloc: Global, name: &Text, line: u64, kind: u8) -> Result<String, NoMemory>
-    ensures { IfOk result (λ text. string_bytes text ≡ bad_table_text name.now line kind) }
-{
-    Ok(format!(in alloc; "symnet: bad table {name}:{line} {kind}")?)
-}
-
-#[tactic(auto, unfolding(crate::specs::Status::bad_report_text))]
-fn bad_report_text(alloc: Global, kind: u8, pointer: &Text) -> Result<String, NoMemory>
-    ensures { IfOk result (λ text. string_bytes text ≡ bad_report_text kind pointer.now) }
-{
-    Ok(format!(in alloc; "symnet: bad report {kind} {pointer}")?)
-}
-
-/// What standard error shows of a status: nothing where it is Done, else a line without its end.
-pub fn status_text(alloc: Global, status: &Status) -> Result<String, NoMemory>
-    ensures { IfOk result (λ text. string_bytes text ≡ text_of status.now) }
-{
-    match status {
-        Status::Done => Ok(String::new(alloc)),
-        Status::NoMemory => fixed(alloc, "symnet: out of memory"),
-        Status::Usage => fixed(alloc, "symnet: usage"),
-        Status::NoFile { name } => with_name(alloc, "symnet: no file ", name),
-        Status::ReadFault { name } => with_name(alloc, "symnet: cannot read ", name),
-        Status::WriteFault => fixed(alloc, "symnet: cannot write"),
-        Status::TooBig { name } => with_name(alloc, "symnet: too big ", name),
-        Status::Syntax { line, column, kind } => syntax_text(alloc, *line, *column, *kind),
-        Status::BadPattern { site } => with_number(
-            alloc,
-            "symnet: bad pattern at ",
-            u64::from(site.0),
-        ),
-        Status::Refused { site, kind } => with_numbers(
-            alloc,
-            "symnet: refused at ",
-            u64::from(site.0),
-            *kind,
-        ),
-        Status::BadTable { name, line, kind } => bad_table_text(alloc, name, *line, *kind),
-        Status::BadPacket { kind } => with_number(alloc, "symnet: bad packet ", u64::from(*kind)),
-        Status::Partial => fixed(alloc, "symnet: partial"),
-        Status::TooMany { count } => with_number(alloc, "symnet: too many walks ", *count),
-        Status::BadReport { kind, pointer } => bad_report_text(alloc, *kind, pointer),
-        Status::NotConfirmed { number, kind } => with_numbers(
-            alloc,
-            "symnet: not confirmed ",
-            *number,
-            *kind,
-        ),
-        Status::BadAsk { number, kind } => with_numbers(alloc, "symnet: bad ask ", *number, *kind),
-        Status::BadCompare { kind, .. } => with_number(
-            alloc,
-            "symnet: bad compare ",
-            u64::from(*kind),
-        ),
+    fn fmt<W: fmt::Write>(&self, f: &mut fmt::Formatter<W>) -> fmt::Result {
+        match self {
+            Status::Done => Ok(()),
+            Status::NoMemory => f.write_str("symnet: out of memory"),
+            Status::Usage => f.write_str("symnet: usage"),
+            Status::NoFile { name } => write!(f, "symnet: no file {name}"),
+            Status::ReadFault { name } => write!(f, "symnet: cannot read {name}"),
+            Status::WriteFault => f.write_str("symnet: cannot write"),
+            Status::TooBig { name } => write!(f, "symnet: too big {name}"),
+            Status::Syntax { line, column, kind } => write!(
+                f,
+                "symnet: syntax {line}:{column} {kind}"
+            ),
+            Status::BadPattern { site } => write!(f, "symnet: bad pattern at {}", site.0),
+            Status::Refused { site, kind } => write!(f, "symnet: refused at {} {kind}", site.0),
+            Status::BadTable { name, line, kind } => write!(
+                f,
+                "symnet: bad table {name}:{line} {kind}"
+            ),
+            Status::BadPacket { kind } => write!(f, "symnet: bad packet {kind}"),
+            Status::Partial => f.write_str("symnet: partial"),
+            Status::TooMany { count } => write!(f, "symnet: too many walks {count}"),
+            Status::BadReport { kind, pointer } => write!(f, "symnet: bad report {kind} {pointer}"),
+            Status::NotConfirmed { number, kind } => write!(
+                f,
+                "symnet: not confirmed {number} {kind}"
+            ),
+            Status::BadAsk { number, kind } => write!(f, "symnet: bad ask {number} {kind}"),
+            Status::BadCompare { kind, .. } => write!(f, "symnet: bad compare {kind}"),
+        }
     }
 }
