@@ -8,7 +8,7 @@ ghost use Rattle.job_gen.specs.Grown.{grown};
 
 use command_edge::InputFault;
 use command_runs::Source;
-use job_acceptance::accept_filled;
+use job_files::accept_filled;
 use job_gen::grow;
 use net_check::Accepted;
 use sn_edge::{Folder, Patterns};

@@ -9,11 +9,11 @@ ghost use Rattle.command_edge.specs.Files.{FolderShows};
 ghost use Rattle.run_answers.specs.Inputs.{a_job, given_of};
 ghost use Rattle.run_answers.specs.Jobs.{HasFilled, IsOnlyJob, JobFails, ReadFails};
 
+use crate::acceptance::accept_filled;
 use crate::refusal::fault_of_reading;
 use crate::table::fill_tables;
 use command_edge::{InputFault, load_text};
 use command_runs::Source;
-use job_acceptance::accept_filled;
 use net_check::Accepted;
 use sefl_reader::read_job;
 use sefl_syntax::Job;
