@@ -9,7 +9,7 @@ use crate::source::Source;
 use crate::work::Work;
 use command_edge::{Ending, OwnFault, Stop, put_text};
 use sn_edge::Sink;
-use std::alloc::Global;
+use std::alloc::{AllocError, Global};
 
 /// A command whose text is one piece, which is made before it is put.
 pub trait OnePiece {
@@ -36,8 +36,15 @@ pub trait OnePiece {
 }
 
 /// The work of a command whose text is one piece.
-#[derive(Clone, Copy)]
 pub struct Piece<C>(pub C);
+
+impl<C: Copy> Clone for Piece<C> {
+    fn clone(&self) -> Result<Piece<C>, AllocError> {
+        Ok(*self)
+    }
+}
+
+impl<C: Copy> Copy for Piece<C> {}
 
 impl<C: OnePiece> Work for Piece<C> {
     type From = C::From;

@@ -8,7 +8,7 @@ ghost use Rattle.run_answers.specs.Outside.{outside};
 
 use command_edge::{InputFault, load_file};
 use sn_edge::{Folder, Patterns};
-use std::alloc::Global;
+use std::alloc::{AllocError, Global};
 
 /// What a command reads.
 pub trait Source {
@@ -48,11 +48,18 @@ pub struct ByteFile<'a> {
 }
 
 /// One source after another.
-#[derive(Clone, Copy)]
 pub struct Both<A, B> {
     pub first: A,
     pub second: B,
 }
+
+impl<A: Copy, B: Copy> Clone for Both<A, B> {
+    fn clone(&self) -> Result<Both<A, B>, AllocError> {
+        Ok(*self)
+    }
+}
+
+impl<A: Copy, B: Copy> Copy for Both<A, B> {}
 
 /// What two sources gave.
 #[derive(Drop)]
