@@ -2,7 +2,6 @@
 
 ghost use Rattle.std.specs.Prelude.{◌≡◌, true, false, IfOk, IfErr, OnOk, IfSome, IfNone};
 ghost use Rattle.sefl_syntax.specs.Filled.{is_code};
-ghost use Rattle.sefl_syntax.specs.Trees.{table};
 ghost use Rattle.sefl_syntax.specs.Views.{body_tree, job_tree, node_tree};
 ghost use Rattle.sn_edge.specs.Told.{FolderKept};
 ghost use Rattle.command_edge.specs.Files.{FolderShows};
@@ -10,7 +9,7 @@ ghost use Rattle.run_answers.specs.Refusals.{fault_of_table};
 ghost use Rattle.run_answers.specs.Tables.{CodeFails, FirstUnfilled, IsCodeOf, IsFilled};
 
 use command_edge::{InputFault, load_text};
-use sefl_syntax::{Body, Job, RawNode, Style, TableKind, Text, fill};
+use sefl_syntax::{Body, Job, RawNode, Text, fill};
 use sn_edge::Folder;
 use std::alloc::Global;
 use table_files::{FileFault, file_node};
@@ -22,27 +21,6 @@ fn fault_of_table(name: Text, fault: FileFault) -> InputFault
     match fault {
         FileFault::Bad { line, kind } => InputFault::BadTable { name, line, kind },
         FileFault::NoMemory => InputFault::NoMemory,
-    }
-}
-
-/// The node of the table in the file of this name.
-fn load_node<F: Folder>(
-    alloc: Global,
-    kind: TableKind,
-    name: &str,
-    style: Style,
-    folder: &mut F,
-) -> Result<RawNode, InputFault>
-    ensures folder_kept { FolderKept (F.told folder.old) (F.told folder.new) }
-    ensures node { IfOk result (λ node. IsCodeOf (F.told folder.old).files (table kind name.now style) (node_tree node)) }
-    ensures fails { IfErr result (CodeFails (F.told folder.old).files (table kind name.now style)) }
-    ensures shows { IfErr result (FolderShows (F.told folder.old) (F.told folder.new)) }
-{
-    let bytes = load_text(alloc, name, folder)?;
-    let own = Text::of(alloc, name)?;
-    match file_node(alloc, kind, &bytes, style) {
-        Ok(node) => Ok(node),
-        Err(fault) => Err(fault_of_table(own, fault)),
     }
 }
 
@@ -59,12 +37,13 @@ fn table_node<F: Folder>(
     ensures fails { IfErr result (CodeFails (F.told folder.old).files (body_tree body.now)) }
     ensures shows { IfErr result (FolderShows (F.told folder.old) (F.told folder.new)) }
 {
-    match body {
-        Body::Code(_) => Ok(None),
-        Body::Table { kind, file, style } => {
-            let node = load_node(alloc, *kind, file.text(), *style, folder)?;
-            Ok(Some(node))
-        }
+    let Body::Table { kind, file, style } = body else {
+        return Ok(None);
+    };
+    let bytes = load_text(alloc, file.text(), folder)?;
+    match file_node(alloc, *kind, &bytes, *style) {
+        Ok(node) => Ok(Some(node)),
+        Err(fault) => Err(fault_of_table(Text::of(alloc, file.text())?, fault)),
     }
 }
 
