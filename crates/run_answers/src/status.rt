@@ -1,6 +1,7 @@
 //! The statuses with which the program ends.
 
-ghost use Rattle.std.specs.Prelude.{◌≡◌};
+ghost use Rattle.std.specs.Fmt.{WritesOnOk};
+ghost use Rattle.std.specs.Prelude.{◌≡◌, ◌++◌, codes, decimal};
 ghost use Rattle.run_answers.specs.Status.{input_status, own_status, status_of};
 
 use command_edge::{Ending, InputFault, OwnFault, Stop};
@@ -122,6 +123,32 @@ pub fn status_of(answer: Result<Ending, Stop>) -> Status
     }
 }
 
+/// Writes words with a name behind them.
+fn write_name<W: fmt::Write>(f: &mut fmt::Formatter<W>, words: &str, name: &Text) -> fmt::Result
+    ensures { WritesOnOk W.write_str_gives f.old result (words.now ++ name.now) f.new }
+{
+    write!(f, "{words}{name}")
+}
+
+/// Writes words with a number behind them.
+fn write_number<W: fmt::Write>(f: &mut fmt::Formatter<W>, words: &str, number: u64) -> fmt::Result
+    ensures { WritesOnOk W.write_str_gives f.old result (words.now ++ decimal number) f.new }
+{
+    write!(f, "{words}{number}")
+}
+
+/// Writes words with a number behind them, and a kind behind that.
+fn write_numbers<W: fmt::Write>(
+    f: &mut fmt::Formatter<W>,
+    words: &str,
+    number: u64,
+    kind: u8,
+) -> fmt::Result
+    ensures { WritesOnOk W.write_str_gives f.old result (words.now ++ (decimal number ++ (codes " " ++ decimal kind))) f.new }
+{
+    write!(f, "{words}{number} {kind}")
+}
+
 /// What standard error shows of it: nothing of Done, else a line without its end.
 impl fmt::Display for Status {
     ghost use Rattle.std.specs.Prelude.{Some};
@@ -134,30 +161,45 @@ impl fmt::Display for Status {
             Status::Done => Ok(()),
             Status::NoMemory => f.write_str("symnet: out of memory"),
             Status::Usage => f.write_str("symnet: usage"),
-            Status::NoFile { name } => write!(f, "symnet: no file {name}"),
-            Status::ReadFault { name } => write!(f, "symnet: cannot read {name}"),
+            Status::NoFile { name } => write_name(f, "symnet: no file ", name),
+            Status::ReadFault { name } => write_name(f, "symnet: cannot read ", name),
             Status::WriteFault => f.write_str("symnet: cannot write"),
-            Status::TooBig { name } => write!(f, "symnet: too big {name}"),
+            Status::TooBig { name } => write_name(f, "symnet: too big ", name),
             Status::Syntax { line, column, kind } => write!(
                 f,
                 "symnet: syntax {line}:{column} {kind}"
             ),
-            Status::BadPattern { site } => write!(f, "symnet: bad pattern at {}", site.0),
-            Status::Refused { site, kind } => write!(f, "symnet: refused at {} {kind}", site.0),
+            Status::BadPattern { site } => write_number(
+                f,
+                "symnet: bad pattern at ",
+                u64::from(site.0),
+            ),
+            Status::Refused { site, kind } => write_numbers(
+                f,
+                "symnet: refused at ",
+                u64::from(site.0),
+                *kind,
+            ),
             Status::BadTable { name, line, kind } => write!(
                 f,
                 "symnet: bad table {name}:{line} {kind}"
             ),
-            Status::BadPacket { kind } => write!(f, "symnet: bad packet {kind}"),
+            Status::BadPacket { kind } => write_number(f, "symnet: bad packet ", u64::from(*kind)),
             Status::Partial => f.write_str("symnet: partial"),
-            Status::TooMany { count } => write!(f, "symnet: too many walks {count}"),
+            Status::TooMany { count } => write_number(f, "symnet: too many walks ", *count),
             Status::BadReport { kind, pointer } => write!(f, "symnet: bad report {kind} {pointer}"),
-            Status::NotConfirmed { number, kind } => write!(
+            Status::NotConfirmed { number, kind } => write_numbers(
                 f,
-                "symnet: not confirmed {number} {kind}"
+                "symnet: not confirmed ",
+                *number,
+                *kind,
             ),
-            Status::BadAsk { number, kind } => write!(f, "symnet: bad ask {number} {kind}"),
-            Status::BadCompare { kind, .. } => write!(f, "symnet: bad compare {kind}"),
+            Status::BadAsk { number, kind } => write_numbers(f, "symnet: bad ask ", *number, *kind),
+            Status::BadCompare { kind, .. } => write_number(
+                f,
+                "symnet: bad compare ",
+                u64::from(*kind),
+            ),
         }
     }
 }
