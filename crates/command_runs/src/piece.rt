@@ -38,6 +38,7 @@ pub trait OnePiece {
 /// The work of a command whose text is one piece.
 pub struct Piece<C>(pub C);
 
+// Not derived, which would clone the command.
 impl<C: Copy> Clone for Piece<C> {
     fn clone(&self) -> Result<Piece<C>, AllocError> {
         Ok(*self)

@@ -53,6 +53,7 @@ pub struct Both<A, B> {
     pub second: B,
 }
 
+// Not derived, which would clone each part.
 impl<A: Copy, B: Copy> Clone for Both<A, B> {
     fn clone(&self) -> Result<Both<A, B>, AllocError> {
         Ok(*self)
