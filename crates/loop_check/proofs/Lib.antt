@@ -1,0 +1,9 @@
+pub mod Same
+pub mod Layouts
+pub mod Values
+pub mod Comparing
+pub mod Looking
+pub mod Seeing
+pub mod Found
+pub mod Gathering
+pub mod Symbols

@@ -1,0 +1,10 @@
+use Rattle.loop_check.proofs.Found.{found_more}
+use Rattle.loop_check.proofs.finding.FindingReceiver.take.Goals as goal
+
+pub returns-in-Ok-clause-took : goal.returns-in-Ok-clause-took
+returns-in-Ok-clause-took g c = λ items h.
+    let m = g.M.Mark in
+    let old = c.args.self.now in
+    let new = c.keep-kept.new.self in
+    found_more m.net m.entry m.hops old.subject new.subject old.found.items new.found.items old.count new.count c.args.item c.in-Ok.ensures.same
+    c.in-Ok.ensures.keeps items h
