@@ -7,9 +7,9 @@ use Rattle.sefl_syntax.specs.Trees.{CondTree}
 use Rattle.sefl_syntax.specs.Views.{conds_of}
 use Rattle.click_elements.specs.declared.class.Primitive.{Primitive}
 use Rattle.click_elements.specs.declared.class.Primitive.TheVariants.{All, Host, Net, Protocol, Port}
-use Rattle.click_elements.specs.declared.field.Field.{Field}
-use Rattle.click_elements.specs.declared.field.Field.TheVariants as field
-use Rattle.click_elements.specs.Fields.{cell}
+use Rattle.table_nodes.specs.declared.field.Field.{Field}
+use Rattle.table_nodes.specs.declared.field.Field.TheVariants as field
+use Rattle.table_nodes.specs.Fields.{cell}
 use Rattle.click_elements.specs.Patterns.{address_field, all_tests, equals, is_ported, joined, pattern_test, port_field, tests_of, within}
 use Rattle.cell_stacks.specs.Outcome.{and_then, on_ok}
 use Rattle.job_items.specs.AtomRules.{width_of}
