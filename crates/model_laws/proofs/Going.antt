@@ -151,7 +151,7 @@ module _ (v : List ℕ) (unknowns : ℕ) (at : Scene) where
   rule_goes site false p next = refl
 
   -- of two outcomes, the one that a test chooses
-  chosen : (b : Bool) (x y w z : Outcome) → x ≡ w → y ≡ z → (if b then x else y) ≡ (if b then w else z)
+  pub chosen : (b : Bool) (x y w z : Outcome) → x ≡ w → y ≡ z → (if b then x else y) ≡ (if b then w else z)
   chosen true x y w z one other = one
   chosen false x y w z one other = other
 
