@@ -13,6 +13,7 @@ digits; a value above 2^64 - 1, which is written as a text of digits, becomes a 
 """
 
 import json
+import signal
 import sys
 from dataclasses import dataclass, field
 from typing import Dict, List, Optional, Tuple, Union
@@ -254,4 +255,7 @@ def main(words: List[str]) -> int:
 
 
 if __name__ == "__main__":
+    # A reader that has seen enough, as `head`, ends this program quietly.
+    if hasattr(signal, "SIGPIPE"):
+        signal.signal(signal.SIGPIPE, signal.SIG_DFL)
     sys.exit(main(sys.argv[1:]))
