@@ -64,21 +64,22 @@ RULES = written({"rules": [DECIDING[0], DECIDING[1], BY_ONE, DECIDING[2], DECIDI
 # Of the job of examples/branch-office: its six unknown fields, and a choice.
 OTHER = written({"answer": "other", "number": 3, "side": "left", "symnet": 1, "values": [2, 17, 167837696, 134744072, 0, 53, 1024]})
 
-# Each cell at its position, behind two tags L3; the values are given, so that only positions count.
+# Addresses of IPv6 with runs of zeros in all places.
 IP6 = [0, 1, 0x20010DB8000100000000000000000000, 0x00010000000000020000000000000003, 0x00010000000000020003000400050000, 2**128 - 1, 0x00010002000300040005000600070008]
 
 
-def all_positions(positions):
-    """A report of one path that carries a cell of each position, and IPv6 destinations behind further addresses of L3."""
+def all_positions(positions, more):
+    """A report of one path that carries a cell of each position, and the cells (tag, offset, width, value) behind further addresses of their tags."""
     bases = {"L2": 0, "L3": 4096, "L4": 8192}
-    heads = [[bases[tag] + offset, [[width, str((1 << width) * 2 // 3) if width > 64 else (1 << width) * 2 // 3, []]]] for tag, offset, width in positions]
     tags = [[tag, base] for tag, base in bases.items()]
-    for number, value in enumerate(IP6):
+    cells = [(bases[tag] + offset, width, (1 << width) * 2 // 3) for tag, offset, width in positions]
+    for number, (tag, offset, width, value) in enumerate(more):
         base = 16384 + 1024 * number
-        tags.append(["L3", base])
-        heads.append([base + 192, [[128, str(value) if value >= 2**64 else value, []]]])
-    # The same offset with another width is no position.
-    heads.append([bases["L3"] + 96 + 20000, [[32, 7, []]]])
+        tags.append([tag, base])
+        cells.append((base + offset, width, value))
+    # A place that is an address's with another width is no position.
+    cells.append((bases["L3"] + 96, 16, 7))
+    heads = [[address, [[width, value if value < 2**64 else str(value), []]]] for address, width, value in cells]
     return report([path([], ["in r.0"], "stopped", [], heads, tags)])
 
 
