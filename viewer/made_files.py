@@ -64,6 +64,28 @@ RULES = written({"rules": [DECIDING[0], DECIDING[1], BY_ONE, DECIDING[2], DECIDI
 # Of the job of examples/branch-office: its six unknown fields, and a choice.
 OTHER = written({"answer": "other", "number": 3, "side": "left", "symnet": 1, "values": [2, 17, 167837696, 134744072, 0, 53, 1024]})
 
+# A net before and after a change, a packet that shows the difference, and what becomes of it in each.
+BEFORE = """symnet 2;
+node edge 1 -> 2 { in 0 { if head L3+128:32 in {167772160..184549375} { forward 0; } else { forward 1; } } }
+node filter 1 -> 1 { in 0 { forward 0; } }
+node host 1 -> 1 { in 0 { forward 0; } }
+link edge.0 -> filter.0;
+link filter.0 -> host.0;
+inject edge.0 { tag L3 = 112; tag L4 = 272; field head L3+128:32; field head L4+16:16; }
+"""
+AFTER = BEFORE.replace("node filter 1 -> 1 { in 0 {", 'node filter 1 -> 1 { in 0 { if head L4+16:16 == 22 { fail "no ssh"; } else { }')
+WAY_BEFORE = ["in edge.0", "out edge.0", "in filter.0", "out filter.0", "in host.0", "out host.0"]
+
+
+def one_walk(decisions, places, end):
+    fields = {"heads": [[240, [[32, 167772160]]], [288, [[16, 22]]]], "metas": [], "tags": [["L3", 112], ["L4", 272]]}
+    return written({"symnet": 1, "walks": [{"decisions": decisions, "end": end, "fields": fields, "places": places}]})
+
+
+WALK_BEFORE = one_walk(["then"], WAY_BEFORE, "delivered")
+WALK_AFTER = one_walk(["then", "then"], WAY_BEFORE[:3], {"fault": 9, "site": 9, "text": "no ssh"})
+DIFFERENCE = written({"answer": "other", "number": 0, "side": "left", "symnet": 1, "values": [167772160, 22]})
+
 # Addresses of IPv6 with runs of zeros in all places.
 IP6 = [0, 1, 0x20010DB8000100000000000000000000, 0x00010000000000020000000000000003, 0x00010000000000020003000400050000, 2**128 - 1, 0x00010002000300040005000600070008]
 
