@@ -27,6 +27,8 @@ fn job_of(command: Command<'_>) -> Option<&str> {
         Command::Ask { job, .. } => Some(job),
         Command::Model { .. } => None,
         Command::Click { .. } => None,
+        Command::Acl { .. } => None,
+        Command::Rules { .. } => None,
         Command::Grow { .. } => None,
     }
 }
