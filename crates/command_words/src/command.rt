@@ -71,6 +71,10 @@ pub enum Command<'a> {
         job: &'a str,
         hops: u32,
     },
+    Loops {
+        job: &'a str,
+        hops: u32,
+    },
     Model {
         table: Table,
         file: &'a str,
@@ -92,6 +96,7 @@ enum Verb {
     Walk,
     Replay,
     Ask,
+    Loops,
     Model(Table),
     Click,
     Grow,
@@ -116,6 +121,10 @@ impl Verb {
                 options: &[],
             },
             Verb::Ask => Form {
+                positionals: &["JOB"],
+                options: &["hops"],
+            },
+            Verb::Loops => Form {
                 positionals: &["JOB"],
                 options: &["hops"],
             },
@@ -144,6 +153,7 @@ fn verb_of(word: &str) -> Option<Verb>
         "walk" => Some(Verb::Walk),
         "replay" => Some(Verb::Replay),
         "ask" => Some(Verb::Ask),
+        "loops" => Some(Verb::Loops),
         "grow" => Some(Verb::Grow),
         _ => None,
     }
@@ -274,6 +284,11 @@ fn command_from<'a>(verb: Verb, values: &ArgMatches<'a>) -> Option<Command<'a>>
             let job = values.get_str("JOB")?;
             let hops = hops_in(values)?;
             Some(Command::Ask { job, hops })
+        }
+        Verb::Loops => {
+            let job = values.get_str("JOB")?;
+            let hops = hops_in(values)?;
+            Some(Command::Loops { job, hops })
         }
         Verb::Model(table) => {
             let file = values.get_str("FILE")?;
