@@ -9,6 +9,7 @@ brackets before the words is its status, where that is not 0.
   tools/examples.py check         says whether that table is what `rows` would write
 """
 
+import re
 import subprocess
 import sys
 from pathlib import Path
@@ -17,6 +18,8 @@ TOP = Path(__file__).resolve().parent.parent
 TABLE = TOP / "crates/symnet_rows/data/networks.rows"
 # What standard error says of a status.
 TEXTS = {0: "", 12: "symnet: partial"}
+# Where the next record, answer or rule begins.
+MEMBER = re.compile(r',(?={"decisions")|(?<=}),(?={"(?:answer|cover|rule)")')
 
 
 def commands():
@@ -45,7 +48,7 @@ def run(program):
 def lines(text):
     """The text as lines of a table: `|` where a line feed ends it, `:` where nothing does."""
     for line in text.split("\n")[:-1]:
-        pieces = line.replace(',{"decisions"', ',\n{"decisions"').replace('},{"answer"', '},\n{"answer"').split("\n")
+        pieces = MEMBER.sub(",\n", line).split("\n")
         yield from (f": {piece}" for piece in pieces[:-1])
         yield f"| {pieces[-1]}"
 

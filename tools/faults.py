@@ -41,6 +41,11 @@ link sw.1 -> r.7;
 inject sw.0 { tag L2 = 0; field head L2+0:48; }
 """
 MAC = "ports 2\n# a row\n02:00:00:00:00:01 0\n02:00:00:00:00:02 1\n"
+# What is said of a line in words.
+RULE = ("a rule is `permit` or `deny`, a protocol, two prefixes (source, destination) and two ports: "
+        "permit 6 10.0.0.0/8 0.0.0.0/0 any 80-443\n")
+ROW = "a table is `ports N`, and then rows: an address or a prefix, and a port that is less than N\n"
+LIST = "permit 6 10.0.0.0/8 0.0.0.0/0 any 80\r\n# a rule\r\n\tdeny any 10.0.0.0/8 0.0.0.0/0 any 9-5\r\n"
 LONG = "symnet 2; // " + "x" * 70 + "\n" + "\t" + "noop;" * 30 + "\n"
 
 
@@ -94,11 +99,19 @@ CASES = [
     ("explore job", job(TABLE, **{"sw.mac": MAC}),
      "symnet: refused at 9 3\njob:5:1:\nlink sw.1 -> r.7;\n^\n"),
     ("explore job", job(TABLE, **{"sw.mac": MAC.replace("02 1", "02 2")}),
-     "symnet: bad table sw.mac:4 1\nsw.mac:4:1:\n02:00:00:00:00:02 2\n^\n"),
+     "symnet: bad table sw.mac:4 1\nsw.mac:4:1:\n02:00:00:00:00:02 2\n^\n" + ROW),
     ("model mac sw.mac", {"sw.mac": "ports 2\n  02:00:00:00:00:01\n"},
-     "symnet: bad table sw.mac:2 1\nsw.mac:2:3:\n  02:00:00:00:00:01\n  ^\n"),
+     "symnet: bad table sw.mac:2 1\nsw.mac:2:3:\n  02:00:00:00:00:01\n  ^\n" + ROW),
+    ("model mac sw.mac", {"sw.mac": MAC + "02:00:00:00:00:01 1\n"},
+     "symnet: bad table sw.mac:5 2\nsw.mac:5:1:\n02:00:00:00:00:01 1\n^\nan earlier row has this address or prefix, and another port\n"),
     ("model click c", {"c": "a :: Tee;\nb :: Tree;\n"},
-     "symnet: bad table c:2 4\nc:2:1:\nb :: Tree;\n^\n"),
+     "symnet: bad table c:2 4\nc:2:1:\nb :: Tree;\n^\nthere is no class of this name\n"),
+    ("rules list", {"list": LIST},
+     "symnet: bad table list:3 1\nlist:3:2:\n deny any 10.0.0.0/8 0.0.0.0/0 any 9-5 \n ^\n" + RULE),
+    ("model acl list", {"list": "permit 256 0.0.0.0/0 0.0.0.0/0 any any\n"},
+     "symnet: bad table list:1 1\nlist:1:1:\npermit 256 0.0.0.0/0 0.0.0.0/0 any any\n^\n" + RULE),
+    ("rules list", {"list": "deny 1 1.1.1.1/32 2.2.2.2/32 any any\n" * 1025},
+     "symnet: bad table list:1025 3\nlist:1025:1:\ndeny 1 1.1.1.1/32 2.2.2.2/32 any any\n^\na list has at most 1,024 rules\n"),
 ]
 
 

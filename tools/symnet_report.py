@@ -1,16 +1,26 @@
 #!/usr/bin/env python3
-"""Reads what symnet writes into plain objects, and prints a table of its paths.
+"""Reads what symnet writes into plain objects, and prints it for people.
 
-    tools/symnet_report.py REPORT.json [--pruned]
+    tools/symnet_report.py WRITTEN [FILE ..] [--pruned]
 
-REPORT.json is a report of `symnet explore` or the walks of `symnet walk`. Only the standard library is used. Whole numbers
-keep all their digits; a value above 2^64 - 1, which is written as a text of digits, becomes a number too.
+WRITTEN is a report of `symnet explore`, the walks of `symnet walk`, or an answer of `symnet ask`, `rules`, `loops` or `compare`; `-` reads it from
+standard input. A FILE is what belongs to it: the job, the filter list of `rules`, or the report whose paths `loops` speaks of. Fields are shown by
+their names and with their values as people write them, where the job is given. Only the standard library is used. Whole numbers keep all their
+digits; a value above 2^64 - 1, which is written as a text of digits, becomes a number too.
+
+    symnet ask office.sefl | tools/symnet_report.py - office.sefl
+    symnet rules border.acl | tools/symnet_report.py - border.acl
 """
 
 import json
+import signal
 import sys
 from dataclasses import dataclass, field
-from typing import List, Optional, Tuple, Union
+from typing import Dict, List, Optional, Tuple, Union
+
+from symnet_answers import (NotAnswer, asked_lines, columns, compared_lines, loops_lines, packet_words, read_asked, read_compared, read_loops, read_rules,
+                            rules_lines)
+from symnet_inputs import Job, NotInput, Rule, is_list, read_job, read_list
 
 FAULTS = {
     1: "no such tag", 2: "address out of range", 3: "no field at the address", 4: "field of another width",
@@ -130,14 +140,22 @@ def _record(record: dict) -> Union[Path, Pruned, Unexplored]:
     raise NotReport(f"a record of the unknown kind {kind!r}")
 
 
-def read_report(text: Union[str, bytes]) -> Report:
-    """The report, or the walks, of this text; NotReport where it is neither."""
+def _read_written(text: Union[str, bytes]) -> dict:
     try:
         whole = json.loads(text)
     except (ValueError, RecursionError) as error:
         raise NotReport(f"no JSON: {error}") from None
     if not isinstance(whole, dict) or whole.get("symnet") != 1:
         raise NotReport("no report: it is no object with the key symnet 1")
+    return whole
+
+
+def read_report(text: Union[str, bytes]) -> Report:
+    """The report, or the walks, of this text; NotReport where it is neither."""
+    return _report(_read_written(text))
+
+
+def _report(whole: dict) -> Report:
     listed = whole.get("records", whole.get("walks"))
     if not isinstance(listed, list):
         raise NotReport("no report: it has neither records nor walks")
@@ -150,39 +168,94 @@ def read_report(text: Union[str, bytes]) -> Report:
     return report
 
 
-def table(report: Report, with_pruned: bool = False) -> str:
+def table(report: Report, with_pruned: bool = False, job: Optional[Job] = None) -> str:
     """A line for each path: its number, its end, the ports, the least packet; with the pruned sides where they are asked for."""
     lines = []
     for number, record in enumerate(report.records):
         if isinstance(record, Path):
-            packet = " ".join(map(str, record.values)) if record.values is not None else record.undecided or "-"
-            lines.append((str(number), record.end, " ".join(map(str, record.decisions)), " > ".join(record.places), packet))
+            lines.append((str(number), record.end, " ".join(map(str, record.decisions)), " > ".join(record.places), _packet(record, job)))
         elif isinstance(record, Unexplored):
             lines.append((str(number), "unexplored", " ".join(map(str, record.decisions)), "", ""))
         elif with_pruned:
             lines.append((str(number), "pruned", " ".join(map(str, record.decisions)), "", ""))
-    rows = [("record", "end", "decisions", "places", "packet"), *lines]
-    widths = [max(len(row[column]) for row in rows) for column in range(5)]
-    return "\n".join("  ".join(part.ljust(width) for part, width in zip(row, widths)).rstrip() for row in rows)
+    return "\n".join(columns([("record", "end", "decisions", "places", "packet"), *lines]))
+
+
+def _packet(path: Path, job: Optional[Job]) -> str:
+    if path.values is None:
+        return path.undecided or "-"
+    return " ".join(map(str, path.values)) if job is None else packet_words(path.values, job)
+
+
+@dataclass
+class Inputs:
+    """The files that belong to what was written, as far as they are given."""
+
+    job: Optional[Job] = None
+    rules: Optional[List[Rule]] = None
+    report: Optional[Report] = None
+
+    def add(self, name: str, data: bytes) -> None:
+        """Takes a file for what its text is."""
+        text = data.decode("utf-8", "replace")
+        if text.lstrip().startswith("{"):
+            self.report = read_report(text)
+        elif is_list(name, text):
+            self.rules = read_list(text)
+        else:
+            self.job = read_job(text)
+
+    def cut_paths(self) -> Optional[Dict[int, Tuple[str, ...]]]:
+        """The places of each cut path of the report, by the number of its record."""
+        if self.report is None:
+            return None
+        return {number: record.places for number, record in enumerate(self.report.records) if isinstance(record, Path) and record.end == "cut"}
+
+
+def shown(text: Union[str, bytes], inputs: Inputs, with_pruned: bool = False) -> str:
+    """What is written, in words; NotReport or NotAnswer where it is nothing that symnet writes, or not of these inputs."""
+    whole = _read_written(text)
+    if "answers" in whole:
+        return "\n".join(asked_lines(read_asked(whole), inputs.job))
+    if "rules" in whole:
+        return "\n".join(rules_lines(read_rules(whole, inputs.rules), inputs.rules))
+    if "loops" in whole:
+        return "\n".join(loops_lines(read_loops(whole), inputs.cut_paths()))
+    if "answer" in whole:
+        return "\n".join(compared_lines(read_compared(whole), inputs.job))
+    return table(_report(whole), with_pruned, inputs.job)
+
+
+def _bytes_of(name: str) -> bytes:
+    if name == "-":
+        return sys.stdin.buffer.read()
+    with open(name, "rb") as file:
+        return file.read()
 
 
 def main(words: List[str]) -> int:
-    names = [word for word in words if not word.startswith("-")]
-    if len(names) != 1 or any(word not in ("--pruned",) for word in words if word.startswith("-")):
-        print("usage: symnet_report.py REPORT.json [--pruned]", file=sys.stderr)
+    names = [word for word in words if word == "-" or not word.startswith("-")]
+    if not names or "-" in names[1:] or any(word not in ("-", "--pruned") for word in words if word.startswith("-")):
+        print("usage: symnet_report.py WRITTEN [FILE ..] [--pruned]", file=sys.stderr)
         return 2
+    inputs = Inputs()
+    name = names[0]
     try:
-        with open(names[0], "rb") as file:
-            report = read_report(file.read())
+        for name in names[1:]:
+            inputs.add(name, _bytes_of(name))
+        name = names[0]
+        print(shown(_bytes_of(name), inputs, "--pruned" in words))
     except OSError as error:
         print(f"symnet_report: {error}", file=sys.stderr)
         return 3
-    except NotReport as error:
-        print(f"symnet_report: {names[0]}: {error}", file=sys.stderr)
+    except (NotReport, NotAnswer, NotInput) as error:
+        print(f"symnet_report: {name}: {error}", file=sys.stderr)
         return 14
-    print(table(report, "--pruned" in words))
     return 0
 
 
 if __name__ == "__main__":
+    # A reader that has seen enough, as `head`, ends this program quietly.
+    if hasattr(signal, "SIGPIPE"):
+        signal.signal(signal.SIGPIPE, signal.SIG_DFL)
     sys.exit(main(sys.argv[1:]))

@@ -10,12 +10,12 @@ use Rattle.sefl_syntax.specs.Trees.{ExprTree, constant, reading, sum, no_summand
 use Rattle.table_nodes.specs.TableNodes.{alone, guard_instr, to_all}
 use Rattle.table_nodes.specs.Codes.{code_before}
 use Rattle.click_elements.specs.declared.class.Primitive.{Primitive}
-use Rattle.click_elements.specs.declared.field.Field.{Field}
-use Rattle.click_elements.specs.declared.field.Field.TheVariants.{FrameDestination, FrameSource, FrameType, TimeToLive, SourceAddress, DestinationAddress, SourcePort, DestinationPort}
+use Rattle.table_nodes.specs.declared.field.Field.{Field}
+use Rattle.table_nodes.specs.declared.field.Field.TheVariants.{FrameDestination, FrameSource, FrameType, TimeToLive, SourceAddress, DestinationAddress, SourcePort, DestinationPort}
 use Rattle.click_elements.specs.declared.mirror.Swap.{Swap}
 use Rattle.click_elements.specs.declared.mirror.Swap.TheVariants.{FrameAddresses, Addresses, Ports}
 use Rattle.click_elements.specs.Classes.{RuleSeen}
-use Rattle.click_elements.specs.Fields.{cell}
+use Rattle.table_nodes.specs.Fields.{cell}
 use Rattle.click_elements.specs.Patterns.{is_ported, pattern_test}
 
 abbrev pub drop_instr : InstrTree

@@ -7,9 +7,9 @@ use Rattle.click_elements.specs.declared.class.Direction.{Direction}
 use Rattle.click_elements.specs.declared.class.Direction.TheVariants.{Source, Destination}
 use Rattle.click_elements.specs.declared.class.Primitive.{Primitive}
 use Rattle.click_elements.specs.declared.class.Primitive.TheVariants.{All, Host, Net, Protocol, Port}
-use Rattle.click_elements.specs.declared.field.Field.{Field}
-use Rattle.click_elements.specs.declared.field.Field.TheVariants as field
-use Rattle.click_elements.specs.Fields.{cell}
+use Rattle.table_nodes.specs.declared.field.Field.{Field}
+use Rattle.table_nodes.specs.declared.field.Field.TheVariants as field
+use Rattle.table_nodes.specs.Fields.{cell}
 
 abbrev pub address_field : Direction → Field
 address_field Source = field.SourceAddress

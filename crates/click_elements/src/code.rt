@@ -4,14 +4,13 @@ ghost use Rattle.std.specs.Prelude.{◌≡◌, ◌++◌, [], ◌∷◌, map, IfO
 ghost use Rattle.sefl_syntax.specs.Trees.{allocate, assign, constant, deallocate, forward};
 ghost use Rattle.sefl_syntax.specs.Views.{code_tree, instr_tree, expr_tree, cond_tree};
 ghost use Rattle.table_nodes.specs.TableNodes.{alone};
-ghost use Rattle.click_elements.specs.Fields.{cell};
+ghost use Rattle.table_nodes.specs.Fields.{cell};
 ghost use Rattle.click_elements.specs.Codes.{drop_instr, drop_code, forward_code, tee_code, is_expired, one_less, lowered_code, expired_code, dec_ip_ttl_code, untagging, strip_code, frame_tag, new_cell, ether_encap_code};
 
-use crate::field::{Field, cell, named};
 use sefl_syntax::{Addr, Cond, Expr, Instr, Sign, Text};
 use sn_width::{NoMemory, Num, Rel};
 use std::alloc::Global;
-use table_nodes::to_all;
+use table_nodes::{Field, cell, named, to_all};
 
 pub(crate) fn one_instr(alloc: Global, instr: Instr) -> Result<Vec<Instr>, NoMemory>
     ensures { IfOk result (λ code. code_tree code.items ≡ alone (instr_tree instr)) }

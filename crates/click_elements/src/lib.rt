@@ -3,13 +3,11 @@
 
 mod class;
 mod code;
-mod field;
 mod filter;
 mod mirror;
 mod node;
 mod pattern;
 
 pub use class::{Class, ClassName, Direction, Pattern, Primitive, Rule, class_named};
-pub use field::Field;
 pub use mirror::Swap;
 pub use node::{Leads, class_node, most_outputs};

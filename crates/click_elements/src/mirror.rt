@@ -7,11 +7,11 @@ ghost use Rattle.sefl_syntax.specs.Views.{code_tree, instr_tree};
 ghost use Rattle.click_elements.specs.Codes.{first_field, second_field, between, swap_list, ether_mirror_code, mirrored_ports, ip_mirror_code};
 
 use crate::code::{add, add_forward};
-use crate::field::{Field, cell, named, width_of};
 use crate::pattern::is_ported;
 use sefl_syntax::{Expr, Instr, Scope, Target};
 use sn_width::NoMemory;
 use std::alloc::Global;
+use table_nodes::{Field, cell, named, width_of};
 
 /// Two fields that are exchanged.
 #[derive(Clone, Copy)]

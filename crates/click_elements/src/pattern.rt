@@ -3,14 +3,14 @@
 ghost use Rattle.std.specs.Prelude.{◌≡◌, ◌++◌, [], ◌∷◌, map, IfOk, OnOk};
 ghost use Rattle.sefl_syntax.specs.Trees as tree;
 ghost use Rattle.sefl_syntax.specs.Views.{cond_tree};
-ghost use Rattle.click_elements.specs.Fields.{cell};
+ghost use Rattle.table_nodes.specs.Fields.{cell};
 ghost use Rattle.click_elements.specs.Patterns.{address_field, port_field, equals, within, is_ported, tests_of, all_tests, joined, pattern_test};
 
 use crate::class::{Direction, Primitive};
-use crate::field::{Field, cell};
 use sefl_syntax::{Cond, Expr};
 use sn_width::{NoMemory, Num, Rel};
 use std::alloc::Global;
+use table_nodes::{Field, cell};
 
 fn address_field(direction: Direction) -> Field
     ensures { result ≡ address_field direction }

@@ -7,6 +7,8 @@ use Rattle.command_words.specs.Numbers.{number_in, number_or, seed_of}
 use Rattle.command_words.specs.declared.command.TheConstants.{HOPS, LIMIT, MOST_BOXES, MOST_HOPS, MOST_LIMIT}
 use Rattle.command_words.specs.declared.command.Command.{Command as CommandOf}
 use Rattle.command_words.specs.declared.command.Command.TheVariants as given
+use Rattle.command_words.specs.declared.command.FilterStyle.{FilterStyle}
+use Rattle.command_words.specs.declared.command.FilterStyle.TheVariants as filter
 use Rattle.command_words.specs.declared.command.Pruned.{Pruned}
 use Rattle.command_words.specs.declared.command.Pruned.TheVariants.{All, Count}
 use Rattle.command_words.specs.declared.command.Style.{Style}
@@ -14,7 +16,7 @@ use Rattle.command_words.specs.declared.command.Style.TheVariants.{Chain, Groupe
 use Rattle.command_words.specs.declared.command.Table.{Table}
 use Rattle.command_words.specs.declared.command.Table.TheVariants.{Mac, Fib}
 use Rattle.command_words.specs.declared.command.Verb.{Verb}
-use Rattle.command_words.specs.declared.command.Verb.TheVariants.{Explore, Walk, Replay, Ask, Loops, Model, Click, Grow}
+use Rattle.command_words.specs.declared.command.Verb.TheVariants.{Explore, Walk, Replay, Ask, Loops, Model, Click, Acl, Rules, Grow}
 
 -- a command, with the names of the files that it reads, and what its options give
 pub data Command : Type 0 where
@@ -32,6 +34,10 @@ pub data Command : Type 0 where
   model : Table → Text → Style → Command
   -- the file of a Click configuration
   click : Text → Command
+  -- a filter list's file; and the style of its node
+  acl : Text → FilterStyle → Command
+  -- a filter list's file
+  rules : Text → Command
   -- the seed of a job, and the number of its boxes
   grow : ℕ → ℕ → Command
 
@@ -43,6 +49,8 @@ command_of (given.Ask job hops) = ask job.now hops
 command_of (given.Loops job hops) = loops job.now hops
 command_of (given.Model table file style) = model table file.now style
 command_of (given.Click file) = click file.now
+command_of (given.Acl file style) = acl file.now style
+command_of (given.Rules file) = rules file.now
 command_of (given.Grow seed boxes) = grow seed boxes
 
 -- numbers of options are in their ranges
@@ -57,6 +65,8 @@ HasRanges (ask job hops) = (1 ≤ hops) × (hops ≤ MOST_HOPS)
 HasRanges (loops job hops) = (1 ≤ hops) × (hops ≤ MOST_HOPS)
 HasRanges (model table file style) = Unit {0}
 HasRanges (click file) = Unit {0}
+HasRanges (acl file style) = Unit {0}
+HasRanges (rules file) = Unit {0}
 HasRanges (grow seed boxes) = (1 ≤ boxes) × (boxes ≤ MOST_BOXES)
 
 -- what the words behind a command's name may be
@@ -68,6 +78,8 @@ form_of_verb Ask = record { positionals = codes "JOB" ∷ []; options = codes "h
 form_of_verb Loops = record { positionals = codes "JOB" ∷ []; options = codes "hops" ∷ [] }
 form_of_verb (Model table) = record { positionals = codes "FILE" ∷ []; options = codes "style" ∷ [] }
 form_of_verb Click = record { positionals = codes "FILE" ∷ []; options = [] }
+form_of_verb Acl = record { positionals = codes "FILE" ∷ []; options = codes "style" ∷ [] }
+form_of_verb Rules = record { positionals = codes "FILE" ∷ []; options = [] }
 form_of_verb Grow = record { positionals = codes "SEED" ∷ codes "NODES" ∷ []; options = [] }
 
 -- the command of a name
@@ -78,6 +90,7 @@ verb_of word =
     else if bytes_eq word (codes "replay") then Some Replay
     else if bytes_eq word (codes "ask") then Some Ask
     else if bytes_eq word (codes "loops") then Some Loops
+    else if bytes_eq word (codes "rules") then Some Rules
     else if bytes_eq word (codes "grow") then Some Grow
     else None
 
@@ -87,6 +100,7 @@ model_of word =
     if bytes_eq word (codes "mac") then Some (Model Mac)
     else if bytes_eq word (codes "fib") then Some (Model Fib)
     else if bytes_eq word (codes "click") then Some Click
+    else if bytes_eq word (codes "acl") then Some Acl
     else None
 
 -- the command that the first words name, and the words behind its name
@@ -117,6 +131,17 @@ style_of word =
 abbrev pub style_or_grouped : Option Text → Option Style
 style_or_grouped None = Some Grouped
 style_or_grouped (Some word) = style_of word
+
+-- the node of a filter list has two styles
+abbrev pub filter_style_of : Text → Option FilterStyle
+filter_style_of word =
+    if bytes_eq word (codes "chain") then Some filter.Chain
+    else if bytes_eq word (codes "grouped") then Some filter.Grouped
+    else None
+
+abbrev pub filter_style_or_grouped : Option Text → Option FilterStyle
+filter_style_or_grouped None = Some filter.Grouped
+filter_style_or_grouped (Some word) = filter_style_of word
 
 -- of values by their names
 module _ (value : Text → Option Text) where
@@ -156,6 +181,15 @@ module _ (value : Text → Option Text) where
   abbrev pub click_from : Option Command
   click_from = option_map click (value (codes "FILE"))
 
+  abbrev pub filter_style_in : Option FilterStyle
+  filter_style_in = filter_style_or_grouped (value (codes "style"))
+
+  abbrev pub acl_from : Option Command
+  acl_from = option_and_then (λ file. option_map (acl file) filter_style_in) (value (codes "FILE"))
+
+  abbrev pub rules_from : Option Command
+  rules_from = option_map rules (value (codes "FILE"))
+
   abbrev pub boxes_in : Option ℕ
   boxes_in = option_and_then (number_in 1 MOST_BOXES) (value (codes "NODES"))
 
@@ -171,6 +205,8 @@ command_from Ask = ask_from
 command_from Loops = loops_from
 command_from (Model table) = λ value. model_from value table
 command_from Click = click_from
+command_from Acl = acl_from
+command_from Rules = rules_from
 command_from Grow = grow_from
 
 -- the reading of the words: the first name the command, and those behind have a reading in its form, with numbers in their ranges

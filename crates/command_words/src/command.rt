@@ -2,7 +2,7 @@
 
 ghost use Rattle.std.specs.Prelude.{◌≡◌, ◌≤◌, IfOk, IfSome, Some, option_map, map, string_bytes};
 ghost use Rattle.clap.specs.Words.{first_value, found_of};
-ghost use Rattle.command_words.specs.Commands.{HasRanges, command_from, command_of, form_of_verb, hops_in, limit_in, model_of, named, pruned_in, pruned_of, reading, style_in, style_of, verb_of};
+ghost use Rattle.command_words.specs.Commands.{HasRanges, command_from, command_of, filter_style_in, filter_style_of, form_of_verb, hops_in, limit_in, model_of, named, pruned_in, pruned_of, reading, style_in, style_of, verb_of};
 ghost use Rattle.command_words.specs.Shapes.{form_of, named_of};
 
 use crate::form::Form;
@@ -48,6 +48,13 @@ pub enum Style {
     Egress,
 }
 
+/// How the code of a filter list's node tests packets.
+#[derive(Clone, Copy)]
+pub enum FilterStyle {
+    Chain,
+    Grouped,
+}
+
 /// A command, with the names of the files that it reads, and what its options give.
 #[derive(Clone, Copy)]
 pub enum Command<'a> {
@@ -83,6 +90,13 @@ pub enum Command<'a> {
     Click {
         file: &'a str,
     },
+    Acl {
+        file: &'a str,
+        style: FilterStyle,
+    },
+    Rules {
+        file: &'a str,
+    },
     Grow {
         seed: u64,
         boxes: u32,
@@ -99,6 +113,8 @@ enum Verb {
     Loops,
     Model(Table),
     Click,
+    Acl,
+    Rules,
     Grow,
 }
 
@@ -136,6 +152,14 @@ impl Verb {
                 positionals: &["FILE"],
                 options: &[],
             },
+            Verb::Acl => Form {
+                positionals: &["FILE"],
+                options: &["style"],
+            },
+            Verb::Rules => Form {
+                positionals: &["FILE"],
+                options: &[],
+            },
             Verb::Grow => Form {
                 positionals: &["SEED", "NODES"],
                 options: &[],
@@ -154,6 +178,7 @@ fn verb_of(word: &str) -> Option<Verb>
         "replay" => Some(Verb::Replay),
         "ask" => Some(Verb::Ask),
         "loops" => Some(Verb::Loops),
+        "rules" => Some(Verb::Rules),
         "grow" => Some(Verb::Grow),
         _ => None,
     }
@@ -167,6 +192,7 @@ fn model_of(word: &str) -> Option<Verb>
         "mac" => Some(Verb::Model(Table::Mac)),
         "fib" => Some(Verb::Model(Table::Fib)),
         "click" => Some(Verb::Click),
+        "acl" => Some(Verb::Acl),
         _ => None,
     }
 }
@@ -245,6 +271,26 @@ fn style_in(values: &ArgMatches<'_>) -> Option<Style>
     }
 }
 
+fn filter_style_of(word: &str) -> Option<FilterStyle>
+    ensures { result ≡ filter_style_of word.now }
+{
+    match word {
+        "chain" => Some(FilterStyle::Chain),
+        "grouped" => Some(FilterStyle::Grouped),
+        _ => None,
+    }
+}
+
+/// The style of a filter list's node that is given, or the default.
+fn filter_style_in(values: &ArgMatches<'_>) -> Option<FilterStyle>
+    ensures { result ≡ filter_style_in (first_value (found_of values.now)) }
+{
+    match values.get_str("style") {
+        Some(word) => filter_style_of(word),
+        None => Some(FilterStyle::Grouped),
+    }
+}
+
 /// The command with these values.
 fn command_from<'a>(verb: Verb, values: &ArgMatches<'a>) -> Option<Command<'a>>
     ensures command { option_map command_of result ≡ command_from verb (first_value (found_of values.now)) }
@@ -298,6 +344,15 @@ fn command_from<'a>(verb: Verb, values: &ArgMatches<'a>) -> Option<Command<'a>>
         Verb::Click => {
             let file = values.get_str("FILE")?;
             Some(Command::Click { file })
+        }
+        Verb::Acl => {
+            let file = values.get_str("FILE")?;
+            let style = filter_style_in(values)?;
+            Some(Command::Acl { file, style })
+        }
+        Verb::Rules => {
+            let file = values.get_str("FILE")?;
+            Some(Command::Rules { file })
         }
         Verb::Grow => {
             let seed = seed_of(values.get_str("SEED")?)?;

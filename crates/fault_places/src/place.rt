@@ -28,6 +28,8 @@ fn job_of(command: Command<'_>) -> Option<&str> {
         Command::Loops { job, .. } => Some(job),
         Command::Model { .. } => None,
         Command::Click { .. } => None,
+        Command::Acl { .. } => None,
+        Command::Rules { .. } => None,
         Command::Grow { .. } => None,
     }
 }

@@ -8,10 +8,10 @@ use Rattle.sefl_syntax.specs.Trees.{assign, branch, constant, deallocate, destro
 use Rattle.table_nodes.specs.TableNodes.{guard_instr}
 use Rattle.table_nodes.specs.Codes.{code_before}
 use Rattle.click_elements.specs.declared.class.Primitive.{Primitive}
-use Rattle.click_elements.specs.declared.field.Field.{Field}
-use Rattle.click_elements.specs.declared.field.Field.TheVariants.{FrameDestination, FrameSource, FrameType, TimeToLive}
+use Rattle.table_nodes.specs.declared.field.Field.{Field}
+use Rattle.table_nodes.specs.declared.field.Field.TheVariants.{FrameDestination, FrameSource, FrameType, TimeToLive}
 use Rattle.click_elements.specs.Classes.{RuleSeen}
-use Rattle.click_elements.specs.Fields.{cell}
+use Rattle.table_nodes.specs.Fields.{cell}
 use Rattle.click_elements.specs.Patterns.{pattern_test}
 use Rattle.click_elements.specs.Codes.{drop_code, forward_code, is_expired, one_less, lowered_code, expired_code, dec_ip_ttl_code, tee_code, strip_code, frame_start, new_cell, ether_encap_code, rule_code, rule_instr, ip_filter_code, pattern_instrs}
 use Rattle.cell_stacks.specs.Outcome.{and_then}
@@ -151,7 +151,7 @@ module _ (v : List ℕ) (unknowns : ℕ) (at : Scene) where
   rule_goes site false p next = refl
 
   -- of two outcomes, the one that a test chooses
-  chosen : (b : Bool) (x y w z : Outcome) → x ≡ w → y ≡ z → (if b then x else y) ≡ (if b then w else z)
+  pub chosen : (b : Bool) (x y w z : Outcome) → x ≡ w → y ≡ z → (if b then x else y) ≡ (if b then w else z)
   chosen true x y w z one other = one
   chosen false x y w z one other = other
 

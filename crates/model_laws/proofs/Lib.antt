@@ -6,3 +6,4 @@ pub mod Stacks
 pub mod Going
 pub mod Swaps
 pub mod ElementRuns
+pub mod FilterRuns

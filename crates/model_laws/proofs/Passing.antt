@@ -7,9 +7,9 @@ use Rattle.sefl_syntax.specs.Trees.{CondTree}
 use Rattle.sefl_syntax.specs.Views.{conds_of}
 use Rattle.click_elements.specs.declared.class.Primitive.{Primitive}
 use Rattle.click_elements.specs.declared.class.Primitive.TheVariants.{All, Host, Net, Protocol, Port}
-use Rattle.click_elements.specs.declared.field.Field.{Field}
-use Rattle.click_elements.specs.declared.field.Field.TheVariants as field
-use Rattle.click_elements.specs.Fields.{cell}
+use Rattle.table_nodes.specs.declared.field.Field.{Field}
+use Rattle.table_nodes.specs.declared.field.Field.TheVariants as field
+use Rattle.table_nodes.specs.Fields.{cell}
 use Rattle.click_elements.specs.Patterns.{address_field, all_tests, equals, is_ported, joined, pattern_test, port_field, tests_of, within}
 use Rattle.cell_stacks.specs.Outcome.{and_then, on_ok}
 use Rattle.job_items.specs.AtomRules.{width_of}
@@ -31,7 +31,7 @@ and_true : (b : Bool) → b && true ≡ b
 and_true true = refl
 and_true false = refl
 
-or_false : (b : Bool) → b || false ≡ b
+pub or_false : (b : Bool) → b || false ≡ b
 or_false true = refl
 or_false false = refl
 
@@ -85,7 +85,7 @@ module _ (v : List ℕ) (unknowns : ℕ) (at : Scene) (s : Carried ℕ) where
   unfolding is_member in_range
   one_range first last m = or_false (nat_le first m && nat_le m last)
 
-  within_is : (f : Field) (first last : ℕ) → truth (within f first last) ≡ lies_between at f first last s
+  pub within_is : (f : Field) (first last : ℕ) → truth (within f first last) ≡ lies_between at f first last s
   within_is f first last = λ i. on_ok (λ m. one_range first last m i) (read at (cell f) s)
 
   le_antisymmetric : (m n : ℕ) → nat_le n m && nat_le m n ≡ (m == n)

@@ -9,7 +9,7 @@ use Rattle.sefl_syntax.specs.declared.reference.Scope.TheVariants.{Local}
 use Rattle.sefl_syntax.specs.Trees.{reading, no_code, CodeTree, deallocate, assign, instr_and}
 use Rattle.table_nodes.specs.Codes.{code_before}
 use Rattle.click_elements.specs.declared.mirror.Swap.TheVariants.{Ports}
-use Rattle.click_elements.specs.Fields.{past}
+use Rattle.table_nodes.specs.Fields.{past}
 use Rattle.click_elements.specs.Patterns.{is_ported}
 use Rattle.click_elements.specs.Codes.{exchange, forward_code, ether_mirror_code, mirrored_ports, ip_mirror_code, swap_code}
 use Rattle.cell_stacks.specs.Outcome.{and_then, on_ok}

@@ -5,3 +5,4 @@ pub mod Outcomes
 pub mod Passing
 pub mod Rows
 pub mod Elements
+pub mod Filters

@@ -4,9 +4,9 @@ use Rattle.sn_width.specs.declared.faults.LayoutFault.{LayoutFault}
 use Rattle.sefl_syntax.specs.declared.reference.Target.{Target}
 use Rattle.click_elements.specs.declared.class.Primitive.{Primitive}
 use Rattle.click_elements.specs.declared.class.Primitive.TheVariants.{All, Host, Net, Protocol, Port}
-use Rattle.click_elements.specs.declared.field.Field.{Field}
-use Rattle.click_elements.specs.declared.field.Field.TheVariants as field
-use Rattle.click_elements.specs.Fields.{cell}
+use Rattle.table_nodes.specs.declared.field.Field.{Field}
+use Rattle.table_nodes.specs.declared.field.Field.TheVariants as field
+use Rattle.table_nodes.specs.Fields.{cell}
 use Rattle.click_elements.specs.Patterns.{address_field, port_field}
 use Rattle.cell_stacks.specs.Outcome.{and_then, on_ok}
 use Rattle.job_items.specs.AtomRules.{width_of}

@@ -5,12 +5,12 @@ use Rattle.sn_width.specs.declared.faults.LayoutFault.{LayoutFault}
 use Rattle.sefl_syntax.specs.declared.reference.Target.{Target}
 use Rattle.table_nodes.specs.TableNodes.{ports_from}
 use Rattle.click_elements.specs.declared.class.Primitive.{Primitive}
-use Rattle.click_elements.specs.declared.field.Field.{Field}
-use Rattle.click_elements.specs.declared.field.Field.TheVariants.{FrameDestination, FrameSource, FrameType, TimeToLive}
+use Rattle.table_nodes.specs.declared.field.Field.{Field}
+use Rattle.table_nodes.specs.declared.field.Field.TheVariants.{FrameDestination, FrameSource, FrameType, TimeToLive}
 use Rattle.click_elements.specs.declared.mirror.Swap.{Swap}
 use Rattle.click_elements.specs.declared.mirror.Swap.TheVariants.{FrameAddresses, Addresses, Ports}
 use Rattle.click_elements.specs.Classes.{RuleSeen}
-use Rattle.click_elements.specs.Fields.{cell}
+use Rattle.table_nodes.specs.Fields.{cell}
 use Rattle.click_elements.specs.Codes.{between, first_field, frame_start, second_field}
 use Rattle.cell_stacks.specs.Outcome.{and_then}
 use Rattle.job_items.specs.AtomRules.{width_of}

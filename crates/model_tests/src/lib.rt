@@ -1,4 +1,5 @@
-//! Tests of the tables of switches and routers, where their nodes send addresses, and of Click configurations.
+//! Tests of the tables of switches and routers, where their nodes send addresses, of Click configurations, and of the checker of
+//! covers of filter rules.
 #![tactic(auto)]
 
 #[cfg(test)]
@@ -7,6 +8,8 @@ mod click;
 mod exits;
 #[cfg(test)]
 mod files;
+#[cfg(test)]
+mod filters;
 #[cfg(test)]
 mod nets;
 #[cfg(test)]

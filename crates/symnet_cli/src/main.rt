@@ -1,7 +1,7 @@
 //! The program `symnet`: symbolic execution of SEFL network models.
 #![tactic(auto)]
 
-use fault_places::place_text;
+use fault_places::{place_text, reason_text};
 use regex_patterns::RegexPatterns;
 use run_answers::Status;
 use sn_edge::{DirFolder, OutSink};
@@ -57,6 +57,18 @@ fn show_place<R: Files + Eprint + AllocGlobal>(
     }
 }
 
+/// Shows what is wrong with the line that a status blames, below that.
+fn show_reason<R: Eprint + AllocGlobal>(
+    rt: &R,
+    words: &[String],
+    status: &Status,
+) -> io::Result<()> {
+    match reason_text(rt.alloc(), words, status) {
+        Some(text) => rt.eprintln(text),
+        None => Ok(()),
+    }
+}
+
 /// Runs the program, and shows how it ended. Nothing is left to do where standard error takes nothing.
 fn run_and_show<R: Env + Files + Print + Eprint + AllocGlobal>(rt: &R) -> Status {
     match given_words(rt) {
@@ -64,6 +76,7 @@ fn run_and_show<R: Env + Files + Print + Eprint + AllocGlobal>(rt: &R) -> Status
             let status = run(rt, &words);
             let _ = show(rt, &status);
             let _ = show_place(rt, &words, &status);
+            let _ = show_reason(rt, &words, &status);
             status
         }
         Err(error) => {

@@ -12,6 +12,9 @@ use Rattle.replay_command.specs.Replays.{ReplayComes}
 use Rattle.replay_command.specs.declared.replay.TheConstants.{REPORT_LIMIT}
 use Rattle.model_command.specs.Models.{ModelComes}
 use Rattle.click_command.specs.Models.{ClickComes}
+use Rattle.acl_command.specs.declared.model.ListStyle.{ListStyle}
+use Rattle.acl_command.specs.declared.model.ListStyle.TheVariants as list
+use Rattle.acl_command.specs.Commands.{AclComes, RulesComes}
 use Rattle.sefl_syntax.specs.declared.net.Style.{Style as NodeStyle}
 use Rattle.sefl_syntax.specs.declared.net.Style.TheVariants.{Chain, Grouped, Egress}
 use Rattle.sefl_syntax.specs.declared.net.TableKind.{TableKind}
@@ -19,8 +22,10 @@ use Rattle.sefl_syntax.specs.declared.net.TableKind.TheVariants.{Mac, Fib}
 use Rattle.walk_command.specs.Walks.{WalkComes}
 use Rattle.record_lines.specs.declared.lines.RefutedSides.{RefutedSides}
 use Rattle.record_lines.specs.declared.lines.RefutedSides.TheVariants.{Written, Counted}
-use Rattle.command_words.specs.Commands.{Command, explore, walk, replay, ask, loops, model, click, grow}
+use Rattle.command_words.specs.Commands.{Command, explore, walk, replay, ask, loops, model, click, acl, rules, grow}
 use Rattle.command_words.specs.declared.command.TheConstants.{LIMIT}
+use Rattle.command_words.specs.declared.command.FilterStyle.{FilterStyle}
+use Rattle.command_words.specs.declared.command.FilterStyle.TheVariants as filter
 use Rattle.command_words.specs.declared.command.Pruned.{Pruned}
 use Rattle.command_words.specs.declared.command.Pruned.TheVariants.{All, Count}
 use Rattle.command_words.specs.declared.command.Style.{Style}
@@ -36,6 +41,8 @@ inputs (ask job hops) = a_job job ∷ []
 inputs (loops job hops) = a_job job ∷ []
 inputs (model table file style) = a_file FILE_LIMIT file ∷ []
 inputs (click file) = a_file FILE_LIMIT file ∷ []
+inputs (acl file style) = a_file FILE_LIMIT file ∷ []
+inputs (rules file) = a_file FILE_LIMIT file ∷ []
 inputs (grow seed boxes) = a_made_job (grown seed boxes) ∷ []
 
 -- the first that it reads is the job under this name
@@ -57,6 +64,10 @@ style_of style.Chain = Chain
 style_of style.Grouped = Grouped
 style_of style.Egress = Egress
 
+abbrev pub list_style_of : FilterStyle → ListStyle
+list_style_of filter.Chain = list.Chain
+list_style_of filter.Grouped = list.Grouped
+
 abbrev pub work : Command → OwnWork
 work (explore job hops limit pruned) = explore_work hops limit (sides_of pruned)
 work (walk job packet hops limit) = one_piece (WalkComes hops limit)
@@ -65,4 +76,6 @@ work (ask job hops) = one_piece (AskComes hops LIMIT)
 work (loops job hops) = one_piece (LoopsComes hops LIMIT)
 work (model table file style) = one_piece (ModelComes (kind_of table) (style_of style) file)
 work (click file) = one_piece (ClickComes file)
+work (acl file style) = one_piece (AclComes (list_style_of style) file)
+work (rules file) = one_piece (RulesComes file)
 work (grow seed boxes) = one_piece (GrowComes seed boxes)

@@ -10,18 +10,19 @@ ghost use Rattle.run_answers.specs.Status.{input_status};
 ghost use Rattle.run_answers.specs.declared.status.Status.{Status as StatusOf};
 ghost use Rattle.run_answers.specs.declared.status.Status.TheVariants.{Done, Usage};
 ghost use Rattle.command_edge.specs.declared.fault.InputFault.{InputFault as InputFaultOf};
-ghost use Rattle.symnet_program.specs.Commands.{inputs, kind_of, sides_of, style_of, work};
+ghost use Rattle.symnet_program.specs.Commands.{inputs, kind_of, list_style_of, sides_of, style_of, work};
 ghost use Rattle.symnet_program.specs.Headline.{TellsJob};
 ghost use Rattle.symnet_program.specs.Program.{Cause, IsAnswered, IsCaused, MayWrite, RefusesInput, Shown};
 ghost use Rattle.symnet_program.specs.Told.{MayBeUnread};
 ghost use Rattle.command_words.specs.Commands.{Command as CommandOf, HasRanges, command_of, explore, reading};
 ghost use Rattle.command_words.specs.declared.command.Pruned.{Pruned as PrunedOf};
 
+use acl_command::{AclModel, ListStyle, Rules};
 use ask_command::Ask;
 use click_command::ClickModel;
 use command_edge::{Ending, FILE_LIMIT, Stop};
 use command_runs::{Both, ByteFile, Piece, run};
-use command_words::{Command, LIMIT, Pruned, Style, Table, reading};
+use command_words::{Command, FilterStyle, LIMIT, Pruned, Style, Table, reading};
 use explore_command::laws::finished_reports_tell_all;
 use explore_command::{Explore, RecordLimit, RefutedSides};
 use grow_command::{Grow, GrownJob};
@@ -61,6 +62,15 @@ fn style_of(style: Style) -> NodeStyle
         Style::Chain => NodeStyle::Chain,
         Style::Grouped => NodeStyle::Grouped,
         Style::Egress => NodeStyle::Egress,
+    }
+}
+
+fn list_style_of(style: FilterStyle) -> ListStyle
+    ensures { result ≡ list_style_of style }
+{
+    match style {
+        FilterStyle::Chain => ListStyle::Chain,
+        FilterStyle::Grouped => ListStyle::Grouped,
     }
 }
 
@@ -159,6 +169,27 @@ fn run_command<F: Folder, P: Patterns, K: Sink>(
                 limit: FILE_LIMIT,
             };
             run(alloc, &Piece(ClickModel { source }), folder, patterns, out)
+        }
+        Command::Acl { file, style } => {
+            let source = ByteFile {
+                name: file,
+                limit: FILE_LIMIT,
+            };
+            let style = list_style_of(style);
+            run(
+                alloc,
+                &Piece(AclModel { source, style }),
+                folder,
+                patterns,
+                out,
+            )
+        }
+        Command::Rules { file } => {
+            let source = ByteFile {
+                name: file,
+                limit: FILE_LIMIT,
+            };
+            run(alloc, &Piece(Rules { source }), folder, patterns, out)
         }
         Command::Grow { seed, boxes } => {
             let source = GrownJob { seed, boxes };

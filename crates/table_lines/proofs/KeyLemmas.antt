@@ -65,7 +65,7 @@ mac_is : (address : Option ℕ) → IfSome address (λ a. a < 2 ^ 48) → IfSome
 mac_is None small = tt
 mac_is (Some address) small = (refl, small)
 
-key_is : (kind : TableKind) (word : List ℕ) → IfSome (key_of kind word) (λ key. IsKey kind key.0 key.1)
+pub key_is : (kind : TableKind) (word : List ℕ) → IfSome (key_of kind word) (λ key. IsKey kind key.0 key.1)
 key_is Mac word = mac_is (address_of Mac word) (bytes_small Mac 6 0 0 (pieces (separator_of Mac) word) (omega arith))
 key_is Fib word = prefix_is (pieces Slash word)
 

@@ -12,12 +12,15 @@ digit_more value base digit i most less room =
     let h : base * value ≤ 16 * value = mul-le-mul_right value most in
     omega (arith, h, less, most, room, product value base, pow-add 16 i 1)
 
-pub few_digits : (i : ℕ) → i < 4 → 16 ^ (i + 1) ≤ 65536
+pub few_digits : (i : ℕ) → i < 7 → 16 ^ (i + 1) ≤ 268435456
 few_digits zero h = omega arith
 few_digits (suc zero) h = omega arith
 few_digits (suc (suc zero)) h = omega arith
 few_digits (suc (suc (suc zero))) h = omega arith
-few_digits (suc (suc (suc (suc i)))) h = absurd (omega (arith, h))
+few_digits (suc (suc (suc (suc zero)))) h = omega arith
+few_digits (suc (suc (suc (suc (suc zero))))) h = omega arith
+few_digits (suc (suc (suc (suc (suc (suc zero)))))) h = omega arith
+few_digits (suc (suc (suc (suc (suc (suc (suc i))))))) h = absurd (omega (arith, h))
 
 -- one more byte
 pub byte_more : (value byte i : ℕ) → byte ≤ 255 → value < 256 ^ i → value * 256 + byte < 256 ^ (i + 1)

@@ -1,10 +1,10 @@
 -- What holds of every table that a file has.
-use Rattle.std.specs.Prelude.{ℕ, ◌≡◌, ◌*◌, ◌^◌, ◌<◌, ◌≤◌, List, [], ◌∷◌, Ok}
+use Rattle.std.specs.Prelude.{ℕ, ◌≡◌, ◌*◌, ◌^◌, ◌<◌, ◌≤◌, List, [], ◌∷◌, Ok, Some}
 use Rattle.std.specs.List.{AllByRecursion}
 use Rattle.sefl_syntax.specs.declared.net.TableKind.{TableKind}
 use Rattle.sefl_syntax.specs.declared.net.TableKind.TheVariants.{Mac, Fib}
 use Rattle.table_lines.specs.declared.table.Row.{Row}
-use Rattle.table_lines.specs.Addresses.{size_of}
+use Rattle.table_lines.specs.Addresses.{key_of, size_of}
 use Rattle.table_lines.specs.Tables.{TableSeen, table_of}
 
 -- an address of Ethernet, or a prefix whose bits past the length are 0
@@ -16,6 +16,10 @@ IsKey Fib address length = (length ≤ 32) × (k : ℕ) × (address ≡ k * size
 abbrev pub NoneTwice : List Row → Type 0
 NoneTwice [] = Unit {0}
 NoneTwice (row ∷ rows) = AllByRecursion (λ other. other.address ≡ row.address → other.length ≡ row.length → ⊥) rows × NoneTwice rows
+
+-- what a word of a row says is such a key
+abbrev pub WordsHaveKeys : Type 0
+WordsHaveKeys = (kind : TableKind) (word : List ℕ) (key : ℕ × ℕ) → key_of kind word ≡ Some key → IsKey kind key.0 key.1
 
 pub record IsTable (kind : TableKind) (table : TableSeen) : Type 0 where
   pub keys : AllByRecursion (λ row. IsKey kind row.address row.length) table.rows

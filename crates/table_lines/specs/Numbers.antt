@@ -23,9 +23,13 @@ has_leading_zero [] = false
 has_leading_zero (c ∷ []) = false
 has_leading_zero (c ∷ d ∷ rest) = c == 48
 
--- a decimal number with no leading zero; one of more than four digits is past every limit
+-- a decimal number of one to so many digits, with no leading zero
+abbrev pub decimal : ℕ → List ℕ → Option ℕ
+decimal most bytes = if has_leading_zero bytes then None else number 10 most bytes
+
+-- of more than four digits it would be past every limit of a table
 abbrev pub plain_number : List ℕ → Option ℕ
-plain_number bytes = if has_leading_zero bytes then None else number 10 4 bytes
+plain_number bytes = decimal 4 bytes
 
 -- the number, if it is not past the limit
 abbrev pub at_most : ℕ → Option ℕ → Option ℕ

@@ -6,7 +6,7 @@ ghost use Rattle.table_lines.specs.Numbers.{plain_number, at_most};
 ghost use Rattle.table_lines.specs.Addresses.{base_of, digits_of, parts_of, separator_of, part_of, address_of, first_address, mac_key, cut_prefix, prefix_of, key_of};
 ghost use Rattle.table_lines.specs.declared.pieces.Separator.TheVariants.{Slash};
 
-use crate::number::{number, plain_number};
+use crate::number::{at_most, number, plain_number};
 use crate::pieces::{Separator, next_piece};
 use sefl_syntax::TableKind;
 
@@ -53,14 +53,6 @@ fn separator_of(kind: TableKind) -> Separator
         TableKind::Mac => Separator::Colon,
         TableKind::Fib => Separator::Dot,
     }
-}
-
-fn at_most(limit: u32, number: Option<u32>) -> Option<u32>
-    ensures value { result ≡ at_most limit number }
-    ensures within { IfSome result (λ n. n ≤ limit) }
-{
-    let number = number?;
-    if number <= limit { Some(number) } else { None }
 }
 
 /// A part of an address.

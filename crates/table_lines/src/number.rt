@@ -1,7 +1,7 @@
 //! Short numbers.
 
-ghost use Rattle.std.specs.Prelude.{◌≡◌, ◌≤◌};
-ghost use Rattle.table_lines.specs.Numbers.{digit_value, number, has_leading_zero, plain_number};
+ghost use Rattle.std.specs.Prelude.{◌≡◌, ◌≤◌, IfSome};
+ghost use Rattle.table_lines.specs.Numbers.{at_most, decimal, digit_value, number, has_leading_zero, plain_number};
 
 /// The most digits of a number that is no part of an address.
 const MOST_DIGITS: usize = 4;
@@ -22,7 +22,7 @@ fn digit_value(byte: u8) -> u32
 /// The number that one to `most` digits of the base spell; None where the bytes are something else.
 pub(crate) fn number(base: u32, most: usize, bytes: &[u8]) -> Option<u32>
     requires base { base ≤ 16 }
-    requires most { most ≤ 4 }
+    requires most { most ≤ 7 }
     ensures { result ≡ number base most bytes.now }
 {
     if bytes.is_empty() || bytes.len() > most {
@@ -48,12 +48,29 @@ fn has_leading_zero(bytes: &[u8]) -> bool
     }
 }
 
-/// A decimal number of at most four digits, with no leading zero.
-pub fn plain_number(bytes: &[u8]) -> Option<u32>
-    ensures { result ≡ plain_number bytes.now }
+/// A decimal number of one to `most` digits, with no leading zero.
+pub fn decimal(most: usize, bytes: &[u8]) -> Option<u32>
+    requires { most ≤ 7 }
+    ensures { result ≡ decimal most bytes.now }
 {
     if has_leading_zero(bytes) {
         return None;
     }
-    number(10, MOST_DIGITS, bytes)
+    number(10, most, bytes)
+}
+
+/// A decimal number of at most four digits, with no leading zero.
+pub fn plain_number(bytes: &[u8]) -> Option<u32>
+    ensures { result ≡ plain_number bytes.now }
+{
+    decimal(MOST_DIGITS, bytes)
+}
+
+/// The number, if it is not past the limit.
+pub fn at_most(limit: u32, number: Option<u32>) -> Option<u32>
+    ensures value { result ≡ at_most limit number }
+    ensures within { IfSome result (λ n. n ≤ limit) }
+{
+    let number = number?;
+    if number <= limit { Some(number) } else { None }
 }

@@ -7,14 +7,14 @@ ghost use Rattle.table_lines.specs.Words.{is_ascii_byte, before_comment, words};
 use crate::pieces::{Separator, next_piece};
 
 /// Whether each byte is an ASCII character.
-pub(crate) fn is_ascii(bytes: &[u8]) -> bool
+pub fn is_ascii(bytes: &[u8]) -> bool
     ensures { result ≡ list_all is_ascii_byte bytes.now }
 {
     bytes.iter().all(|byte| *byte < 128)
 }
 
 /// What stands before a comment, if there is one.
-pub(crate) fn before_comment(bytes: &[u8]) -> &[u8]
+pub fn before_comment(bytes: &[u8]) -> &[u8]
     ensures { result.now ≡ before_comment bytes.now }
 {
     next_piece(bytes, Separator::NumberSign).0

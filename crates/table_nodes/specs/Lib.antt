@@ -1,4 +1,5 @@
 pub mod Exits
+pub mod Fields
 pub mod TableNodes
 pub mod Codes
 pub mod Laws

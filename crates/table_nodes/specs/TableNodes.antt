@@ -1,8 +1,7 @@
 -- The nodes that table files stand for, in three styles, and where they send an address.
-use Rattle.std.specs.Prelude.{ℕ, ◌+◌, ◌-◌, ◌^◌, zero, suc, ◌≡◌, ◌==◌, ◌<◌, if◌then◌else◌, ◌||◌, Bool, false, List, [], ◌∷◌, length, Option, None, Some, is_none, codes, pos}
+use Rattle.std.specs.Prelude.{ℕ, ◌+◌, ◌-◌, ◌^◌, zero, suc, ◌≡◌, ◌==◌, ◌<◌, if◌then◌else◌, ◌||◌, Bool, false, List, [], ◌∷◌, length, Option, None, Some, is_none, codes}
 use Rattle.sn_width.specs.declared.rel.Rel.TheVariants.{Eq}
 use Rattle.sefl_syntax.specs.declared.reference.Target.{Target}
-use Rattle.sefl_syntax.specs.declared.reference.Target.TheVariants.{Header}
 use Rattle.sefl_syntax.specs.declared.net.Side.TheVariants.{Inward, Outward}
 use Rattle.sefl_syntax.specs.declared.net.Style.{Style}
 use Rattle.sefl_syntax.specs.declared.net.Style.TheVariants.{Chain, Grouped, Egress}
@@ -10,14 +9,17 @@ use Rattle.sefl_syntax.specs.declared.net.TableKind.{TableKind}
 use Rattle.sefl_syntax.specs.declared.net.TableKind.TheVariants.{Mac, Fib}
 use Rattle.sn_ranges.specs.Ranges.{IsCanonical}
 use Rattle.sefl_syntax.specs.Trees.{constant, reading, CondTree, always, compare, member, negation, InstrTree, constrain, fail, branch, forward, fork, CodeTree, no_code, instr_and, PortTree, NodeTree}
+use Rattle.table_nodes.specs.declared.field.Field.{Field}
+use Rattle.table_nodes.specs.declared.field.Field.TheVariants.{FrameDestination, DestinationAddress}
 use Rattle.table_nodes.specs.Exits.{holds, lies_in}
+use Rattle.table_nodes.specs.Fields.{cell}
 
 -- the destination of an Ethernet frame, and of an IPv4 packet
 abbrev pub mac_destination : Target
-mac_destination = Header (record { tag = Some (codes "L2"); offset = pos 0 }) 48
+mac_destination = cell FrameDestination
 
 abbrev pub fib_destination : Target
-fib_destination = Header (record { tag = Some (codes "L3"); offset = pos 128 }) 32
+fib_destination = cell DestinationAddress
 
 -- a set of numbers, as its ranges
 abbrev pub Set : Type 0
@@ -94,9 +96,13 @@ abbrev pub rest_of : TableKind → ℕ → List ℕ
 rest_of Mac ports = ports_from 0 ports
 rest_of Fib ports = []
 
+-- the field that has the addresses of a table
+abbrev pub address_field : TableKind → Field
+address_field Mac = FrameDestination
+address_field Fib = DestinationAddress
+
 abbrev pub destination : TableKind → Target
-destination Mac = mac_destination
-destination Fib = fib_destination
+destination kind = cell (address_field kind)
 
 -- ---- what tables say
 

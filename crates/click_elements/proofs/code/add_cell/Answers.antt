@@ -1,7 +1,7 @@
 use Rattle.std.proofs.Common.{map}
 use Rattle.sefl_syntax.specs.Trees.{allocate, assign, constant}
 use Rattle.sefl_syntax.specs.Views.{instr_tree}
-use Rattle.click_elements.specs.Fields.{cell}
+use Rattle.table_nodes.specs.Fields.{cell}
 use Rattle.click_elements.proofs.Codes.{two_more}
 use Rattle.click_elements.proofs.code.add_cell.Goals as goal
 

@@ -1,7 +1,7 @@
 use Rattle.std.proofs.Common.{◌≡◌, ◌∙◌, ◌++◌, ◌∷◌, [], ap, map, rules}
 use Rattle.sefl_syntax.specs.Trees.{forward}
 use Rattle.sefl_syntax.specs.Views.{instr_tree}
-use Rattle.click_elements.specs.declared.field.Field.TheVariants.{FrameDestination, FrameSource, FrameType}
+use Rattle.table_nodes.specs.declared.field.Field.TheVariants.{FrameDestination, FrameSource, FrameType}
 use Rattle.click_elements.specs.Codes.{frame_tag, new_cell}
 use Rattle.click_elements.proofs.Codes.{ended}
 use Rattle.click_elements.proofs.code.ether_encap_code.Goals as goal

@@ -7,6 +7,8 @@ use Rattle.run_answers.specs.Outside.{outside}
 use Rattle.run_answers.specs.Runs.{Runs, one_piece}
 use Rattle.command_edge.specs.declared.limits.TheConstants.{FILE_LIMIT}
 use Rattle.explore_command.specs.Explores.{explore_work}
+use Rattle.acl_command.specs.declared.model.ListStyle.{ListStyle}
+use Rattle.acl_command.specs.Commands.{AclComes}
 use Rattle.ask_command.specs.Asks.{AskComes}
 use Rattle.loops_command.specs.Loops.{LoopsComes}
 use Rattle.model_command.specs.Models.{ModelComes}
@@ -59,3 +61,13 @@ returns-in-Model-clause-ran g c =
 
 pub returns-in-Click-clause-ran : goal.returns-in-Click-clause-ran
 returns-in-Click-clause-ran g c = rw (c.in-Click.is) c.run-in-Click.ensures.ran
+
+pub returns-in-Acl-clause-ran : goal.returns-in-Acl-clause-ran
+returns-in-Acl-clause-ran g c =
+    rw (c.in-Acl.is) (subst (λ (s : ListStyle). Runs (g.K.Sink.told c.args.out.now).taken (g.K.Sink.told c.run-in-Acl.new.out).taken
+    (outside (g.F.Folder.told c.args.folder.now).files g.P.Patterns.told g.P.Patterns.find_gives)
+    c.args.patterns.now c.run-in-Acl.new.patterns (a_file FILE_LIMIT c.in-Acl.file.now ∷ []) (one_piece (AclComes s c.in-Acl.file.now)) c.run-in-Acl.result) c.list_style_of.ensures
+    c.run-in-Acl.ensures.ran)
+
+pub returns-in-Rules-clause-ran : goal.returns-in-Rules-clause-ran
+returns-in-Rules-clause-ran g c = rw (c.in-Rules.is) c.run-in-Rules.ensures.ran

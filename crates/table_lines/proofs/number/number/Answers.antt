@@ -7,7 +7,7 @@ overflow_add-value c =
     let i = c.loop-byte.byte-index in
     let more : c.loop-byte.value * c.args.base + c.digit_value-digit.result < 16 ^ (i + 1)
     = digit_more c.loop-byte.value c.args.base c.digit_value-digit.result i c.requires.base (omega (arith, c.if-digit-base.false)) c.loop-byte.invariant.room in
-    let few : 16 ^ (i + 1) ≤ 65536 = few_digits i (omega (arith, c.loop-byte-test.true, c.if-bytes-most.false, c.requires.most)) in
+    let few : 16 ^ (i + 1) ≤ 268435456 = few_digits i (omega (arith, c.loop-byte-test.true, c.if-bytes-most.false, c.requires.most)) in
     omega (arith, more, few)
 
 pub overflow_mul-value : goal.overflow_mul-value
@@ -15,5 +15,5 @@ overflow_mul-value c =
     let i = c.loop-byte.byte-index in
     let more : c.loop-byte.value * c.args.base + c.digit_value-digit.result < 16 ^ (i + 1)
     = digit_more c.loop-byte.value c.args.base c.digit_value-digit.result i c.requires.base (omega (arith, c.if-digit-base.false)) c.loop-byte.invariant.room in
-    let few : 16 ^ (i + 1) ≤ 65536 = few_digits i (omega (arith, c.loop-byte-test.true, c.if-bytes-most.false, c.requires.most)) in
+    let few : 16 ^ (i + 1) ≤ 268435456 = few_digits i (omega (arith, c.loop-byte-test.true, c.if-bytes-most.false, c.requires.most)) in
     omega (arith, more, few)

@@ -2,7 +2,7 @@
 
 ghost use Rattle.std.specs.Prelude.{◌≡◌, ◌≤◌, IsTrue, Some, IfOk};
 ghost use Rattle.sefl_syntax.specs.Name.{is_name};
-ghost use Rattle.click_elements.specs.Fields.{cell};
+ghost use Rattle.table_nodes.specs.Fields.{cell};
 
 use sefl_syntax::{Addr, Name, Target};
 use sn_width::{NoMemory, Width};
@@ -24,7 +24,7 @@ pub enum Field {
 }
 
 /// The name that a text is.
-pub(crate) fn named(alloc: Global, text: &str) -> Result<Name, NoMemory>
+pub fn named(alloc: Global, text: &str) -> Result<Name, NoMemory>
     requires { IsTrue (is_name text.now) }
     ensures { IfOk result (λ name. name ≡ text.now) }
 {
@@ -34,7 +34,8 @@ pub(crate) fn named(alloc: Global, text: &str) -> Result<Name, NoMemory>
     Ok(name)
 }
 
-pub(crate) fn width_of(bits: u8) -> Width
+/// The width of this many bits.
+pub fn width_of(bits: u8) -> Width
     requires least { 1 ≤ bits }
     requires most { bits ≤ 128 }
     ensures { result ≡ bits }
@@ -62,7 +63,7 @@ fn past(alloc: Global, tag: &str, offset: i32, bits: u8) -> Result<Target, NoMem
 }
 
 /// The cell of a field.
-pub(crate) fn cell(alloc: Global, field: Field) -> Result<Target, NoMemory>
+pub fn cell(alloc: Global, field: Field) -> Result<Target, NoMemory>
     ensures { IfOk result (λ target. target ≡ cell field) }
 {
     match field {

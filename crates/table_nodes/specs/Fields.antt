@@ -3,8 +3,8 @@ use Rattle.std.specs.Prelude.{ℕ, List, Some, codes, pos}
 use Rattle.sefl_syntax.specs.declared.reference.Addr.{Addr}
 use Rattle.sefl_syntax.specs.declared.reference.Target.{Target}
 use Rattle.sefl_syntax.specs.declared.reference.Target.TheVariants.{Header}
-use Rattle.click_elements.specs.declared.field.Field.{Field}
-use Rattle.click_elements.specs.declared.field.Field.TheVariants.{FrameDestination, FrameSource, FrameType, TimeToLive, Protocol, SourceAddress, DestinationAddress, SourcePort, DestinationPort}
+use Rattle.table_nodes.specs.declared.field.Field.{Field}
+use Rattle.table_nodes.specs.declared.field.Field.TheVariants.{FrameDestination, FrameSource, FrameType, TimeToLive, Protocol, SourceAddress, DestinationAddress, SourcePort, DestinationPort}
 
 -- so many bits behind the tag
 abbrev pub past : List ℕ → ℕ → Addr

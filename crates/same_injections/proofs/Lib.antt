@@ -1,0 +1,6 @@
+mod EqualTests
+mod Names
+mod SameLemmas
+mod Steps
+mod Truths
+mod Starting

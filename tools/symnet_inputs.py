@@ -1,0 +1,219 @@
+"""Reads what a person writes for symnet, as far as answers are told by it: a job's unknown fields and questions, and filter lists."""
+
+import re
+from dataclasses import dataclass
+from typing import List, Optional, Tuple, Union
+
+RULE_LIMIT = 1024
+LIST_FIELDS = (("protocol", "protocol", 255), ("source address", "ip4", 2**32 - 1), ("destination address", "ip4", 2**32 - 1),
+               ("source port", "number", 65535), ("destination port", "number", 65535))
+
+Ranges = Tuple[Tuple[int, int], ...]
+
+_TOKEN = re.compile(r'\s+|//[^\n]*|[A-Za-z_]\w*|0x[0-9A-Fa-f]+|\d+|"[^"]*"|->|\.\.|==|!=|<=|>=|[{}\[\]();:,.=<>+\-$]', re.ASCII)
+_PREFIX = re.compile(r"(\d{1,3}(?:\.\d{1,3}){3})/(0|[1-9]\d?)", re.ASCII)
+_NUMBERS = re.compile(r"(0|[1-9]\d{0,4})(?:-(0|[1-9]\d{0,4}))?", re.ASCII)
+
+
+class NotInput(Exception):
+    """The text is no job, or no filter list; the message says where."""
+
+
+@dataclass(frozen=True)
+class Ask:
+    """A question's text, and the comment lines above it."""
+
+    text: str
+    note: str
+
+
+@dataclass(frozen=True)
+class Job:
+    """The unknown fields of the injection in order, as references, and the questions."""
+
+    fields: Tuple[str, ...]
+    asks: Tuple[Ask, ...]
+
+    def target(self, symbol: int) -> str:
+        """What the value number `symbol` of a packet is: a field, or a choice on the way."""
+        return self.fields[symbol] if symbol < len(self.fields) else f"choice {symbol - len(self.fields)}"
+
+
+@dataclass(frozen=True)
+class Rule:
+    """A rule of a filter list: its line from 1, its words, whether it permits, and the least and greatest value of each field."""
+
+    line: int
+    text: str
+    permits: bool
+    ranges: Ranges
+
+
+@dataclass(frozen=True)
+class _Token:
+    text: str
+    start: int
+    end: int
+    note: str
+
+
+def _tokens(text: str) -> List[_Token]:
+    found, notes, at, line_begins = [], [], 0, True
+    while at < len(text):
+        match = _TOKEN.match(text, at)
+        if not match:
+            raise NotInput(f"no job: an unknown character in line {text.count(chr(10), 0, at) + 1}")
+        part, at = match[0], match.end()
+        if part.isspace():
+            line_begins = line_begins or "\n" in part
+        elif part.startswith("//"):
+            # A comment on a line of its own is of the next token.
+            notes += [part[2:].strip()] if line_begins else []
+        else:
+            found.append(_Token(part, match.start(), at, " ".join(notes)))
+            notes, line_begins = [], False
+    return found
+
+
+class _Tokens:
+    """The tokens of a job, from front to back."""
+
+    def __init__(self, text: str):
+        self.text, self.tokens, self.at = text, _tokens(text), 0
+
+    def peek(self) -> str:
+        return self.tokens[self.at].text if self.at < len(self.tokens) else ""
+
+    def next(self) -> str:
+        if self.at >= len(self.tokens):
+            raise NotInput("no job: it ends too soon")
+        self.at += 1
+        return self.tokens[self.at - 1].text
+
+    def take(self, wanted: str) -> None:
+        found = self.next()
+        if found != wanted:
+            line = self.text.count("\n", 0, self.tokens[self.at - 1].start) + 1
+            raise NotInput(f"no job: '{found}' where '{wanted}' should stand, in line {line}")
+
+    def statement(self) -> str:
+        """The text up to the next semicolon, which is taken too."""
+        first = self.at
+        while self.next() != ";":
+            pass
+        if self.at - 1 == first:
+            return ""
+        return re.sub(r"\s+", " ", self.text[self.tokens[first].start:self.tokens[self.at - 2].end])
+
+    def block(self) -> None:
+        """Skips a block with all that stands in it."""
+        self.take("{")
+        depth = 1
+        while depth > 0:
+            depth += {"{": 1, "}": -1}.get(self.next(), 0)
+
+
+def read_job(text: str) -> Job:
+    """The unknown fields and questions of the job; NotInput where it has not the outline of one."""
+    tokens = _Tokens(text)
+    tokens.take("symnet")
+    tokens.statement()
+    while tokens.peek() == "node":
+        tokens.next()
+        tokens.next()
+        if tokens.peek() == "=":
+            tokens.statement()
+            continue
+        tokens.next()
+        tokens.take("->")
+        tokens.next()
+        tokens.block()
+    while tokens.peek() == "link":
+        tokens.statement()
+    tokens.take("inject")
+    for _ in range(3):
+        tokens.next()
+    tokens.take("{")
+    fields, asks = [], []
+    while tokens.peek() != "}":
+        kind = tokens.next()
+        line = tokens.statement()
+        if kind == "field" and "=" not in line:
+            fields.append(line)
+    tokens.take("}")
+    while tokens.peek() == "ask":
+        note = tokens.tokens[tokens.at].note
+        tokens.next()
+        asks.append(Ask(tokens.statement(), note))
+    return Job(tuple(fields), tuple(asks))
+
+
+def is_list(name: str, text: str) -> bool:
+    """Whether the text is to be read as a filter list: by its file's name, or by the word that its first rule begins with."""
+    return name.endswith(".acl") or re.match(r"\s*(?:#[^\n]*\n\s*)*(?:permit|deny)\b", text) is not None
+
+
+def _prefix(word: str) -> Optional[Tuple[int, int]]:
+    found = _PREFIX.fullmatch(word)
+    if not found or int(found[2]) > 32:
+        return None
+    parts = [int(part) for part in found[1].split(".")]
+    if max(parts) > 255:
+        return None
+    free = 32 - int(found[2])
+    low = int.from_bytes(bytes(parts), "big") >> free << free
+    return low, low + (1 << free) - 1
+
+
+def _numbers(word: str, greatest: int, may_be_range: bool) -> Optional[Tuple[int, int]]:
+    if word == "any":
+        return 0, greatest
+    found = _NUMBERS.fullmatch(word)
+    if not found or (found[2] is not None and not may_be_range):
+        return None
+    low = int(found[1])
+    high = low if found[2] is None else int(found[2])
+    return (low, high) if low <= high <= greatest else None
+
+
+def _ranges(words: List[str], where: str) -> Ranges:
+    if words[0] not in ("permit", "deny"):
+        raise NotInput(f"{where}: it begins with neither permit nor deny")
+    if len(words) != 6:
+        raise NotInput(f"{where}: behind permit or deny stand protocol, source, destination, source port and destination port")
+    ranges = []
+    for word, (name, kind, greatest) in zip(words[1:], LIST_FIELDS):
+        found = _prefix(word) if kind == "ip4" else _numbers(word, greatest, kind == "number")
+        if found is None:
+            raise NotInput(f"{where}: '{word}' is no {name}")
+        ranges.append(found)
+    return tuple(ranges)
+
+
+def read_list(text: str) -> List[Rule]:
+    """The rules of the filter list in their order (docs/filter-lists.md has the form); NotInput at the first line that breaks it."""
+    rules = []
+    lines = text.split("\n")
+    for number, line in enumerate(lines, 1):
+        if number < len(lines) and line.endswith("\r"):
+            line = line[:-1]
+        where = f"line {number} of the filter list is no rule"
+        if not line.isascii():
+            raise NotInput(f"{where}: it is not ASCII")
+        words = [word for word in re.split("[ \t]+", line.split("#")[0]) if word]
+        if not words:
+            continue
+        rule = Rule(number, " ".join(words), words[0] == "permit", _ranges(words, where))
+        if len(rules) == RULE_LIMIT:
+            raise NotInput(f"line {number} of the filter list is past the limit of {RULE_LIMIT} rules")
+        rules.append(rule)
+    return rules
+
+
+def has_packet(ranges: Ranges, values: Union[List[int], Tuple[int, ...]]) -> bool:
+    return all(low <= value <= high for (low, high), value in zip(ranges, values))
+
+
+def has_part(ranges: Ranges, part: Ranges) -> bool:
+    """Whether the ranges have each packet of the part."""
+    return all(low <= first and last <= high for (low, high), (first, last) in zip(ranges, part))
