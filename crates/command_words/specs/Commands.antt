@@ -16,7 +16,7 @@ use Rattle.command_words.specs.declared.command.Style.TheVariants.{Chain, Groupe
 use Rattle.command_words.specs.declared.command.Table.{Table}
 use Rattle.command_words.specs.declared.command.Table.TheVariants.{Mac, Fib}
 use Rattle.command_words.specs.declared.command.Verb.{Verb}
-use Rattle.command_words.specs.declared.command.Verb.TheVariants.{Explore, Walk, Replay, Ask, Model, Click, Acl, Rules, Grow}
+use Rattle.command_words.specs.declared.command.Verb.TheVariants.{Explore, Walk, Replay, Ask, Loops, Model, Click, Acl, Rules, Grow}
 
 -- a command, with the names of the files that it reads, and what its options give
 pub data Command : Type 0 where
@@ -28,6 +28,8 @@ pub data Command : Type 0 where
   replay : Text → Text → Command
   -- the job; hops
   ask : Text → ℕ → Command
+  -- the job; hops
+  loops : Text → ℕ → Command
   -- a table's file; and the style of its node
   model : Table → Text → Style → Command
   -- the file of a Click configuration
@@ -44,6 +46,7 @@ command_of (given.Explore job hops limit pruned) = explore job.now hops limit pr
 command_of (given.Walk job packet hops limit) = walk job.now packet.now hops limit
 command_of (given.Replay job report) = replay job.now report.now
 command_of (given.Ask job hops) = ask job.now hops
+command_of (given.Loops job hops) = loops job.now hops
 command_of (given.Model table file style) = model table file.now style
 command_of (given.Click file) = click file.now
 command_of (given.Acl file style) = acl file.now style
@@ -59,6 +62,7 @@ HasRanges (explore job hops limit pruned) = AreInRange hops limit
 HasRanges (walk job packet hops limit) = AreInRange hops limit
 HasRanges (replay job report) = Unit {0}
 HasRanges (ask job hops) = (1 ≤ hops) × (hops ≤ MOST_HOPS)
+HasRanges (loops job hops) = (1 ≤ hops) × (hops ≤ MOST_HOPS)
 HasRanges (model table file style) = Unit {0}
 HasRanges (click file) = Unit {0}
 HasRanges (acl file style) = Unit {0}
@@ -71,6 +75,7 @@ form_of_verb Explore = record { positionals = codes "JOB" ∷ []; options = code
 form_of_verb Walk = record { positionals = codes "JOB" ∷ codes "PACKET" ∷ []; options = codes "hops" ∷ codes "limit" ∷ [] }
 form_of_verb Replay = record { positionals = codes "JOB" ∷ codes "REPORT" ∷ []; options = [] }
 form_of_verb Ask = record { positionals = codes "JOB" ∷ []; options = codes "hops" ∷ [] }
+form_of_verb Loops = record { positionals = codes "JOB" ∷ []; options = codes "hops" ∷ [] }
 form_of_verb (Model table) = record { positionals = codes "FILE" ∷ []; options = codes "style" ∷ [] }
 form_of_verb Click = record { positionals = codes "FILE" ∷ []; options = [] }
 form_of_verb Acl = record { positionals = codes "FILE" ∷ []; options = codes "style" ∷ [] }
@@ -84,6 +89,7 @@ verb_of word =
     else if bytes_eq word (codes "walk") then Some Walk
     else if bytes_eq word (codes "replay") then Some Replay
     else if bytes_eq word (codes "ask") then Some Ask
+    else if bytes_eq word (codes "loops") then Some Loops
     else if bytes_eq word (codes "rules") then Some Rules
     else if bytes_eq word (codes "grow") then Some Grow
     else None
@@ -166,6 +172,9 @@ module _ (value : Text → Option Text) where
   abbrev pub ask_from : Option Command
   ask_from = option_and_then (λ job. option_map (ask job) hops_in) (value (codes "JOB"))
 
+  abbrev pub loops_from : Option Command
+  loops_from = option_and_then (λ job. option_map (loops job) hops_in) (value (codes "JOB"))
+
   abbrev pub model_from : Table → Option Command
   model_from table = option_and_then (λ file. option_map (model table file) style_in) (value (codes "FILE"))
 
@@ -193,6 +202,7 @@ command_from Explore = explore_from
 command_from Walk = walk_from
 command_from Replay = replay_from
 command_from Ask = ask_from
+command_from Loops = loops_from
 command_from (Model table) = λ value. model_from value table
 command_from Click = click_from
 command_from Acl = acl_from

@@ -78,6 +78,10 @@ pub enum Command<'a> {
         job: &'a str,
         hops: u32,
     },
+    Loops {
+        job: &'a str,
+        hops: u32,
+    },
     Model {
         table: Table,
         file: &'a str,
@@ -106,6 +110,7 @@ enum Verb {
     Walk,
     Replay,
     Ask,
+    Loops,
     Model(Table),
     Click,
     Acl,
@@ -132,6 +137,10 @@ impl Verb {
                 options: &[],
             },
             Verb::Ask => Form {
+                positionals: &["JOB"],
+                options: &["hops"],
+            },
+            Verb::Loops => Form {
                 positionals: &["JOB"],
                 options: &["hops"],
             },
@@ -168,6 +177,7 @@ fn verb_of(word: &str) -> Option<Verb>
         "walk" => Some(Verb::Walk),
         "replay" => Some(Verb::Replay),
         "ask" => Some(Verb::Ask),
+        "loops" => Some(Verb::Loops),
         "rules" => Some(Verb::Rules),
         "grow" => Some(Verb::Grow),
         _ => None,
@@ -320,6 +330,11 @@ fn command_from<'a>(verb: Verb, values: &ArgMatches<'a>) -> Option<Command<'a>>
             let job = values.get_str("JOB")?;
             let hops = hops_in(values)?;
             Some(Command::Ask { job, hops })
+        }
+        Verb::Loops => {
+            let job = values.get_str("JOB")?;
+            let hops = hops_in(values)?;
+            Some(Command::Loops { job, hops })
         }
         Verb::Model(table) => {
             let file = values.get_str("FILE")?;

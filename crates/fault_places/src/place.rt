@@ -25,6 +25,7 @@ fn job_of(command: Command<'_>) -> Option<&str> {
         Command::Walk { job, .. } => Some(job),
         Command::Replay { job, .. } => Some(job),
         Command::Ask { job, .. } => Some(job),
+        Command::Loops { job, .. } => Some(job),
         Command::Model { .. } => None,
         Command::Click { .. } => None,
         Command::Acl { .. } => None,

@@ -5,6 +5,7 @@ use Rattle.run_answers.specs.Runs.{OwnWork, one_piece}
 use Rattle.command_edge.specs.declared.limits.TheConstants.{FILE_LIMIT}
 use Rattle.explore_command.specs.Explores.{explore_work}
 use Rattle.ask_command.specs.Asks.{AskComes}
+use Rattle.loops_command.specs.Loops.{LoopsComes}
 use Rattle.job_gen.specs.Grown.{grown}
 use Rattle.grow_command.specs.Grows.{GrowComes}
 use Rattle.replay_command.specs.Replays.{ReplayComes}
@@ -21,7 +22,7 @@ use Rattle.sefl_syntax.specs.declared.net.TableKind.TheVariants.{Mac, Fib}
 use Rattle.walk_command.specs.Walks.{WalkComes}
 use Rattle.record_lines.specs.declared.lines.RefutedSides.{RefutedSides}
 use Rattle.record_lines.specs.declared.lines.RefutedSides.TheVariants.{Written, Counted}
-use Rattle.command_words.specs.Commands.{Command, explore, walk, replay, ask, model, click, acl, rules, grow}
+use Rattle.command_words.specs.Commands.{Command, explore, walk, replay, ask, loops, model, click, acl, rules, grow}
 use Rattle.command_words.specs.declared.command.TheConstants.{LIMIT}
 use Rattle.command_words.specs.declared.command.FilterStyle.{FilterStyle}
 use Rattle.command_words.specs.declared.command.FilterStyle.TheVariants as filter
@@ -37,6 +38,7 @@ inputs (explore job hops limit pruned) = a_job job ∷ []
 inputs (walk job packet hops limit) = a_job job ∷ a_file FILE_LIMIT packet ∷ []
 inputs (replay job report) = a_job job ∷ a_file REPORT_LIMIT report ∷ []
 inputs (ask job hops) = a_job job ∷ []
+inputs (loops job hops) = a_job job ∷ []
 inputs (model table file style) = a_file FILE_LIMIT file ∷ []
 inputs (click file) = a_file FILE_LIMIT file ∷ []
 inputs (acl file style) = a_file FILE_LIMIT file ∷ []
@@ -71,6 +73,7 @@ work (explore job hops limit pruned) = explore_work hops limit (sides_of pruned)
 work (walk job packet hops limit) = one_piece (WalkComes hops limit)
 work (replay job report) = one_piece ReplayComes
 work (ask job hops) = one_piece (AskComes hops LIMIT)
+work (loops job hops) = one_piece (LoopsComes hops LIMIT)
 work (model table file style) = one_piece (ModelComes (kind_of table) (style_of style) file)
 work (click file) = one_piece (ClickComes file)
 work (acl file style) = one_piece (AclComes (list_style_of style) file)

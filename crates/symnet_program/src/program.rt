@@ -27,6 +27,7 @@ use explore_command::laws::finished_reports_tell_all;
 use explore_command::{Explore, RecordLimit, RefutedSides};
 use grow_command::{Grow, GrownJob};
 use job_files::JobFile;
+use loops_command::Loops;
 use model_command::TableModel;
 use replay_command::{REPORT_LIMIT, Replay};
 use run_answers::laws::worlds_decide;
@@ -137,6 +138,14 @@ fn run_command<F: Folder, P: Patterns, K: Sink>(
         }
         Command::Ask { job, hops } => {
             let command = Piece(Ask {
+                source: JobFile { name: job },
+                hops,
+                limit: RecordLimit::new(LIMIT),
+            });
+            run(alloc, &command, folder, patterns, out)
+        }
+        Command::Loops { job, hops } => {
+            let command = Piece(Loops {
                 source: JobFile { name: job },
                 hops,
                 limit: RecordLimit::new(LIMIT),

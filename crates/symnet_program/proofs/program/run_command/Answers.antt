@@ -10,6 +10,7 @@ use Rattle.explore_command.specs.Explores.{explore_work}
 use Rattle.acl_command.specs.declared.model.ListStyle.{ListStyle}
 use Rattle.acl_command.specs.Commands.{AclComes}
 use Rattle.ask_command.specs.Asks.{AskComes}
+use Rattle.loops_command.specs.Loops.{LoopsComes}
 use Rattle.model_command.specs.Models.{ModelComes}
 use Rattle.symnet_program.specs.Commands.{kind_of}
 use Rattle.symnet_program.proofs.program.run_command.Goals as goal
@@ -41,6 +42,13 @@ returns-in-Ask-clause-ran g c =
     (outside (g.F.Folder.told c.args.folder.now).files g.P.Patterns.told g.P.Patterns.find_gives)
     c.args.patterns.now c.run-in-Ask.new.patterns (a_job c.in-Ask.job.now ∷ []) (one_piece (AskComes c.in-Ask.hops limit)) c.run-in-Ask.result) c.new-in-Ask.ensures
     c.run-in-Ask.ensures.ran)
+
+pub returns-in-Loops-clause-ran : goal.returns-in-Loops-clause-ran
+returns-in-Loops-clause-ran g c =
+    rw (c.in-Loops.is) (subst (λ (limit : ℕ). Runs (g.K.Sink.told c.args.out.now).taken (g.K.Sink.told c.run-in-Loops.new.out).taken
+    (outside (g.F.Folder.told c.args.folder.now).files g.P.Patterns.told g.P.Patterns.find_gives)
+    c.args.patterns.now c.run-in-Loops.new.patterns (a_job c.in-Loops.job.now ∷ []) (one_piece (LoopsComes c.in-Loops.hops limit)) c.run-in-Loops.result) c.new-in-Loops.ensures
+    c.run-in-Loops.ensures.ran)
 
 pub returns-in-Model-clause-ran : goal.returns-in-Model-clause-ran
 returns-in-Model-clause-ran g c =

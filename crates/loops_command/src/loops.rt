@@ -1,0 +1,35 @@
+//! The command `loops`.
+
+ghost use Rattle.loops_command.specs.Loops.{LoopsComes};
+
+use crate::searching::text_of_loops;
+use command_edge::{Ending, OwnFault};
+use command_runs::OnePiece;
+use explore_command::RecordLimit;
+use job_files::JobFile;
+use net_check::Accepted;
+use std::alloc::Global;
+
+/// What the paths of a job that are cut tell of loops, from one exploration with so many hops and so many records.
+#[derive(Clone, Copy)]
+pub struct Loops<'a> {
+    pub source: JobFile<'a>,
+    pub hops: u32,
+    pub limit: RecordLimit,
+}
+
+impl<'a> OnePiece for Loops<'a> {
+    type From = JobFile<'a>;
+
+    ghost source = { λ l. l.source };
+
+    ghost comes = { λ l. LoopsComes l.hops l.limit };
+
+    fn source(&self) -> &JobFile<'a> {
+        &self.source
+    }
+
+    fn text(&self, alloc: Global, given: Accepted) -> Result<(Ending, String), OwnFault> {
+        text_of_loops(alloc, &given, self.hops, self.limit.count())
+    }
+}
