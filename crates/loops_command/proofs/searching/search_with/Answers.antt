@@ -10,7 +10,7 @@ explore_into-requires-clause-stands g c = record {
   entry_is = c.requires.entry;
   hops_is = c.requires.hops;
   counted = refl;
-  finds = refl;
+  finds = c.new.ensures.items;
 }
 
 pub returns : goal.returns
