@@ -66,7 +66,7 @@ pub returns-in-Acl-clause-ran : goal.returns-in-Acl-clause-ran
 returns-in-Acl-clause-ran g c =
     rw (c.in-Acl.is) (subst (λ (s : ListStyle). Runs (g.K.Sink.told c.args.out.now).taken (g.K.Sink.told c.run-in-Acl.new.out).taken
     (outside (g.F.Folder.told c.args.folder.now).files g.P.Patterns.told g.P.Patterns.find_gives)
-    c.args.patterns.now c.run-in-Acl.new.patterns (a_file FILE_LIMIT c.in-Acl.file.now ∷ []) (one_piece (AclComes s c.in-Acl.file.now)) c.run-in-Acl.result) c.list_style_of.ensures
+    c.args.patterns.now c.run-in-Acl.new.patterns (a_file FILE_LIMIT c.in-Acl.file.now ∷ []) (one_piece (AclComes s c.in-Acl.file.now)) c.run-in-Acl.result) c.list_style_of-style.ensures
     c.run-in-Acl.ensures.ran)
 
 pub returns-in-Rules-clause-ran : goal.returns-in-Rules-clause-ran
