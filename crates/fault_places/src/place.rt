@@ -12,7 +12,7 @@ use std::alloc::Global;
 use text_places::{Sought, fault_text, indent_of, line_of, own_number, statement_start};
 
 /// The file of the job that the words name, if they name one.
-fn job_name(alloc: Global, words: &[String]) -> Option<&str> {
+pub fn job_name(alloc: Global, words: &[String]) -> Option<&str> {
     match reading(alloc, words) {
         Ok(Some(command)) => job_of(command),
         _ => None,
@@ -39,7 +39,7 @@ fn loaded<F: Folder>(alloc: Global, name: &str, folder: &mut F) -> Option<Vec<u8
 }
 
 /// The first byte of a statement of a job's text.
-fn statement_at(alloc: Global, bytes: &[u8], sought: Sought, number: u64) -> Option<u64> {
+pub fn statement_at(alloc: Global, bytes: &[u8], sought: Sought, number: u64) -> Option<u64> {
     let text = str::from_utf8(bytes).ok()?;
     let tokens = tokens(alloc, text).ok()?;
     statement_start(text, &tokens, sought, number)
@@ -73,7 +73,7 @@ fn number_in_text<F: Folder>(
 }
 
 /// The number in the text of the item that has this site in the job with code for its tables.
-fn item_number<F: Folder>(
+pub fn item_number<F: Folder>(
     alloc: Global,
     name: &str,
     bytes: &[u8],

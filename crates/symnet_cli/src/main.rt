@@ -1,7 +1,8 @@
 //! The program `symnet`: symbolic execution of SEFL network models.
 #![tactic(auto)]
 
-use fault_places::{place_text, reason_text};
+use fault_places::place_text;
+use fault_words::reason_text;
 use regex_patterns::RegexPatterns;
 use run_answers::Status;
 use sn_edge::{DirFolder, OutSink};
@@ -57,13 +58,14 @@ fn show_place<R: Files + Eprint + AllocGlobal>(
     }
 }
 
-/// Shows what is wrong with the line that a status blames, below that.
-fn show_reason<R: Eprint + AllocGlobal>(
+/// Shows what the status says in words, below that.
+fn show_reason<R: Files + Eprint + AllocGlobal>(
     rt: &R,
     words: &[String],
     status: &Status,
 ) -> io::Result<()> {
-    match reason_text(rt.alloc(), words, status) {
+    let mut folder = DirFolder::new(rt);
+    match reason_text(rt.alloc(), words, status, &mut folder) {
         Some(text) => rt.eprintln(text),
         None => Ok(()),
     }

@@ -9,6 +9,6 @@ mod statement;
 
 pub use excerpt::fault_text;
 pub use line::{indent_of, line_of};
-pub use number::own_number;
+pub use number::{behind_node, own_number};
 pub use stage::Sought;
 pub use statement::statement_start;

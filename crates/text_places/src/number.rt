@@ -21,7 +21,7 @@ fn behind_codes(first: u32, codes: &[PortCode]) -> Result<u32, NoMemory>
 }
 
 /// The site behind a node and its codes, where this is that of the node.
-fn behind_node(site: u32, node: &NodeDecl) -> Result<u32, NoMemory>
+pub fn behind_node(site: u32, node: &NodeDecl) -> Result<u32, NoMemory>
     ensures { IfOk result (λ end. end ≡ site + decl_size (decl_tree node.now)) }
 {
     let first = behind_item(site)?;

@@ -1,7 +1,6 @@
 //! What is wrong with a line of a table's file, in words.
 
 use command_words::{Command, reading};
-use run_answers::Status;
 use std::alloc::Global;
 
 /// Of a filter list.
@@ -10,7 +9,9 @@ fn of_list(kind: u8) -> Option<&'static str> {
         1 => Some(
             "a rule is `permit` or `deny`, a protocol, two prefixes (source, destination) and two ports: permit 6 10.0.0.0/8 0.0.0.0/0 any 80-443",
         ),
-        3 => Some("a list has at most 1,024 rules"),
+        3 => Some(
+            "a list has at most 1,024 rules: take out hidden ones (`rules` names them), or cut the list in two boxes",
+        ),
         _ => None,
     }
 }
@@ -21,8 +22,12 @@ fn of_table(kind: u8) -> Option<&'static str> {
         1 => Some(
             "a table is `ports N`, and then rows: an address or a prefix, and a port that is less than N",
         ),
-        2 => Some("an earlier row has this address or prefix, and another port"),
-        3 => Some("a MAC table has at most 32,768 rows, a forwarding table 200,000"),
+        2 => Some(
+            "an earlier row has this address or prefix, and another port: take one of them out",
+        ),
+        3 => Some(
+            "a MAC table has at most 32,768 rows, a forwarding table 200,000: use fewer, or two boxes",
+        ),
         _ => None,
     }
 }
@@ -41,18 +46,15 @@ fn of_click(kind: u8) -> Option<&'static str> {
     }
 }
 
-/// What is wrong with the line that a status blames, in words, for people; None where it blames no line of a table's file.
-pub fn reason_text(alloc: Global, words: &[String], status: &Status) -> Option<&'static str> {
-    let Status::BadTable { kind, .. } = status else {
-        return None;
-    };
+/// The sentence for a kind of line that a table's file may not have, where the words name that file or a job with it.
+pub(crate) fn of_line(alloc: Global, words: &[String], kind: u8) -> Option<&'static str> {
     let Ok(Some(command)) = reading(alloc, words) else {
         return None;
     };
     match command {
-        Command::Acl { .. } => of_list(*kind),
-        Command::Rules { .. } => of_list(*kind),
-        Command::Click { .. } => of_click(*kind),
-        _ => of_table(*kind),
+        Command::Acl { .. } => of_list(kind),
+        Command::Rules { .. } => of_list(kind),
+        Command::Click { .. } => of_click(kind),
+        _ => of_table(kind),
     }
 }

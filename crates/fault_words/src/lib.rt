@@ -1,0 +1,17 @@
+//! What a status says in words, for people: it stands below the status and its place. It is made where the files are still as they were;
+//! nothing is claimed of it.
+#![tactic(auto)]
+
+mod absent;
+mod expected;
+mod form;
+mod port;
+mod probe;
+mod reason;
+mod sentence;
+mod statement;
+mod table;
+mod usage;
+mod wrong;
+
+pub use reason::reason_text;

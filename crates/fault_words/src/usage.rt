@@ -1,0 +1,33 @@
+//! What is said of words that have no reading.
+
+use crate::wrong::wrong_word;
+use std::alloc::{AllocError, Global};
+
+/// The commands, with their options and what these are where they are not given.
+const FORMS: &str = "symnet explore JOB [--hops N] [--limit N] [--pruned all|count]
+symnet walk JOB PACKET [--hops N] [--limit N]
+symnet replay JOB REPORT
+symnet ask JOB [--hops N]
+symnet loops JOB [--hops N]
+symnet model mac|fib FILE [--style chain|grouped|egress]
+symnet model click FILE
+symnet model acl FILE [--style chain|grouped]
+symnet rules FILE
+symnet grow SEED NODES
+--hops N: input ports on a path, 1 to 256 (16 where it is not given)
+--limit N: records or walks, 1 to 100,000 (10,000)
+--pruned: sides that no packet takes, each or their number alone (all)
+--style: how a node tests its packets (grouped)
+SEED: 0 to 18,446,744,073,709,551,615; NODES: 1 to 10,000
+options stand anywhere behind the command, also as --hops=N; behind -- all words are files";
+
+/// Which word is wrong and why, and the forms of all commands.
+pub(crate) fn usage_text(alloc: Global, words: &[String]) -> Result<String, AllocError> {
+    match wrong_word(words) {
+        Some(wrong) => {
+            let (word, why, what) = (wrong.word, wrong.why, wrong.what);
+            format!(in alloc; "`{word}`: {why}{what}\n{FORMS}")
+        }
+        None => String::from_str(alloc, FORMS),
+    }
+}
