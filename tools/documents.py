@@ -3,6 +3,7 @@
 
   tools/documents.py check        says what differs: the sentences that the program shows below a status, and docs/statuses.md; the tables of
                                   docs/definitions.md, and what is defined in the files that they name
+  tools/documents.py write        writes the words of those tables from the comments in specs/, in each row whose names all have one that can be read by itself
 """
 
 import re
@@ -33,9 +34,26 @@ def status_faults():
         yield "docs/statuses.md has not the commands as the program shows them"
 
 
+# A comment that cannot be read by itself.
+LEANS = re.compile(r"(and|or|so|but|as|its?|they|these|that|those|this|then|the same|all|also|with|without|both|each|not|by|of|r|s|a)\b(?! (?:number|condition|record|path|node|job|packet|report|text|list|set|term|formula))|.{0,14}$", re.IGNORECASE)
+# A line of specs/ that defines a name, as a constructor or a field does too.
+DEFINES = re.compile(r"\s*(?:(?:pub|abbrev|unfoldable|opaque|data|record|constructor|infix\w*)\s+)*([^\s(){}:,]+)(?=[^:]*\s:(?:\s|$))")
+
+
 def defined(file):
-    """The names that a file of specs/ defines, those of constructors and of a record's fields too."""
-    return set(re.findall(r"(?m)^[ \t]*(?:(?:pub|abbrev|unfoldable|opaque|data|record|constructor|infix\w*)[ \t]+)*([^\s(){}:,]+)(?=[^:\n]*[ \t]:(?:\s|$))", file.read_text()))
+    """The names that a file of specs/ defines, each with the comment right above it, or nothing."""
+    found, comment = {}, []
+    for line in file.read_text().splitlines():
+        text = line.strip()
+        if text.startswith("--"):
+            comment = [] if text.startswith("-- --") else [*comment, text[2:].strip()]
+            continue
+        name = DEFINES.match(line)
+        if name:
+            found.setdefault(name[1].strip("◌"), " ".join(comment))
+        if text and not text.startswith("module "):
+            comment = []
+    return found
 
 
 def specs():
@@ -53,24 +71,50 @@ def files_of(cell, section, before, every):
     return found
 
 
-def definition_faults():
-    """The names in the tables of docs/definitions.md that no file there defines."""
-    every = specs()
+def words_of(comments):
+    """The cell of a row, from the comments of its names."""
+    text = "; ".join(it.rstrip(".;,") for it in comments).replace("|", "\\|")
+    return text[0].upper() + text[1:] + "."
+
+
+def with_comments(text):
+    """docs/definitions.md with the words of each row whose names all have comments that can be read by themselves, and what names are not defined where it says."""
+    every, lines, faults = specs(), [], []
     names = {it: defined(file) for it, file in every.items()}
-    for section in re.split(r"(?m)^## ", (TOP / "docs/definitions.md").read_text())[1:]:
+    sections = re.split(r"(?m)^(?=## )", text)
+    for section in sections:
         files = []
         for line in section.splitlines():
-            if line.startswith("| `"):
-                cells = [it.strip() for it in re.split(r"(?<!\\)\|", line.strip("|"))]
-                if ".rt`" in cells[-1]:
-                    continue
-                files = files_of(cells[2], section, files, every) if len(cells) == 3 else files_of(section, section, files, every)
-                for it in re.findall(r"`([^`]+)`", cells[0]):
-                    if not (TOP / "crates" / it).is_dir() and not any({it, f"◌{it}◌"} & names[file] for file in files):
-                        yield f"docs/definitions.md, {section.splitlines()[0]}: `{it}` is not defined in {', '.join(files) or cells[-1]}"
+            lines.append(line)
+            cells = [it.strip() for it in re.split(r"(?<!\\)\|", line.strip("|"))]
+            if not line.startswith("| `") or ".rt`" in cells[-1]:
+                continue
+            files = files_of(cells[2] if len(cells) == 3 else section, section, files, every)
+            own = [it for it in re.findall(r"`([^`]+)`", cells[0]) if not (TOP / "crates" / it).is_dir()]
+            found = {it: [names[file][it] for file in files if it in names[file]] for it in own}
+            faults += [f"{section.splitlines()[0][3:]}: `{it}` is not defined in {', '.join(files) or cells[-1]}" for it in own if not found[it]]
+            said = [next(filter(None, found[it]), "") for it in own]
+            if all(it and not LEANS.match(it) for it in said) and len({*own}) == cells[0].count("`") // 2 and re.fullmatch(r"[`\w, ;◌⨾]*", cells[0]):
+                cells[1] = words_of(said)
+                lines[-1] = f"| {' | '.join(cells)} |"
+    return "\n".join(lines) + "\n", faults
+
+
+def definition_faults():
+    """The names in the tables of docs/definitions.md that no file there defines, and rows that are not what the comments say."""
+    text = (TOP / "docs/definitions.md").read_text()
+    made, faults = with_comments(text)
+    yield from (f"docs/definitions.md, {it}" for it in faults)
+    for old, new in zip(text.splitlines(), made.splitlines()):
+        if old != new:
+            yield f"docs/definitions.md: a row is not what the comments in specs/ say (documents.py write): {old[:80]}"
 
 
 def main(words):
+    if words == ["write"]:
+        file = TOP / "docs/definitions.md"
+        file.write_text(with_comments(file.read_text())[0])
+        return 0
     if words != ["check"]:
         print(__doc__)
         return 2

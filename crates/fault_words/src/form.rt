@@ -1,95 +1,130 @@
 //! The forms of a command line, for people.
 
-/// What the value of an option may be.
-#[derive(Clone, Copy)]
-pub(crate) enum Takes {
-    /// A number from 1 to this.
-    Number(u64),
-    /// One of these words.
-    Word(&'static [&'static str]),
-}
-
-/// An option of a command: its word, a bit of its own, its values, and these in words.
+/// An option of a command: its word, its bit, the most that its number may be (1 is the least; 0 where it takes no number), or the words that it
+/// takes, and what it takes in words.
 #[derive(Clone, Copy)]
 pub(crate) struct Choice {
     pub(crate) flag: &'static str,
     pub(crate) bit: u8,
-    pub(crate) takes: Takes,
+    pub(crate) most: u64,
+    pub(crate) words: &'static [&'static str],
     pub(crate) says: &'static str,
 }
 
-/// What stands behind a command's name.
+/// What stands behind a command's name: files, and the bits of its options.
 #[derive(Clone, Copy)]
 pub(crate) struct Form {
     pub(crate) files: &'static [&'static str],
-    pub(crate) options: &'static [Choice],
+    pub(crate) options: u8,
 }
 
-const HOPS: Choice = Choice {
-    flag: "--hops",
-    bit: 1,
-    takes: Takes::Number(256),
-    says: "--hops takes a number from 1 to 256",
-};
+const HOPS: u8 = 1;
 
-const LIMIT: Choice = Choice {
-    flag: "--limit",
-    bit: 2,
-    takes: Takes::Number(100_000),
-    says: "--limit takes a number from 1 to 100,000",
-};
+const LIMIT: u8 = 2;
 
-const PRUNED: Choice = Choice {
-    flag: "--pruned",
-    bit: 4,
-    takes: Takes::Word(&["all", "count"]),
-    says: "--pruned takes all or count",
-};
+const PRUNED: u8 = 4;
 
-const STYLE: Choice = Choice {
-    flag: "--style",
-    bit: 8,
-    takes: Takes::Word(&["chain", "grouped", "egress"]),
-    says: "--style takes chain, grouped or egress",
-};
+const STYLE: u8 = 8;
 
-const FILTER_STYLE: Choice = Choice {
-    flag: "--style",
-    bit: 8,
-    takes: Takes::Word(&["chain", "grouped"]),
-    says: "--style takes chain or grouped here",
-};
+const FILTER_STYLE: u8 = 16;
+
+fn hops() -> Choice {
+    Choice {
+        flag: "--hops",
+        bit: HOPS,
+        most: 256,
+        words: &[],
+        says: "--hops takes a number from 1 to 256",
+    }
+}
+
+fn limit() -> Choice {
+    Choice {
+        flag: "--limit",
+        bit: LIMIT,
+        most: 100_000,
+        words: &[],
+        says: "--limit takes a number from 1 to 100,000",
+    }
+}
+
+fn pruned() -> Choice {
+    Choice {
+        flag: "--pruned",
+        bit: PRUNED,
+        most: 0,
+        words: &["all", "count"],
+        says: "--pruned takes all or count",
+    }
+}
+
+fn style() -> Choice {
+    Choice {
+        flag: "--style",
+        bit: STYLE,
+        most: 0,
+        words: &["chain", "grouped", "egress"],
+        says: "--style takes chain, grouped or egress",
+    }
+}
+
+fn filter_style() -> Choice {
+    Choice {
+        flag: "--style",
+        bit: FILTER_STYLE,
+        most: 0,
+        words: &["chain", "grouped"],
+        says: "--style takes chain or grouped here",
+    }
+}
+
+/// The option of a word, where it is one of these.
+pub(crate) fn choice_of(options: u8, flag: &str) -> Option<Choice> {
+    let choice = match flag {
+        "--hops" => hops(),
+        "--limit" => limit(),
+        "--pruned" => pruned(),
+        "--style" if options & FILTER_STYLE != 0 => filter_style(),
+        "--style" => style(),
+        _ => return None,
+    };
+    if options & choice.bit != 0 {
+        Some(choice)
+    } else {
+        None
+    }
+}
 
 /// The form of the command of a name.
 pub(crate) fn form_of(name: &str) -> Option<Form> {
     match name {
         "explore" => Some(Form {
             files: &["JOB"],
-            options: &[HOPS, LIMIT, PRUNED],
+            options: HOPS | LIMIT | PRUNED,
         }),
         "walk" => Some(Form {
             files: &["JOB", "PACKET"],
-            options: &[HOPS, LIMIT],
+            options: HOPS | LIMIT,
         }),
         "replay" => Some(Form {
             files: &["JOB", "REPORT"],
-            options: &[],
+            options: 0,
         }),
         "ask" => Some(Form {
             files: &["JOB"],
-            options: &[HOPS],
+            options: HOPS,
         }),
         "loops" => Some(Form {
             files: &["JOB"],
-            options: &[HOPS],
+            options: HOPS,
         }),
         "rules" => Some(Form {
             files: &["FILE"],
-            options: &[],
+            options: 0,
         }),
         "grow" => Some(Form {
             files: &["SEED", "NODES"],
-            options: &[],
+            options: 0,
         }),
         _ => None,
     }
@@ -97,23 +132,15 @@ pub(crate) fn form_of(name: &str) -> Option<Form> {
 
 /// The form of `model` with the word behind it.
 pub(crate) fn model_form_of(kind: &str) -> Option<Form> {
-    match kind {
-        "mac" => Some(Form {
-            files: &["FILE"],
-            options: &[STYLE],
-        }),
-        "fib" => Some(Form {
-            files: &["FILE"],
-            options: &[STYLE],
-        }),
-        "click" => Some(Form {
-            files: &["FILE"],
-            options: &[],
-        }),
-        "acl" => Some(Form {
-            files: &["FILE"],
-            options: &[FILTER_STYLE],
-        }),
-        _ => None,
-    }
+    let options = match kind {
+        "mac" => STYLE,
+        "fib" => STYLE,
+        "click" => 0,
+        "acl" => FILTER_STYLE,
+        _ => return None,
+    };
+    Some(Form {
+        files: &["FILE"],
+        options,
+    })
 }

@@ -1,6 +1,6 @@
 //! Which word of a command line is wrong, and why.
 
-use crate::form::{Choice, Form, Takes, form_of, model_form_of};
+use crate::form::{Choice, Form, choice_of, form_of, model_form_of};
 
 /// A word, and what is wrong with it; `what` ends the sentence.
 #[derive(Clone, Copy)]
@@ -10,7 +10,7 @@ pub(crate) struct Wrong<'a> {
     pub(crate) what: &'static str,
 }
 
-fn wrong<'a>(word: &'a str, why: &'static str) -> Wrong<'a> {
+fn fault<'a>(word: &'a str, why: &'static str) -> Wrong<'a> {
     Wrong {
         word,
         why,
@@ -49,25 +49,21 @@ fn is_one_of(word: &str, others: &[&str]) -> bool {
 
 /// What is wrong with an option's value.
 fn wrong_value<'a>(choice: Choice, word: &'a str) -> Option<Wrong<'a>> {
-    let is_right = match choice.takes {
-        Takes::Number(most) => is_number(word, 1, most),
-        Takes::Word(others) => is_one_of(word, others),
-    };
-    if is_right {
+    if is_number(word, 1, choice.most) || is_one_of(word, choice.words) {
         None
     } else {
-        Some(wrong(word, choice.says))
+        Some(fault(word, choice.says))
     }
 }
 
 /// What is wrong with a word that is no option.
 fn wrong_place<'a>(place: &str, word: &'a str) -> Option<Wrong<'a>> {
     match place {
-        "SEED" if !is_number(word, 0, u64::MAX) => Some(wrong(
+        "SEED" if !is_number(word, 0, u64::MAX) => Some(fault(
             word,
             "SEED is a number from 0 to 18,446,744,073,709,551,615",
         )),
-        "NODES" if !is_number(word, 1, 10_000) => Some(wrong(
+        "NODES" if !is_number(word, 1, 10_000) => Some(fault(
             word,
             "NODES is a number from 1 to 10,000",
         )),
@@ -75,21 +71,12 @@ fn wrong_place<'a>(place: &str, word: &'a str) -> Option<Wrong<'a>> {
     }
 }
 
-fn choice_of(options: &'static [Choice], flag: &str) -> Option<Choice> {
-    for choice in options {
-        if flag == choice.flag {
-            return Some(*choice);
-        }
-    }
-    None
-}
-
 /// How far the words behind a command's name are read.
 #[derive(Drop)]
 struct Reading {
     /// What has still to stand there.
     files: &'static [&'static str],
-    options: &'static [Choice],
+    options: u8,
     /// The bits of the options that were given.
     given: u8,
     /// The option that the next word is the value of.
@@ -105,17 +92,17 @@ impl Reading {
                 self.files = others;
                 wrong_place(place, word)
             }
-            [] => Some(wrong(word, "the command takes no further file")),
+            [] => Some(fault(word, "the command takes no further file")),
         }
     }
 
     /// Takes the flag of an option, or says what is wrong with it.
     fn choice<'a>(&mut self, flag: &'a str) -> Result<Choice, Wrong<'a>> {
         let Some(choice) = choice_of(self.options, flag) else {
-            return Err(wrong(flag, "the command has no such option"));
+            return Err(fault(flag, "the command has no such option"));
         };
         if self.given & choice.bit != 0 {
-            return Err(wrong(flag, "the option is given twice"));
+            return Err(fault(flag, "the option is given twice"));
         }
         self.given |= choice.bit;
         Ok(choice)
@@ -145,7 +132,7 @@ impl Reading {
         } else if word.starts_with("--") {
             self.option(word)
         } else if word.starts_with("-") {
-            Some(wrong(
+            Some(fault(
                 word,
                 "no word begins with one dash; a file of such a name stands behind `--`",
             ))
@@ -159,7 +146,7 @@ impl Reading {
             return self.file(word);
         }
         match self.open.take() {
-            Some(choice) if word.starts_with("--") => Some(wrong(
+            Some(choice) if word.starts_with("--") => Some(fault(
                 choice.flag,
                 "its value is missing",
             )),
@@ -171,7 +158,7 @@ impl Reading {
     /// What is missing at the end.
     fn missing<'a>(&self, command: &'a str) -> Option<Wrong<'a>> {
         match (self.open, self.files) {
-            (Some(choice), _) => Some(wrong(choice.flag, "its value is missing")),
+            (Some(choice), _) => Some(fault(choice.flag, "its value is missing")),
             (None, [place, ..]) => Some(Wrong {
                 word: command,
                 why: "behind it is missing ",
@@ -205,12 +192,12 @@ fn wrong_model<'a>(words: &'a [String]) -> Option<Wrong<'a>> {
     match words {
         [kind, rest @ ..] => match model_form_of(kind.as_str()) {
             Some(form) => wrong_behind(kind.as_str(), form, rest),
-            None => Some(wrong(
+            None => Some(fault(
                 kind.as_str(),
                 "behind `model` stands mac, fib, click or acl",
             )),
         },
-        [] => Some(wrong("model", "behind it stands mac, fib, click or acl")),
+        [] => Some(fault("model", "behind it stands mac, fib, click or acl")),
     }
 }
 
@@ -225,7 +212,7 @@ pub(crate) fn wrong_word<'a>(words: &'a [String]) -> Option<Wrong<'a>> {
         "model" => wrong_model(rest),
         name => match form_of(name) {
             Some(form) => wrong_behind(name, form, rest),
-            None => Some(wrong(name, "there is no such command")),
+            None => Some(fault(name, "there is no such command")),
         },
     }
 }
