@@ -210,7 +210,7 @@ LAST = [
     ("walk job packet", job(JOB, packet="10"), "symnet: bad packet 3",
      "a `where` of the injection is not true of this packet: change the packet, or the `where`"),
     ("explore job --limit 1", job(JOB), "symnet: partial", PARTIAL.strip()),
-    ("walk job packet --limit 1", job(changed("forward 0;", "fork 0, 0;"), packet="5"), "symnet: too many walks 2",
+    ("walk job packet --limit 1", job(changed("forward 0;", "fork 0, 0;"), packet="6"), "symnet: too many walks 2",
      "raise `--limit`, or lower `--hops` where the net has a loop with a `fork`"),
     ("replay job report", job(JOB, report="{"), "symnet: bad report 1 ",
      "the file is no JSON: see whether it was cut off, since a run that ends with another status than 0 or 12 leaves no report"),

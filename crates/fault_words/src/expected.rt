@@ -75,16 +75,23 @@ fn all_expected(alloc: Global, bytes: &[u8], place: usize) -> Result<Vec<String>
     Ok(out)
 }
 
+/// What stands before the word of this number, of so many.
+fn before_word(index: usize, count: usize) -> &'static str {
+    if index == 0 {
+        "expected "
+    } else if index.saturating_add(1) == count {
+        " or "
+    } else {
+        ", "
+    }
+}
+
 /// The words with commas between them, and `or` before the last.
 fn joined(alloc: Global, words: &[String]) -> Result<String, AllocError> {
-    let mut out = String::from_str(alloc, "expected ")?;
-    let mut left = words;
-    let mut between = "";
-    while let [word, others @ ..] = left {
-        out.push_str(between)?;
-        out.push_str(word.as_str())?;
-        between = if others.len() == 1 { " or " } else { ", " };
-        left = others;
+    let mut out = String::new(alloc);
+    for index in 0..words.len() {
+        out.push_str(before_word(index, words.len()))?;
+        out.push_str(words[index].as_str())?;
     }
     Ok(out)
 }
