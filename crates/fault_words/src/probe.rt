@@ -14,17 +14,25 @@ const COMPARISON: u8 = 8;
 
 const NUMBER: u8 = 16;
 
-/// The kinds that a number, or a field, may be one of.
+const NAME: u8 = 32;
+
+/// The kinds that a number may be one of.
 const PARTS: u8 = 22;
 
+/// Those that a field may be one of.
+const FIELDS: u8 = 54;
+
+/// Those that the first word of an instruction may be one of.
+const FIRST: u8 = 33;
+
 pub(crate) const PROBES: &[Probe] = &[
-    ("noop", "an instruction", INSTRUCTION, 0),
-    ("true", "a condition", CONDITION, 0),
-    ("any", "a value", VALUE, 0),
+    ("name", "a name", NAME, 0),
+    ("noop", "an instruction", INSTRUCTION, NAME),
+    ("true", "a condition", CONDITION, NAME),
+    ("any", "a value", VALUE, NAME),
     ("(", "a value", VALUE, PARTS),
-    ("global", "a field", 0, PARTS),
+    ("global", "a field", 0, FIELDS),
     ("==", "a comparison", COMPARISON, 0),
-    ("name", "a name", 0, 0),
     ("4294967296", "a number", NUMBER, PARTS),
     (
         "1048577",
@@ -35,31 +43,31 @@ pub(crate) const PROBES: &[Probe] = &[
     ("129", "a number of at most 1,048,576", NUMBER, PARTS),
     ("3", "a number from 1 to 128", NUMBER, PARTS),
     ("\"\"", "a text in quotes", 0, 0),
-    ("symnet", "", 0, 0),
+    ("symnet", "", 0, NAME),
     ("1", "", 0, PARTS),
     ("2", "", 0, PARTS),
-    ("node", "", 0, 0),
-    ("link", "", 0, 0),
-    ("inject", "", 0, 0),
-    ("in", "", 0, 0),
-    ("out", "", 0, 0),
-    ("mac", "", 0, 0),
-    ("fib", "", 0, 0),
-    ("chain", "", 0, 0),
-    ("grouped", "", 0, 0),
-    ("egress", "", 0, 0),
-    ("tag", "", 0, INSTRUCTION),
-    ("field", "", 0, 0),
-    ("where", "", 0, 0),
-    ("else", "", 0, 0),
-    ("ask", "", 0, 0),
-    ("reach", "", 0, 0),
-    ("invariant", "", 0, 0),
-    ("visible", "", 0, 0),
-    ("at", "", 0, 0),
-    ("with", "", 0, 0),
-    ("and", "", 0, 0),
-    ("or", "", 0, 0),
+    ("node", "", 0, NAME),
+    ("link", "", 0, NAME),
+    ("inject", "", 0, NAME),
+    ("in", "", 0, NAME),
+    ("out", "", 0, NAME),
+    ("mac", "", 0, NAME),
+    ("fib", "", 0, NAME),
+    ("chain", "", 0, NAME),
+    ("grouped", "", 0, NAME),
+    ("egress", "", 0, NAME),
+    ("tag", "", 0, FIRST),
+    ("field", "", 0, NAME),
+    ("where", "", 0, NAME),
+    ("else", "", 0, NAME),
+    ("ask", "", 0, NAME),
+    ("reach", "", 0, NAME),
+    ("invariant", "", 0, NAME),
+    ("visible", "", 0, NAME),
+    ("at", "", 0, NAME),
+    ("with", "", 0, NAME),
+    ("and", "", 0, NAME),
+    ("or", "", 0, NAME),
     ("+", "", 0, 0),
     ("-", "", 0, 0),
     (",", "", 0, 0),
