@@ -126,9 +126,9 @@ CASES = [
 USAGES = [
     ("", ""), ("--help", ""), ("-h", ""), ("--help explore", ""),
     ("exlore job", "`exlore`: there is no such command"),
-    ("explore", "`explore`: behind it is missing JOB"),
-    ("walk job", "`walk`: behind it is missing PACKET"),
-    ("model mac", "`mac`: behind it is missing FILE"),
+    ("explore", "`explore`: JOB is missing behind it"),
+    ("walk job", "`walk`: PACKET is missing behind it"),
+    ("model mac", "`mac`: FILE is missing behind it"),
     ("explore job other", "`other`: the command takes no further file"),
     ("explore -- -x -y", "`-y`: the command takes no further file"),
     ("explore -x", "`-x`: no word begins with one dash; a file of such a name stands behind `--`"),
@@ -150,7 +150,7 @@ USAGES = [
     ("grow a 5", "`a`: SEED is a number from 0 to 18,446,744,073,709,551,615"),
     ("grow 18446744073709551616 5", "`18446744073709551616`: SEED is a number from 0 to 18,446,744,073,709,551,615"),
     ("grow 5 0", "`0`: NODES is a number from 1 to 10,000"),
-    ("grow 5", "`grow`: behind it is missing NODES"),
+    ("grow 5", "`grow`: NODES is missing behind it"),
 ]
 # Texts that leave the grammar behind their last word, and what may stand there.
 EXPECTED = [

@@ -25,8 +25,8 @@ options stand anywhere behind the command, also as --hops=N; behind -- all words
 pub(crate) fn usage_text(alloc: Global, words: &[String]) -> Result<String, AllocError> {
     match wrong_word(words) {
         Some(wrong) => {
-            let (word, why, what) = (wrong.word, wrong.why, wrong.what);
-            format!(in alloc; "`{word}`: {why}{what}\n{FORMS}")
+            let (word, what, why) = (wrong.word, wrong.what, wrong.why);
+            format!(in alloc; "`{word}`: {what}{why}\n{FORMS}")
         }
         None => String::from_str(alloc, FORMS),
     }

@@ -2,7 +2,7 @@
 
 use crate::form::{Choice, Form, choice_of, form_of, model_form_of};
 
-/// A word, and what is wrong with it; `what` ends the sentence.
+/// A word, and what is wrong with it: the sentence is `what` and then `why`.
 #[derive(Clone, Copy)]
 pub(crate) struct Wrong<'a> {
     pub(crate) word: &'a str,
@@ -161,7 +161,7 @@ impl Reading {
             (Some(choice), _) => Some(fault(choice.flag, "its value is missing")),
             (None, [place, ..]) => Some(Wrong {
                 word: command,
-                why: "behind it is missing ",
+                why: " is missing behind it",
                 what: place,
             }),
             (None, []) => None,
