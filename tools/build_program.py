@@ -73,6 +73,16 @@ def copy(top, to, below):
                 shutil.copytree(it, target)
 
 
+def held(session):
+    """The bytes of memory that the processes of a session hold, 0 where the system does not tell."""
+    total, page = 0, os.sysconf("SC_PAGE_SIZE")
+    for stat in Path("/proc").glob("[0-9]*/stat"):
+        with contextlib.suppress(OSError, IndexError):
+            fields = stat.read_text().rpartition(")")[2].split()
+            total += int(fields[21]) * page if int(fields[3]) == session else 0
+    return total
+
+
 class Line:
     """The line on standard error: written anew on a terminal, and seldom elsewhere."""
 
@@ -106,24 +116,25 @@ def read(lines, log, progress):
 
 
 def watch(ran, repo, progress, line):
-    """Shows how far the gate is until it ends."""
-    started = time.monotonic()
+    """Shows how far the gate is until it ends; returns its status, and the most memory that it held."""
+    started, most = time.monotonic(), 0
     while True:
+        most = max(most, held(ran.pid))
         for name in progress.below:
             # the gate makes this folder when it begins with the crate
             if (repo / "crates" / name / "out").is_dir():
                 progress.begin(name, time.monotonic())
         line.show(progress.line(started, time.monotonic()), time.monotonic())
         with contextlib.suppress(subprocess.TimeoutExpired):
-            return ran.wait(EVERY)
+            return ran.wait(EVERY), most
 
 
-def gate(repo, log, progress, held):
-    """Runs the gate over the copy, and returns its status."""
+def gate(repo, log, progress, lock):
+    """Runs the gate over the copy, and returns its status, and the most memory that it held."""
     line = Line()
     how = {"stdin": subprocess.DEVNULL, "stdout": subprocess.PIPE, "stderr": subprocess.STDOUT, "text": True, "errors": "replace"}
     # a session of its own: it ends at once where this one is interrupted, and with it all that it runs
-    ran = subprocess.Popen(["rt", "ci"], cwd=repo, env={**os.environ, "RT_JOBS": str(progress.lanes)}, start_new_session=True, pass_fds=[held], **how)
+    ran = subprocess.Popen(["rt", "ci"], cwd=repo, env={**os.environ, "RT_JOBS": str(progress.lanes)}, start_new_session=True, pass_fds=[lock], **how)
     reader = threading.Thread(target=read, args=(ran.stdout, log, progress), daemon=True)
     reader.start()
     try:
@@ -164,7 +175,7 @@ def take(repo, crate, top, began):
     return True
 
 
-def build(crate, room, held):
+def build(crate, room, lock):
     """Builds the program in a folder, and returns whether it is built."""
     began, started = time.time(), time.monotonic()
     below = build_plan.closure(build_plan.crates((TOP / "crates.txt").read_text()), crate)
@@ -173,13 +184,13 @@ def build(crate, room, held):
     say("is interrupted goes on where it was. `symnet --unproved WORDS` answers in minutes, without any proof.")
     copy(TOP, room / "repo", below)
     with open(room / "log", "w+", encoding="utf-8") as log:
-        status = gate(room / "repo", log, progress, held)
+        status, most = gate(room / "repo", log, progress, lock)
         log.seek(0)
         is_built = status == 0 and take(room / "repo", crate, TOP, began)
         for it in told(log.read(), is_built):
             print(it, file=sys.stderr)
     if is_built:
-        say(f"the program is built, after {int(time.monotonic() - started) // 60} minutes")
+        say(f"the program is built, after {int(time.monotonic() - started) // 60} minutes, with at most {most / 1e9:.1f} GB of memory")
     return is_built
 
 
