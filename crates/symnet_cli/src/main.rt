@@ -17,12 +17,21 @@ fn given_words<R: Env + AllocGlobal>(rt: &R) -> io::Result<Vec<String>> {
     Ok(words.collect(rt.alloc())?)
 }
 
+/// Runs the program over the folder. The contract of `symnet` is long, and goals behind its call are proved with all of it.
+fn run_over<R: Files + Print + AllocGlobal>(
+    rt: &R,
+    words: &[String],
+    folder: &mut KeepingFolder<DirFolder<'_, R>>,
+) -> Status {
+    let mut patterns = RegexPatterns::new();
+    let mut out = OutSink::new(rt);
+    symnet(rt.alloc(), words, folder, &mut patterns, &mut out)
+}
+
 /// How the program ends, and the files that it loaded.
 fn run<R: Files + Print + AllocGlobal>(rt: &R, words: &[String]) -> (Status, KeptFolder) {
     let mut folder = KeepingFolder::new(rt.alloc(), DirFolder::new(rt));
-    let mut patterns = RegexPatterns::new();
-    let mut out = OutSink::new(rt);
-    let status = symnet(rt.alloc(), words, &mut folder, &mut patterns, &mut out);
+    let status = run_over(rt, words, &mut folder);
     (status, folder.kept())
 }
 
