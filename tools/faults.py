@@ -12,6 +12,8 @@ import tempfile
 from pathlib import Path
 
 TOP = Path(__file__).resolve().parent.parent
+sys.path.insert(0, str(TOP / "tools"))
+import outside_faults  # noqa: E402
 
 JOB = """symnet 2;
 node r 2 -> 1 {
@@ -270,7 +272,12 @@ def main(words):
             wrong += 1
             print(f"faults: {given}: wanted\n{wanted}\ncame\n{said}")
     print(f"faults: {count - wrong} of {count} are shown as they should be")
-    return 1 if wrong else 0
+    others = list(outside_faults.wrong_cases(str(program)))
+    for told in others:
+        print(f"faults: {told}")
+    count = len(outside_faults.CASES)
+    print(f"faults: {count - len(others)} of {count} of files, outputs and limits end as they should")
+    return 1 if wrong or others else 0
 
 
 if __name__ == "__main__":

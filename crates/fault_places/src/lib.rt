@@ -1,7 +1,11 @@
-//! The place that a status blames: the line of a file with a caret below it. It is shown for people, where the files are still as they
-//! were; nothing is claimed of it.
+//! The place that a status blames: the line of a file with a caret below it. It is shown for people, in the files as they were loaded; nothing is
+//! claimed of it.
 #![tactic(auto)]
 
+mod kept;
 mod place;
+mod plain;
 
+pub use kept::{KeepingFolder, KeptFolder};
 pub use place::{item_number, job_name, place_text, statement_at};
+pub use plain::{is_plain, plain_text};

@@ -115,6 +115,32 @@ fn line_text<F: Folder>(alloc: Global, name: &str, line: u64, folder: &mut F) ->
     fault_text(alloc, name, &bytes, line, column).ok()?
 }
 
+/// Whether the name leads to no folder but the current one and those in it, by its text.
+fn is_within(name: &str) -> bool {
+    !name.starts_with('/') && !name.split('/').any(|part| part == "..")
+}
+
+/// The name, the line and the column alone.
+fn place_alone(alloc: Global, text: &[u8]) -> Option<Vec<u8>> {
+    text.split(|byte| *byte == b'\n').next()?.to_vec(alloc).ok()
+}
+
+/// What is shown of a line of the file that is blamed as a table: the line itself, except where a job names a file elsewhere, since who wrote
+/// the job may not be who may read that file.
+fn table_text<F: Folder>(
+    alloc: Global,
+    words: &[String],
+    name: &str,
+    line: u64,
+    folder: &mut F,
+) -> Option<Vec<u8>> {
+    let text = line_text(alloc, name, line, folder)?;
+    if job_name(alloc, words).is_none() || is_within(name) {
+        return Some(text);
+    }
+    place_alone(alloc, &text)
+}
+
 /// What is shown of a place in a job.
 fn place_in_job<F: Folder>(
     alloc: Global,
@@ -127,8 +153,8 @@ fn place_in_job<F: Folder>(
     fault_text(alloc, name, &bytes, line, column).ok()?
 }
 
-/// The place that a status blames: the file's name, the line and the column; the line; and a caret below it. None where the
-/// status blames no place of a text, where the file is no longer as it was, and for want of memory.
+/// The place that a status blames: the file's name, the line and the column; the line; and a caret below it. The folder has the files as they
+/// were loaded. None where the status blames no place of a text, where the file was not kept, and for want of memory.
 pub fn place_text<F: Folder>(
     alloc: Global,
     words: &[String],
@@ -141,7 +167,9 @@ pub fn place_text<F: Folder>(
         }
         Status::BadPattern { site } => item_text(alloc, job_name(alloc, words)?, site.0, folder),
         Status::Refused { site, .. } => item_text(alloc, job_name(alloc, words)?, site.0, folder),
-        Status::BadTable { name, line, .. } => line_text(alloc, name.text(), *line, folder),
+        Status::BadTable { name, line, .. } => {
+            table_text(alloc, words, name.text(), *line, folder)
+        }
         Status::BadAsk { number, .. } => {
             question_text(alloc, job_name(alloc, words)?, *number, folder)
         }

@@ -1,7 +1,7 @@
 //! The program `symnet`: symbolic execution of SEFL network models.
 #![tactic(auto)]
 
-use fault_places::place_text;
+use fault_places::{KeepingFolder, KeptFolder, is_plain, place_text, plain_text};
 use fault_words::reason_text;
 use regex_patterns::RegexPatterns;
 use run_answers::Status;
@@ -18,11 +18,22 @@ fn given_words<R: Env + AllocGlobal>(rt: &R) -> io::Result<Vec<String>> {
     Ok(words.collect(rt.alloc())?)
 }
 
-fn run<R: Files + Print + AllocGlobal>(rt: &R, words: &[String]) -> Status {
-    let mut folder = DirFolder::new(rt);
+/// Runs the program over the folder. The contract of `symnet` is long, and goals behind its call are proved with all of it.
+fn run_over<R: Files + Print + AllocGlobal>(
+    rt: &R,
+    words: &[String],
+    folder: &mut KeepingFolder<DirFolder<'_, R>>,
+) -> Status {
     let mut patterns = RegexPatterns::new();
     let mut out = OutSink::new(rt);
-    symnet(rt.alloc(), words, &mut folder, &mut patterns, &mut out)
+    symnet(rt.alloc(), words, folder, &mut patterns, &mut out)
+}
+
+/// How the program ends, and the files that it loaded.
+fn run<R: Files + Print + AllocGlobal>(rt: &R, words: &[String]) -> (Status, KeptFolder) {
+    let mut folder = KeepingFolder::new(rt.alloc(), DirFolder::new(rt));
+    let status = run_over(rt, words, &mut folder);
+    (status, folder.kept())
 }
 
 /// The status where there are no words.
@@ -34,22 +45,33 @@ fn status_without_words(error: &io::Error) -> Status {
     }
 }
 
+/// Shows a status on standard error. One with a name that a terminal may not be shown as it is, and no memory to change that, is not shown.
+fn show_named<R: Eprint + AllocGlobal>(rt: &R, status: &Status) -> io::Result<()> {
+    if is_plain(status) {
+        return rt.eprintln(status);
+    }
+    match plain_text(rt.alloc(), status) {
+        Ok(text) => rt.eprintln(text.as_str()),
+        Err(_) => Ok(()),
+    }
+}
+
 /// Shows a status that is not Done on standard error.
-fn show<R: Eprint>(rt: &R, status: &Status) -> io::Result<()> {
+fn show<R: Eprint + AllocGlobal>(rt: &R, status: &Status) -> io::Result<()> {
     match status {
         Status::Done => Ok(()),
-        _ => rt.eprintln(status),
+        _ => show_named(rt, status),
     }
 }
 
 /// Shows the place that a status blames, below it.
-fn show_place<R: Files + Eprint + AllocGlobal>(
+fn show_place<R: Eprint + AllocGlobal>(
     rt: &R,
     words: &[String],
     status: &Status,
+    folder: &mut KeptFolder,
 ) -> io::Result<()> {
-    let mut folder = DirFolder::new(rt);
-    let Some(bytes) = place_text(rt.alloc(), words, status, &mut folder) else {
+    let Some(bytes) = place_text(rt.alloc(), words, status, folder) else {
         return Ok(());
     };
     match str::from_utf8(&bytes) {
@@ -59,13 +81,13 @@ fn show_place<R: Files + Eprint + AllocGlobal>(
 }
 
 /// Shows what the status says in words, below that.
-fn show_reason<R: Files + Eprint + AllocGlobal>(
+fn show_reason<R: Eprint + AllocGlobal>(
     rt: &R,
     words: &[String],
     status: &Status,
+    folder: &mut KeptFolder,
 ) -> io::Result<()> {
-    let mut folder = DirFolder::new(rt);
-    match reason_text(rt.alloc(), words, status, &mut folder) {
+    match reason_text(rt.alloc(), words, status, folder) {
         Some(text) => rt.eprintln(text),
         None => Ok(()),
     }
@@ -75,10 +97,10 @@ fn show_reason<R: Files + Eprint + AllocGlobal>(
 fn run_and_show<R: Env + Files + Print + Eprint + AllocGlobal>(rt: &R) -> Status {
     match given_words(rt) {
         Ok(words) => {
-            let status = run(rt, &words);
+            let (status, mut folder) = run(rt, &words);
             let _ = show(rt, &status);
-            let _ = show_place(rt, &words, &status);
-            let _ = show_reason(rt, &words, &status);
+            let _ = show_place(rt, &words, &status, &mut folder);
+            let _ = show_reason(rt, &words, &status, &mut folder);
             status
         }
         Err(error) => {

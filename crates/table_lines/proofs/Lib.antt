@@ -4,6 +4,6 @@ pub mod WordLemmas
 pub mod NumberLemmas
 pub mod ByteLemmas
 pub mod Placing
-pub mod TakenLemmas
+pub mod Finding
 pub mod KeyLemmas
 pub mod TableLemmas

@@ -8,7 +8,7 @@ use Rattle.std.proofs.lemmas.Option.{none-some}
 use Rattle.sefl_syntax.specs.declared.net.TableKind.{TableKind}
 use Rattle.table_lines.specs.declared.fault.TableFault.{TableFault}
 use Rattle.table_lines.specs.declared.fault.TableFault.TheVariants.{BadLine, Conflict, Limit}
-use Rattle.table_lines.specs.declared.rows.Seen.{Seen}
+use Rattle.table_lines.specs.declared.entries.Seen.{Seen}
 use Rattle.table_lines.specs.declared.content.Content.{Content}
 use Rattle.table_lines.specs.declared.content.Content.TheVariants.{Skipped, Bad, Ports, Row}
 use Rattle.table_lines.specs.Lines.{lines}

@@ -5,6 +5,7 @@ pub mod Words
 pub mod Numbers
 pub mod Addresses
 pub mod Contents
+pub mod Found
 pub mod Rows
 pub mod Tables
 pub mod Laws

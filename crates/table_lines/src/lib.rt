@@ -3,6 +3,7 @@
 
 mod address;
 mod content;
+mod entries;
 mod fault;
 pub mod laws;
 mod lines;

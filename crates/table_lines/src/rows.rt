@@ -6,9 +6,9 @@ ghost use Rattle.table_lines.specs.Reading.{Leaves};
 ghost use Rattle.table_lines.specs.Rows.{is_key, limit_of, step, row_read, header_read, placed, counted};
 
 use crate::content::{Content, content_of};
+use crate::entries::{Entries, Seen};
 use crate::fault::TableFault;
 use crate::lines::LineReader;
-use indexmap::IndexMap;
 use sefl_syntax::TableKind;
 use std::marker::Model;
 
@@ -17,13 +17,6 @@ const MAC_ROWS: u64 = 32_768;
 
 /// The most rows of a forwarding table.
 const FIB_ROWS: u64 = 200_000;
-
-/// Where a row of a key stands first, and its port.
-#[derive(Clone, Copy)]
-pub(crate) struct Seen {
-    pub line: u64,
-    pub port: u32,
-}
 
 fn limit_of(kind: TableKind) -> u64
     ensures { result ≡ limit_of kind }
@@ -40,7 +33,7 @@ pub(crate) struct Rows {
     pub kind: TableKind,
     /// None before the line that says it.
     pub ports: Option<u32>,
-    pub rows: IndexMap<(u64, u32), Seen>,
+    pub rows: Entries,
     /// How many rows there were, with those that say the same as an earlier one.
     pub count: u64,
 }
@@ -50,7 +43,7 @@ impl Model for Rows {
 
     ghost Value = { State };
 
-    ghost view = { λ r. record { kind = r.kind; ports = r.ports; rows = r.rows.entries; count = r.count } };
+    ghost view = { λ r. record { kind = r.kind; ports = r.ports; rows = r.rows; count = r.count } };
 }
 
 impl Rows {
@@ -68,7 +61,7 @@ impl Rows {
     fn place(&mut self, line: u64, key: (u64, u32), port: u32) -> Result<(), TableFault>
         ensures { Leaves (placed self.old line key port (lookup (is_key key) self.old.rows)) result self.new }
     {
-        if let Some(seen) = self.rows.get(&key).copied() {
+        if let Some(seen) = self.rows.get(key) {
             if seen.port != port {
                 let earlier = seen.line;
                 return Err(TableFault::Conflict { line, earlier });
@@ -78,7 +71,7 @@ impl Rows {
         if self.count >= limit_of(self.kind) {
             return Err(TableFault::Limit { line });
         }
-        let Ok(_) = self.rows.insert(key, Seen { line, port }) else {
+        let Ok(()) = self.rows.add(key, Seen { line, port }) else {
             return Err(TableFault::NoMemory);
         };
         self.count += 1;

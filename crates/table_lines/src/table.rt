@@ -1,14 +1,14 @@
 //! The table that a file has.
 
-ghost use Rattle.std.specs.Prelude.{◌≡◌, map, option_map, slice_get, IfOk, IfErr};
+ghost use Rattle.std.specs.Prelude.{◌≡◌, map, IfOk, IfErr};
 ghost use Rattle.table_lines.specs.Reading.{Answers};
 ghost use Rattle.table_lines.specs.Rows.{row_of_entry};
 ghost use Rattle.table_lines.specs.Tables.{table_of, seen_table};
 
+use crate::entries::{Entries, Seen};
 use crate::fault::TableFault;
 use crate::lines::read_lines;
-use crate::rows::{Rows, Seen};
-use indexmap::IndexMap;
+use crate::rows::Rows;
 use sefl_syntax::TableKind;
 use std::alloc::Global;
 
@@ -27,29 +27,26 @@ pub struct Table {
     pub rows: Vec<Row>,
 }
 
-/// The row at that place.
-fn row_at(entries: &IndexMap<(u64, u32), Seen>, index: usize) -> Option<Row>
-    ensures { result ≡ option_map row_of_entry (slice_get entries.now.entries index) }
+/// The row of an entry.
+fn row_of(entry: &((u64, u32), Seen)) -> Row
+    ensures { result ≡ row_of_entry entry.now }
 {
-    let (key, seen) = entries.get_index(index)?;
-    Some(Row {
-        address: key.0,
-        length: key.1,
-        port: seen.port,
-    })
+    Row {
+        address: entry.0.0,
+        length: entry.0.1,
+        port: entry.1.port,
+    }
 }
 
-fn rows_of(alloc: Global, entries: &IndexMap<(u64, u32), Seen>) -> Result<Vec<Row>, TableFault>
-    ensures rows { IfOk result (λ rows. rows.items ≡ map row_of_entry entries.now.entries) }
+fn rows_of(alloc: Global, entries: &[((u64, u32), Seen)]) -> Result<Vec<Row>, TableFault>
+    ensures rows { IfOk result (λ rows. rows.items ≡ map row_of_entry entries.now) }
     ensures fault { IfErr result (λ fault. fault ≡ TableFault.NoMemory) }
 {
     let mut rows = Vec::new(alloc);
-    let mut index = 0;
-    while let Some(row) = row_at(entries, index) {
-        let Ok(()) = rows.push(row) else {
+    for entry in entries {
+        let Ok(()) = rows.push(row_of(entry)) else {
             return Err(TableFault::NoMemory);
         };
-        index += 1;
     }
     Ok(rows)
 }
@@ -61,13 +58,13 @@ pub fn read_table(alloc: Global, kind: TableKind, bytes: &[u8]) -> Result<Table,
     let mut rows = Rows {
         kind,
         ports: None,
-        rows: IndexMap::new(alloc),
+        rows: Entries::new(alloc),
         count: 0,
     };
     read_lines(bytes, &mut rows)?;
     let Some(ports) = rows.ports else {
         return Err(TableFault::BadLine { line: 1 });
     };
-    let rows = rows_of(alloc, &rows.rows)?;
+    let rows = rows_of(alloc, rows.rows.rows())?;
     Ok(Table { ports, rows })
 }
