@@ -1,0 +1,15 @@
+mod ApartLemmas
+mod ClashLemmas
+mod Deciding
+mod DeliveryLemmas
+mod EqualCells
+mod Entries
+mod FacedSoFar
+mod Fitting
+mod Joined
+mod LayoutLemmas
+mod MissSaying
+mod Matched
+mod Lacking
+mod NetLemmas
+mod Telling

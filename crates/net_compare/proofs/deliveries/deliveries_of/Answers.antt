@@ -1,0 +1,55 @@
+use Rattle.std.proofs.Common.{◌≡◌, ◌∙◌, ◌+◌, ◌++◌, [], ◌∷◌, ℕ, drop, map, ap, rules, sym, subst, IfSome, None, Some, option_map}
+use Rattle.std.proofs.lemmas.List.{map-append}
+use Rattle.std.specs.Global.{Vec}
+use Rattle.std.specs.List.{AllByRecursion}
+use Rattle.net_check.specs.Network.{entry, network}
+use Rattle.exact_records.specs.View.{record_tree, record_trees}
+use Rattle.question_meaning.specs.Formulas.{explored}
+use Rattle.compare_meaning.specs.Paths.{delivered, delivered_from}
+use Rattle.net_compare.specs.Facings.{IsSound}
+use Rattle.net_compare.specs.Saying.{seen_path}
+use Rattle.net_compare.specs.declared.delivery.Delivery.{Delivery}
+use Rattle.net_compare.proofs.DeliveryLemmas.{all_one_more, meaning_here, none_next, some_next}
+use Rattle.net_compare.proofs.deliveries.deliveries_of.Goals.{in-Some+in_ok-push, in_default}
+use Rattle.net_compare.proofs.deliveries.deliveries_of.Goals as goal
+
+pub delivery_of-requires-clause-meaning : goal.delivery_of-requires-clause-meaning
+delivery_of-requires-clause-meaning c =
+    meaning_here (network c.args.net.now) (entry c.args.injection.now) c.args.hops c.requires.exact.0 c.args.records.now c.requires.exact.1
+    c.loop-record.record-index c.record-item.result c.loop-record-test.true c.record-item.is
+
+pub loop-record-preserved : goal.loop-record-preserved
+loop-record-preserved c =
+    let net = network c.args.net.now in
+    let start = explored net (entry c.args.injection.now) c.args.hops in
+    let records = c.args.records.now in
+    let n = c.loop-record.record-index in
+    let d = c.record-item.result in
+    let number = c.loop-record.number in
+    let items = c.loop-record.list.items in
+    let all = delivered_from net start 0 (record_trees records) in
+    let next : number + 1 ≡ c.in-Some-checked_add.next = search rules in
+    let rest = λ (k : ℕ). delivered_from net start k (record_trees (drop (n + 1) records)) in
+    elim c.match-branch-2.branch [
+      | in-Some+in_ok-push w ↦
+          let p = w.in-Some.delivery in
+          let found : delivered net start number (record_tree d) ≡ Some (seen_path p) = sym c.in_ok-delivery.ensures.path ∙ ap (option_map seen_path) w.in-Some.is in
+          let more : c.match-branch-2.list.items ≡ items ++ p ∷ [] = ap (λ (v : Vec Delivery). v.items) w.list-is ∙ w.in_ok-push.ensures.items in
+          let seen : map seen_path c.match-branch-2.list.items ≡ map seen_path items ++ seen_path p ∷ [] = ap (map seen_path) more ∙ map-append seen_path items (p ∷ []) in
+          record {
+            paths = ap (λ ps. ps ++ rest c.in-Some-checked_add.next) seen
+                ∙ (ap (λ k. (map seen_path items ++ seen_path p ∷ []) ++ rest k) (sym next)
+                ∙ some_next net start records n d c.loop-record-test.true c.record-item.is number (map seen_path items) all c.loop-record.invariant.paths (seen_path p) found);
+            sound = subst (AllByRecursion IsSound) (sym more) (all_one_more IsSound items (p ∷ []) c.loop-record.invariant.sound (subst (λ f. IfSome f IsSound) w.in-Some.is c.in_ok-delivery.ensures.sound, tt));
+          }
+      | in_default w ↦
+          let none : c.in_ok-delivery.field-0 ≡ None = w.in_default.is in
+          let found : delivered net start number (record_tree d) ≡ None = sym c.in_ok-delivery.ensures.path ∙ ap (option_map seen_path) none in
+          let as_before : c.match-branch-2.list.items ≡ items = ap (λ (v : Vec Delivery). v.items) w.list-is in
+          record {
+            paths = ap (λ ps. map seen_path ps ++ rest c.in-Some-checked_add.next) as_before
+                ∙ (ap (λ k. map seen_path items ++ rest k) (sym next)
+                ∙ none_next net start records n d c.loop-record-test.true c.record-item.is number (map seen_path items) all c.loop-record.invariant.paths found);
+            sound = subst (AllByRecursion IsSound) (sym as_before) c.loop-record.invariant.sound;
+          }
+    ]

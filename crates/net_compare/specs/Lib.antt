@@ -1,0 +1,10 @@
+pub mod Adding
+pub mod Apart
+pub mod Clashing
+pub mod Delivering
+pub mod Facings
+pub mod Halves
+pub mod Joining
+pub mod Layouts
+pub mod Matching
+pub mod Saying
