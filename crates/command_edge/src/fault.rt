@@ -45,7 +45,7 @@ pub enum OwnFault {
     /// The question of this number is the first that names no place of the net, or an input port where packets are to be delivered, 1;
     /// or no injected field, 2.
     BadAsk { number: u64, kind: u8 },
-    /// The two jobs cannot be compared, for what these numbers name. No command compares jobs yet.
+    /// The two jobs cannot be compared, for what these numbers name.
     BadCompare { kind: u8, one: u64, other: u64 },
     NoMemory,
 }

@@ -9,6 +9,8 @@ use Rattle.command_words.specs.declared.command.Command.{Command as CommandOf}
 use Rattle.command_words.specs.declared.command.Command.TheVariants as given
 use Rattle.command_words.specs.declared.command.FilterStyle.{FilterStyle}
 use Rattle.command_words.specs.declared.command.FilterStyle.TheVariants as filter
+use Rattle.command_words.specs.declared.command.Open.{Open}
+use Rattle.command_words.specs.declared.command.Open.TheVariants.{Numbers, Visits}
 use Rattle.command_words.specs.declared.command.Pruned.{Pruned}
 use Rattle.command_words.specs.declared.command.Pruned.TheVariants.{All, Count}
 use Rattle.command_words.specs.declared.command.Style.{Style}
@@ -16,7 +18,7 @@ use Rattle.command_words.specs.declared.command.Style.TheVariants.{Chain, Groupe
 use Rattle.command_words.specs.declared.command.Table.{Table}
 use Rattle.command_words.specs.declared.command.Table.TheVariants.{Mac, Fib}
 use Rattle.command_words.specs.declared.command.Verb.{Verb}
-use Rattle.command_words.specs.declared.command.Verb.TheVariants.{Explore, Walk, Replay, Ask, Loops, Model, Click, Acl, Rules, Grow}
+use Rattle.command_words.specs.declared.command.Verb.TheVariants.{Explore, Walk, Replay, Ask, Loops, Compare, Model, Click, Acl, Rules, Grow}
 
 -- a command, with the names of the files that it reads, and what its options give
 pub data Command : Type 0 where
@@ -28,8 +30,10 @@ pub data Command : Type 0 where
   replay : Text → Text → Command
   -- the job; hops
   ask : Text → ℕ → Command
-  -- the job; hops
-  loops : Text → ℕ → Command
+  -- the job; hops, and what is written of paths without a loop
+  loops : Text → ℕ → Open → Command
+  -- the job and the other one; hops
+  compare : Text → Text → ℕ → Command
   -- a table's file; and the style of its node
   model : Table → Text → Style → Command
   -- the file of a Click configuration
@@ -46,7 +50,8 @@ command_of (given.Explore job hops limit pruned) = explore job.now hops limit pr
 command_of (given.Walk job packet hops limit) = walk job.now packet.now hops limit
 command_of (given.Replay job report) = replay job.now report.now
 command_of (given.Ask job hops) = ask job.now hops
-command_of (given.Loops job hops) = loops job.now hops
+command_of (given.Loops job hops detail) = loops job.now hops detail
+command_of (given.Compare job other hops) = compare job.now other.now hops
 command_of (given.Model table file style) = model table file.now style
 command_of (given.Click file) = click file.now
 command_of (given.Acl file style) = acl file.now style
@@ -62,7 +67,8 @@ HasRanges (explore job hops limit pruned) = AreInRange hops limit
 HasRanges (walk job packet hops limit) = AreInRange hops limit
 HasRanges (replay job report) = Unit {0}
 HasRanges (ask job hops) = (1 ≤ hops) × (hops ≤ MOST_HOPS)
-HasRanges (loops job hops) = (1 ≤ hops) × (hops ≤ MOST_HOPS)
+HasRanges (loops job hops detail) = (1 ≤ hops) × (hops ≤ MOST_HOPS)
+HasRanges (compare job other hops) = (1 ≤ hops) × (hops ≤ MOST_HOPS)
 HasRanges (model table file style) = Unit {0}
 HasRanges (click file) = Unit {0}
 HasRanges (acl file style) = Unit {0}
@@ -75,7 +81,8 @@ form_of_verb Explore = record { positionals = codes "JOB" ∷ []; options = code
 form_of_verb Walk = record { positionals = codes "JOB" ∷ codes "PACKET" ∷ []; options = codes "hops" ∷ codes "limit" ∷ [] }
 form_of_verb Replay = record { positionals = codes "JOB" ∷ codes "REPORT" ∷ []; options = [] }
 form_of_verb Ask = record { positionals = codes "JOB" ∷ []; options = codes "hops" ∷ [] }
-form_of_verb Loops = record { positionals = codes "JOB" ∷ []; options = codes "hops" ∷ [] }
+form_of_verb Loops = record { positionals = codes "JOB" ∷ []; options = codes "hops" ∷ codes "open" ∷ [] }
+form_of_verb Compare = record { positionals = codes "JOB" ∷ codes "OTHER" ∷ []; options = codes "hops" ∷ [] }
 form_of_verb (Model table) = record { positionals = codes "FILE" ∷ []; options = codes "style" ∷ [] }
 form_of_verb Click = record { positionals = codes "FILE" ∷ []; options = [] }
 form_of_verb Acl = record { positionals = codes "FILE" ∷ []; options = codes "style" ∷ [] }
@@ -90,6 +97,7 @@ verb_of word =
     else if bytes_eq word (codes "replay") then Some Replay
     else if bytes_eq word (codes "ask") then Some Ask
     else if bytes_eq word (codes "loops") then Some Loops
+    else if bytes_eq word (codes "compare") then Some Compare
     else if bytes_eq word (codes "rules") then Some Rules
     else if bytes_eq word (codes "grow") then Some Grow
     else None
@@ -120,6 +128,16 @@ pruned_of word =
 abbrev pub pruned_or_all : Option Text → Option Pruned
 pruned_or_all None = Some All
 pruned_or_all (Some word) = pruned_of word
+
+abbrev pub open_of : Text → Option Open
+open_of word =
+    if bytes_eq word (codes "numbers") then Some Numbers
+    else if bytes_eq word (codes "visits") then Some Visits
+    else None
+
+abbrev pub open_or_numbers : Option Text → Option Open
+open_or_numbers None = Some Numbers
+open_or_numbers (Some word) = open_of word
 
 abbrev pub style_of : Text → Option Style
 style_of word =
@@ -154,6 +172,9 @@ module _ (value : Text → Option Text) where
   abbrev pub pruned_in : Option Pruned
   pruned_in = pruned_or_all (value (codes "pruned"))
 
+  abbrev pub open_in : Option Open
+  open_in = open_or_numbers (value (codes "open"))
+
   abbrev pub with_bounds : (ℕ → ℕ → Option Command) → Option Command
   with_bounds next = option_and_then (λ hops. option_and_then (next hops) limit_in) hops_in
 
@@ -173,7 +194,10 @@ module _ (value : Text → Option Text) where
   ask_from = option_and_then (λ job. option_map (ask job) hops_in) (value (codes "JOB"))
 
   abbrev pub loops_from : Option Command
-  loops_from = option_and_then (λ job. option_map (loops job) hops_in) (value (codes "JOB"))
+  loops_from = option_and_then (λ job. option_and_then (λ hops. option_map (loops job hops) open_in) hops_in) (value (codes "JOB"))
+
+  abbrev pub compare_from : Option Command
+  compare_from = option_and_then (λ job. option_and_then (λ other. option_map (compare job other) hops_in) (value (codes "OTHER"))) (value (codes "JOB"))
 
   abbrev pub model_from : Table → Option Command
   model_from table = option_and_then (λ file. option_map (model table file) style_in) (value (codes "FILE"))
@@ -203,6 +227,7 @@ command_from Walk = walk_from
 command_from Replay = replay_from
 command_from Ask = ask_from
 command_from Loops = loops_from
+command_from Compare = compare_from
 command_from (Model table) = λ value. model_from value table
 command_from Click = click_from
 command_from Acl = acl_from

@@ -2,7 +2,7 @@
 
 ghost use Rattle.std.specs.Prelude.{◌≡◌, ◌≤◌, IfOk, IfSome, Some, option_map, map, string_bytes};
 ghost use Rattle.clap.specs.Words.{first_value, found_of};
-ghost use Rattle.command_words.specs.Commands.{HasRanges, command_from, command_of, filter_style_in, filter_style_of, form_of_verb, hops_in, limit_in, model_of, named, pruned_in, pruned_of, reading, style_in, style_of, verb_of};
+ghost use Rattle.command_words.specs.Commands.{HasRanges, command_from, command_of, filter_style_in, filter_style_of, form_of_verb, hops_in, limit_in, model_of, named, open_in, open_of, pruned_in, pruned_of, reading, style_in, style_of, verb_of};
 ghost use Rattle.command_words.specs.Shapes.{form_of, named_of};
 
 use crate::form::Form;
@@ -31,6 +31,15 @@ pub enum Pruned {
     All,
     /// Their number alone.
     Count,
+}
+
+/// What is written of the paths that are cut and show no loop.
+#[derive(Clone, Copy)]
+pub enum Open {
+    /// The numbers of their records.
+    Numbers,
+    /// Their earlier visits of the last port as well.
+    Visits,
 }
 
 /// Whose addresses a table's file has: of switches or of routers.
@@ -81,6 +90,12 @@ pub enum Command<'a> {
     Loops {
         job: &'a str,
         hops: u32,
+        open: Open,
+    },
+    Compare {
+        job: &'a str,
+        other: &'a str,
+        hops: u32,
     },
     Model {
         table: Table,
@@ -111,6 +126,7 @@ enum Verb {
     Replay,
     Ask,
     Loops,
+    Compare,
     Model(Table),
     Click,
     Acl,
@@ -142,6 +158,10 @@ impl Verb {
             },
             Verb::Loops => Form {
                 positionals: &["JOB"],
+                options: &["hops", "open"],
+            },
+            Verb::Compare => Form {
+                positionals: &["JOB", "OTHER"],
                 options: &["hops"],
             },
             Verb::Model(_) => Form {
@@ -178,6 +198,7 @@ fn verb_of(word: &str) -> Option<Verb>
         "replay" => Some(Verb::Replay),
         "ask" => Some(Verb::Ask),
         "loops" => Some(Verb::Loops),
+        "compare" => Some(Verb::Compare),
         "rules" => Some(Verb::Rules),
         "grow" => Some(Verb::Grow),
         _ => None,
@@ -247,6 +268,26 @@ fn pruned_in(values: &ArgMatches<'_>) -> Option<Pruned>
     match values.get_str("pruned") {
         Some(word) => pruned_of(word),
         None => Some(Pruned::All),
+    }
+}
+
+fn open_of(word: &str) -> Option<Open>
+    ensures { result ≡ open_of word.now }
+{
+    match word {
+        "numbers" => Some(Open::Numbers),
+        "visits" => Some(Open::Visits),
+        _ => None,
+    }
+}
+
+/// What is to be written of paths without a loop, or the default.
+fn open_in(values: &ArgMatches<'_>) -> Option<Open>
+    ensures { result ≡ open_in (first_value (found_of values.now)) }
+{
+    match values.get_str("open") {
+        Some(word) => open_of(word),
+        None => Some(Open::Numbers),
     }
 }
 
@@ -334,7 +375,14 @@ fn command_from<'a>(verb: Verb, values: &ArgMatches<'a>) -> Option<Command<'a>>
         Verb::Loops => {
             let job = values.get_str("JOB")?;
             let hops = hops_in(values)?;
-            Some(Command::Loops { job, hops })
+            let open = open_in(values)?;
+            Some(Command::Loops { job, hops, open })
+        }
+        Verb::Compare => {
+            let job = values.get_str("JOB")?;
+            let other = values.get_str("OTHER")?;
+            let hops = hops_in(values)?;
+            Some(Command::Compare { job, other, hops })
         }
         Verb::Model(table) => {
             let file = values.get_str("FILE")?;

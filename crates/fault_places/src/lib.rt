@@ -2,10 +2,12 @@
 //! claimed of it.
 #![tactic(auto)]
 
+mod jobs;
 mod kept;
 mod place;
 mod plain;
 
+pub use jobs::blamed_job;
 pub use kept::{KeepingFolder, KeptFolder};
-pub use place::{item_number, job_name, place_text, statement_at};
+pub use place::{item_number, place_text, statement_at};
 pub use plain::{is_plain, plain_text};

@@ -1,38 +1,15 @@
 //! Which place a status blames, and what is shown of it.
 
+use crate::jobs::{blamed_job, names_job};
 use command_edge::load_text;
-use command_words::{Command, reading};
 use job_files::load_job;
 use run_answers::Status;
 use sefl_lex::tokens;
 use sefl_reader::{position, read_job};
 use sefl_syntax::{Job, is_filled};
-use sn_edge::Folder;
+use sn_edge::{Folder, Patterns};
 use std::alloc::Global;
 use text_places::{Sought, fault_text, indent_of, line_of, own_number, statement_start};
-
-/// The file of the job that the words name, if they name one.
-pub fn job_name(alloc: Global, words: &[String]) -> Option<&str> {
-    match reading(alloc, words) {
-        Ok(Some(command)) => job_of(command),
-        _ => None,
-    }
-}
-
-fn job_of(command: Command<'_>) -> Option<&str> {
-    match command {
-        Command::Explore { job, .. } => Some(job),
-        Command::Walk { job, .. } => Some(job),
-        Command::Replay { job, .. } => Some(job),
-        Command::Ask { job, .. } => Some(job),
-        Command::Loops { job, .. } => Some(job),
-        Command::Model { .. } => None,
-        Command::Click { .. } => None,
-        Command::Acl { .. } => None,
-        Command::Rules { .. } => None,
-        Command::Grow { .. } => None,
-    }
-}
 
 fn loaded<F: Folder>(alloc: Global, name: &str, folder: &mut F) -> Option<Vec<u8>> {
     load_text(alloc, name, folder).ok()
@@ -135,7 +112,7 @@ fn table_text<F: Folder>(
     folder: &mut F,
 ) -> Option<Vec<u8>> {
     let text = line_text(alloc, name, line, folder)?;
-    if job_name(alloc, words).is_none() || is_within(name) {
+    if !names_job(alloc, words) || is_within(name) {
         return Some(text);
     }
     place_alone(alloc, &text)
@@ -155,23 +132,28 @@ fn place_in_job<F: Folder>(
 
 /// The place that a status blames: the file's name, the line and the column; the line; and a caret below it. The folder has the files as they
 /// were loaded. None where the status blames no place of a text, where the file was not kept, and for want of memory.
-pub fn place_text<F: Folder>(
+pub fn place_text<F: Folder, P: Patterns>(
     alloc: Global,
     words: &[String],
     status: &Status,
     folder: &mut F,
+    patterns: &mut P,
 ) -> Option<Vec<u8>> {
     match status {
         Status::Syntax { line, column, .. } => {
-            place_in_job(alloc, job_name(alloc, words)?, *line, *column, folder)
+            let name = blamed_job(alloc, words, folder, patterns)?;
+            place_in_job(alloc, name, *line, *column, folder)
         }
-        Status::BadPattern { site } => item_text(alloc, job_name(alloc, words)?, site.0, folder),
-        Status::Refused { site, .. } => item_text(alloc, job_name(alloc, words)?, site.0, folder),
+        Status::BadPattern { site } | Status::Refused { site, .. } => {
+            let name = blamed_job(alloc, words, folder, patterns)?;
+            item_text(alloc, name, site.0, folder)
+        }
         Status::BadTable { name, line, .. } => {
             table_text(alloc, words, name.text(), *line, folder)
         }
         Status::BadAsk { number, .. } => {
-            question_text(alloc, job_name(alloc, words)?, *number, folder)
+            let name = blamed_job(alloc, words, folder, patterns)?;
+            question_text(alloc, name, *number, folder)
         }
         _ => None,
     }

@@ -28,6 +28,8 @@ const STYLE: u8 = 8;
 
 const FILTER_STYLE: u8 = 16;
 
+const OPEN: u8 = 32;
+
 fn hops() -> Choice {
     Choice {
         flag: "--hops",
@@ -58,6 +60,16 @@ fn pruned() -> Choice {
     }
 }
 
+fn open_paths() -> Choice {
+    Choice {
+        flag: "--open",
+        bit: OPEN,
+        most: 0,
+        words: &["numbers", "visits"],
+        says: "--open takes numbers or visits",
+    }
+}
+
 fn style() -> Choice {
     Choice {
         flag: "--style",
@@ -84,6 +96,7 @@ pub(crate) fn choice_of(options: u8, flag: &str) -> Option<Choice> {
         "--hops" => hops(),
         "--limit" => limit(),
         "--pruned" => pruned(),
+        "--open" => open_paths(),
         "--style" if options & FILTER_STYLE != 0 => filter_style(),
         "--style" => style(),
         _ => return None,
@@ -116,6 +129,10 @@ pub(crate) fn form_of(name: &str) -> Option<Form> {
         }),
         "loops" => Some(Form {
             files: &["JOB"],
+            options: HOPS | OPEN,
+        }),
+        "compare" => Some(Form {
+            files: &["JOB", "OTHER"],
             options: HOPS,
         }),
         "rules" => Some(Form {

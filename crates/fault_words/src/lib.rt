@@ -1,5 +1,5 @@
-//! What a status says in words, for people: it stands below the status and its place. It is made where the files are still as they were;
-//! nothing is claimed of it.
+//! What a status says in words, for people: it stands below the status and its place. It is made of the files as they were loaded; nothing is claimed
+//! of it.
 #![tactic(auto)]
 
 mod absent;

@@ -8,12 +8,12 @@ use crate::statement::words_from;
 use crate::table::of_line;
 use crate::usage::usage_text;
 use command_edge::load_text;
-use fault_places::{item_number, job_name, statement_at};
+use fault_places::{blamed_job, item_number, statement_at};
 use job_files::load_job;
 use run_answers::Status;
 use sefl_lex::tokens;
 use sefl_syntax::NodeDecl;
-use sn_edge::Folder;
+use sn_edge::{Folder, Patterns};
 use std::alloc::Global;
 use text_places::Sought;
 
@@ -22,13 +22,14 @@ fn fixed(alloc: Global, text: Option<&'static str>) -> Option<String> {
 }
 
 /// The words in which a job names a port that its node does not have.
-fn port_in<F: Folder>(
+fn port_in<F: Folder, P: Patterns>(
     alloc: Global,
     words: &[String],
     site: u32,
     folder: &mut F,
+    patterns: &mut P,
 ) -> Option<String> {
-    let name = job_name(alloc, words)?;
+    let name = blamed_job(alloc, words, folder, patterns)?;
     let bytes = load_text(alloc, name, folder).ok()?;
     let number = item_number(alloc, name, &bytes, site, folder)?;
     let at = statement_at(alloc, &bytes, Sought::Items, number as u64)?;
@@ -45,42 +46,50 @@ fn port_at(alloc: Global, bytes: &[u8], at: u64, site: u32, nodes: &[NodeDecl]) 
     port_text(alloc, &words, site, nodes)
 }
 
-fn expected_in<F: Folder>(alloc: Global, words: &[String], folder: &mut F) -> Option<String> {
-    let bytes = load_text(alloc, job_name(alloc, words)?, folder).ok()?;
+fn expected_in<F: Folder, P: Patterns>(
+    alloc: Global,
+    words: &[String],
+    folder: &mut F,
+    patterns: &mut P,
+) -> Option<String> {
+    let job = blamed_job(alloc, words, folder, patterns)?;
+    let bytes = load_text(alloc, job, folder).ok()?;
     expected_text(alloc, &bytes)
 }
 
-fn absent_in<F: Folder>(
+fn absent_in<F: Folder, P: Patterns>(
     alloc: Global,
     words: &[String],
     name: &str,
     folder: &mut F,
+    patterns: &mut P,
 ) -> Option<String> {
-    let job = job_name(alloc, words)?;
+    let job = blamed_job(alloc, words, folder, patterns)?;
     let bytes = load_text(alloc, job, folder).ok()?;
     absent_text(alloc, job, &bytes, name)
 }
 
 /// What a status says in words, for people: which word of the command line is wrong, and all commands; what may stand in a job's text; the rule
 /// that an item breaks; and what to do. None where nothing is to be said, and for want of memory.
-pub fn reason_text<F: Folder>(
+pub fn reason_text<F: Folder, P: Patterns>(
     alloc: Global,
     words: &[String],
     status: &Status,
     folder: &mut F,
+    patterns: &mut P,
 ) -> Option<String> {
     match status {
         Status::Usage => usage_text(alloc, words).ok(),
-        Status::NoFile { name } => match absent_in(alloc, words, name.text(), folder) {
+        Status::NoFile { name } => match absent_in(alloc, words, name.text(), folder, patterns) {
             Some(text) => Some(text),
             None => absent_word_text(alloc),
         },
-        Status::Syntax { kind: 5, .. } => match expected_in(alloc, words, folder) {
+        Status::Syntax { kind: 5, .. } => match expected_in(alloc, words, folder, patterns) {
             Some(text) => Some(text),
             None => fixed(alloc, of_syntax(5)),
         },
         Status::Syntax { kind, .. } => fixed(alloc, of_syntax(*kind)),
-        Status::Refused { site, kind: 3 } => match port_in(alloc, words, site.0, folder) {
+        Status::Refused { site, kind: 3 } => match port_in(alloc, words, site.0, folder, patterns) {
             Some(text) => Some(text),
             None => fixed(alloc, of_refusal(3)),
         },

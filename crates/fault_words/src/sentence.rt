@@ -118,8 +118,10 @@ fn of_ask(kind: u8) -> Option<&'static str> {
 /// Of two jobs that cannot be compared.
 fn of_comparison(kind: u8) -> Option<&'static str> {
     match kind {
-        1 => Some("the injections of the two jobs differ"),
-        2 => Some("unknown numbers of two paths that are delivered have other widths"),
+        1 => Some("the injections of the two jobs differ: write the same lines in the same order"),
+        2 => Some(
+            "two paths that leave by one port chose values of other widths: let both jobs choose the same fields in the same order",
+        ),
         _ => None,
     }
 }

@@ -8,7 +8,8 @@ const FORMS: &str = "symnet explore JOB [--hops N] [--limit N] [--pruned all|cou
 symnet walk JOB PACKET [--hops N] [--limit N]
 symnet replay JOB REPORT
 symnet ask JOB [--hops N]
-symnet loops JOB [--hops N]
+symnet loops JOB [--hops N] [--open numbers|visits]
+symnet compare JOB OTHER [--hops N]
 symnet model mac|fib FILE [--style chain|grouped|egress]
 symnet model click FILE
 symnet model acl FILE [--style chain|grouped]
@@ -17,6 +18,7 @@ symnet grow SEED NODES
 --hops N: input ports on a path, 1 to 256 (16 where it is not given)
 --limit N: records or walks, 1 to 100,000 (10,000)
 --pruned: sides that no packet takes, each or their number alone (all)
+--open: paths that show no loop, their numbers or their earlier visits too (numbers)
 --style: how a node tests its packets (grouped)
 SEED: 0 to 18,446,744,073,709,551,615; NODES: 1 to 10,000
 options stand anywhere behind the command, also as --hops=N; behind -- all words are files";

@@ -1,2 +1,3 @@
-pub mod Texts
 pub mod Loops
+pub mod Seen
+pub mod Texts

@@ -9,6 +9,7 @@ use Rattle.run_answers.specs.Inputs.{Given, a_net}
 use Rattle.command_edge.specs.Puts.{Outcome, text, refused}
 use Rattle.command_edge.specs.declared.ending.Ending.{Ending}
 use Rattle.explore_command.specs.Explores.{IsEnding}
+use Rattle.loops_command.specs.declared.text.OpenPaths.{OpenPaths}
 use Rattle.loops_command.specs.Texts.{loops_text}
 
 module _ (hops limit : ℕ) (net : Network) (i : Entry) where
@@ -21,16 +22,16 @@ module _ (hops limit : ℕ) (net : Network) (i : Entry) where
     pub right : AreRight net i hops 0 records found
 
   -- and this is the text of them
-  pub record IsLoopsText (ending : Ending) (whole : List ℕ) : Type 0 where
+  pub record IsLoopsText (detail : OpenPaths) (ending : Ending) (whole : List ℕ) : Type 0 where
     pub found : List (ℕ × LoopAnswer)
     pub are : AreLoops ending found
-    pub line : whole ≡ loops_text found
+    pub line : whole ≡ loops_text detail found
 
-  abbrev pub LoopsOf : Outcome → Type 0
-  LoopsOf (text ending whole) = IsLoopsText ending whole
-  LoopsOf (refused fault) = ⊥
+  abbrev pub LoopsOf : OpenPaths → Outcome → Type 0
+  LoopsOf detail (text ending whole) = IsLoopsText detail ending whole
+  LoopsOf detail (refused fault) = ⊥
 
 -- `loops` of a job
-abbrev pub LoopsComes : ℕ → ℕ → List Given → Outcome → Type 0
-LoopsComes hops limit (a_net net i asks ∷ []) outcome = LoopsOf hops limit net i outcome
-LoopsComes hops limit _ outcome = ⊥
+abbrev pub LoopsComes : ℕ → ℕ → OpenPaths → List Given → Outcome → Type 0
+LoopsComes hops limit detail (a_net net i asks ∷ []) outcome = LoopsOf hops limit net i detail outcome
+LoopsComes hops limit detail _ outcome = ⊥

@@ -6,4 +6,4 @@ mod searching;
 mod text;
 
 pub use loops::Loops;
-pub use text::loops_text;
+pub use text::{OpenPaths, loops_text};

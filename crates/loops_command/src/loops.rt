@@ -3,6 +3,7 @@
 ghost use Rattle.loops_command.specs.Loops.{LoopsComes};
 
 use crate::searching::text_of_loops;
+use crate::text::OpenPaths;
 use command_edge::{Ending, OwnFault};
 use command_runs::OnePiece;
 use explore_command::RecordLimit;
@@ -16,6 +17,7 @@ pub struct Loops<'a> {
     pub source: JobFile<'a>,
     pub hops: u32,
     pub limit: RecordLimit,
+    pub detail: OpenPaths,
 }
 
 impl<'a> OnePiece for Loops<'a> {
@@ -23,13 +25,13 @@ impl<'a> OnePiece for Loops<'a> {
 
     ghost source = { λ l. l.source };
 
-    ghost comes = { λ l. LoopsComes l.hops l.limit };
+    ghost comes = { λ l. LoopsComes l.hops l.limit l.detail };
 
     fn source(&self) -> &JobFile<'a> {
         &self.source
     }
 
     fn text(&self, alloc: Global, given: Accepted) -> Result<(Ending, String), OwnFault> {
-        text_of_loops(alloc, &given, self.hops, self.limit.count())
+        text_of_loops(alloc, &given, self.hops, self.limit.count(), self.detail)
     }
 }

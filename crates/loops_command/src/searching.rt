@@ -9,7 +9,7 @@ ghost use Rattle.path_questions.specs.Deciding.{entry_of, net_of};
 ghost use Rattle.ask_command.specs.Answering.{ending_of};
 ghost use Rattle.loops_command.specs.Loops.{AreLoops, IsLoopsText};
 
-use crate::text::loops_text;
+use crate::text::{OpenPaths, loops_text};
 use command_edge::{Ending, OwnFault};
 use loop_check::laws::what_is_found_is_right;
 use loop_check::{Finding, Mark};
@@ -80,10 +80,11 @@ pub(crate) fn text_of_loops(
     job: &Accepted,
     hops: u32,
     limit: u32,
+    detail: OpenPaths,
 ) -> Result<(Ending, String), OwnFault>
     requires job { AreOfOneJob (network job.now.net) (entry job.now.injection) }
     requires limit { 0 < limit }
-    ensures text { IfOk result (λ t. IsLoopsText hops limit (network job.now.net) (entry job.now.injection) t.0 (string_bytes t.1)) }
+    ensures text { IfOk result (λ t. IsLoopsText hops limit (network job.now.net) (entry job.now.injection) detail t.0 (string_bytes t.1)) }
     ensures refused { IfErr result (λ fault. fault ≡ NoMemoryFault) }
 {
     let subject = Subject {
@@ -92,6 +93,6 @@ pub(crate) fn text_of_loops(
         hops,
     };
     let (ending, found) = search_with::<Brand, Brand>(alloc, &subject, limit, Blank::new(1))?;
-    let text = loops_text(alloc, &found)?;
+    let text = loops_text(alloc, &found, detail)?;
     Ok((ending, text))
 }

@@ -43,7 +43,7 @@ pub enum Status {
     NotConfirmed { number: u64, kind: u8 },
     /// The question of this number, counted from 0, is the first that cannot be asked; the kind is 1 or 2, as in `OwnFault`.
     BadAsk { number: u64, kind: u8 },
-    /// The two jobs cannot be compared. No command compares jobs yet.
+    /// The two jobs cannot be compared.
     BadCompare { kind: u8, one: u64, other: u64 },
 }
 

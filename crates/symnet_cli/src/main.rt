@@ -71,7 +71,8 @@ fn show_place<R: Eprint + AllocGlobal>(
     status: &Status,
     folder: &mut KeptFolder,
 ) -> io::Result<()> {
-    let Some(bytes) = place_text(rt.alloc(), words, status, folder) else {
+    let mut patterns = RegexPatterns::new();
+    let Some(bytes) = place_text(rt.alloc(), words, status, folder, &mut patterns) else {
         return Ok(());
     };
     match str::from_utf8(&bytes) {
@@ -87,7 +88,8 @@ fn show_reason<R: Eprint + AllocGlobal>(
     status: &Status,
     folder: &mut KeptFolder,
 ) -> io::Result<()> {
-    match reason_text(rt.alloc(), words, status, folder) {
+    let mut patterns = RegexPatterns::new();
+    match reason_text(rt.alloc(), words, status, folder, &mut patterns) {
         Some(text) => rt.eprintln(text),
         None => Ok(()),
     }

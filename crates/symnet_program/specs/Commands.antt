@@ -6,6 +6,9 @@ use Rattle.command_edge.specs.declared.limits.TheConstants.{FILE_LIMIT}
 use Rattle.explore_command.specs.Explores.{explore_work}
 use Rattle.ask_command.specs.Asks.{AskComes}
 use Rattle.loops_command.specs.Loops.{LoopsComes}
+use Rattle.loops_command.specs.declared.text.OpenPaths.{OpenPaths}
+use Rattle.loops_command.specs.declared.text.OpenPaths.TheVariants.{Numbers, Visits}
+use Rattle.compare_command.specs.Compares.{CompareComes}
 use Rattle.job_gen.specs.Grown.{grown}
 use Rattle.grow_command.specs.Grows.{GrowComes}
 use Rattle.replay_command.specs.Replays.{ReplayComes}
@@ -22,10 +25,12 @@ use Rattle.sefl_syntax.specs.declared.net.TableKind.TheVariants.{Mac, Fib}
 use Rattle.walk_command.specs.Walks.{WalkComes}
 use Rattle.record_lines.specs.declared.lines.RefutedSides.{RefutedSides}
 use Rattle.record_lines.specs.declared.lines.RefutedSides.TheVariants.{Written, Counted}
-use Rattle.command_words.specs.Commands.{Command, explore, walk, replay, ask, loops, model, click, acl, rules, grow}
+use Rattle.command_words.specs.Commands.{Command, explore, walk, replay, ask, loops, compare, model, click, acl, rules, grow}
 use Rattle.command_words.specs.declared.command.TheConstants.{LIMIT}
 use Rattle.command_words.specs.declared.command.FilterStyle.{FilterStyle}
 use Rattle.command_words.specs.declared.command.FilterStyle.TheVariants as filter
+use Rattle.command_words.specs.declared.command.Open.{Open}
+use Rattle.command_words.specs.declared.command.Open.TheVariants as of_words
 use Rattle.command_words.specs.declared.command.Pruned.{Pruned}
 use Rattle.command_words.specs.declared.command.Pruned.TheVariants.{All, Count}
 use Rattle.command_words.specs.declared.command.Style.{Style}
@@ -38,7 +43,8 @@ inputs (explore job hops limit pruned) = a_job job ∷ []
 inputs (walk job packet hops limit) = a_job job ∷ a_file FILE_LIMIT packet ∷ []
 inputs (replay job report) = a_job job ∷ a_file REPORT_LIMIT report ∷ []
 inputs (ask job hops) = a_job job ∷ []
-inputs (loops job hops) = a_job job ∷ []
+inputs (loops job hops detail) = a_job job ∷ []
+inputs (compare job other hops) = a_job job ∷ a_job other ∷ []
 inputs (model table file style) = a_file FILE_LIMIT file ∷ []
 inputs (click file) = a_file FILE_LIMIT file ∷ []
 inputs (acl file style) = a_file FILE_LIMIT file ∷ []
@@ -53,6 +59,11 @@ ReadsJob command job = (others : List Input) × (inputs command ≡ a_job job �
 abbrev pub sides_of : Pruned → RefutedSides
 sides_of All = Written
 sides_of Count = Counted
+
+-- what is written of paths without a loop
+abbrev pub detail_of : Open → OpenPaths
+detail_of of_words.Numbers = Numbers
+detail_of of_words.Visits = Visits
 
 -- the table, and the style of its node, as in a job
 abbrev pub kind_of : Table → TableKind
@@ -73,7 +84,8 @@ work (explore job hops limit pruned) = explore_work hops limit (sides_of pruned)
 work (walk job packet hops limit) = one_piece (WalkComes hops limit)
 work (replay job report) = one_piece ReplayComes
 work (ask job hops) = one_piece (AskComes hops LIMIT)
-work (loops job hops) = one_piece (LoopsComes hops LIMIT)
+work (loops job hops detail) = one_piece (LoopsComes hops LIMIT (detail_of detail))
+work (compare job other hops) = one_piece (CompareComes hops LIMIT)
 work (model table file style) = one_piece (ModelComes (kind_of table) (style_of style) file)
 work (click file) = one_piece (ClickComes file)
 work (acl file style) = one_piece (AclComes (list_style_of style) file)

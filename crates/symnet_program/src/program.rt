@@ -10,7 +10,7 @@ ghost use Rattle.run_answers.specs.Status.{input_status};
 ghost use Rattle.run_answers.specs.declared.status.Status.{Status as StatusOf};
 ghost use Rattle.run_answers.specs.declared.status.Status.TheVariants.{Done, Usage};
 ghost use Rattle.command_edge.specs.declared.fault.InputFault.{InputFault as InputFaultOf};
-ghost use Rattle.symnet_program.specs.Commands.{inputs, kind_of, list_style_of, sides_of, style_of, work};
+ghost use Rattle.symnet_program.specs.Commands.{detail_of, inputs, kind_of, list_style_of, sides_of, style_of, work};
 ghost use Rattle.symnet_program.specs.Headline.{TellsJob};
 ghost use Rattle.symnet_program.specs.Program.{Cause, IsAnswered, IsCaused, MayWrite, RefusesInput, Shown};
 ghost use Rattle.symnet_program.specs.Told.{MayBeUnread};
@@ -22,12 +22,13 @@ use ask_command::Ask;
 use click_command::ClickModel;
 use command_edge::{Ending, FILE_LIMIT, Stop};
 use command_runs::{Both, ByteFile, Piece, run};
-use command_words::{Command, FilterStyle, LIMIT, Pruned, Style, Table, reading};
+use command_words::{Command, FilterStyle, LIMIT, Open, Pruned, Style, Table, reading};
+use compare_command::{BothJobs, Compare};
 use explore_command::laws::finished_reports_tell_all;
 use explore_command::{Explore, RecordLimit, RefutedSides};
 use grow_command::{Grow, GrownJob};
 use job_files::JobFile;
-use loops_command::Loops;
+use loops_command::{Loops, OpenPaths};
 use model_command::TableModel;
 use replay_command::{REPORT_LIMIT, Replay};
 use run_answers::laws::worlds_decide;
@@ -43,6 +44,15 @@ fn sides_of(pruned: Pruned) -> RefutedSides
     match pruned {
         Pruned::All => RefutedSides::Written,
         Pruned::Count => RefutedSides::Counted,
+    }
+}
+
+fn detail_of(detail: Open) -> OpenPaths
+    ensures { result ≡ detail_of detail }
+{
+    match detail {
+        Open::Numbers => OpenPaths::Numbers,
+        Open::Visits => OpenPaths::Visits,
     }
 }
 
@@ -144,9 +154,22 @@ fn run_command<F: Folder, P: Patterns, K: Sink>(
             });
             run(alloc, &command, folder, patterns, out)
         }
-        Command::Loops { job, hops } => {
+        Command::Loops { job, hops, open } => {
             let command = Piece(Loops {
                 source: JobFile { name: job },
+                hops,
+                limit: RecordLimit::new(LIMIT),
+                detail: detail_of(open),
+            });
+            run(alloc, &command, folder, patterns, out)
+        }
+        Command::Compare { job, other, hops } => {
+            let source = BothJobs {
+                left: JobFile { name: job },
+                right: JobFile { name: other },
+            };
+            let command = Piece(Compare {
+                source,
                 hops,
                 limit: RecordLimit::new(LIMIT),
             });

@@ -10,7 +10,10 @@ use Rattle.explore_command.specs.Explores.{explore_work}
 use Rattle.acl_command.specs.declared.model.ListStyle.{ListStyle}
 use Rattle.acl_command.specs.Commands.{AclComes}
 use Rattle.ask_command.specs.Asks.{AskComes}
+use Rattle.command_words.specs.declared.command.TheConstants.{LIMIT}
 use Rattle.loops_command.specs.Loops.{LoopsComes}
+use Rattle.loops_command.specs.declared.text.OpenPaths.{OpenPaths}
+use Rattle.compare_command.specs.Compares.{CompareComes}
 use Rattle.model_command.specs.Models.{ModelComes}
 use Rattle.symnet_program.specs.Commands.{kind_of}
 use Rattle.symnet_program.proofs.program.run_command.Goals as goal
@@ -45,10 +48,20 @@ returns-in-Ask-clause-ran g c =
 
 pub returns-in-Loops-clause-ran : goal.returns-in-Loops-clause-ran
 returns-in-Loops-clause-ran g c =
-    rw (c.in-Loops.is) (subst (λ (limit : ℕ). Runs (g.K.Sink.told c.args.out.now).taken (g.K.Sink.told c.run-in-Loops.new.out).taken
+    rw (c.in-Loops.is) (subst (λ (detail : OpenPaths). Runs (g.K.Sink.told c.args.out.now).taken (g.K.Sink.told c.run-in-Loops.new.out).taken
     (outside (g.F.Folder.told c.args.folder.now).files g.P.Patterns.told g.P.Patterns.find_gives)
-    c.args.patterns.now c.run-in-Loops.new.patterns (a_job c.in-Loops.job.now ∷ []) (one_piece (LoopsComes c.in-Loops.hops limit)) c.run-in-Loops.result) c.new-in-Loops.ensures
-    c.run-in-Loops.ensures.ran)
+    c.args.patterns.now c.run-in-Loops.new.patterns (a_job c.in-Loops.job.now ∷ []) (one_piece (LoopsComes c.in-Loops.hops LIMIT detail)) c.run-in-Loops.result) c.detail_of.ensures
+    (subst (λ (limit : ℕ). Runs (g.K.Sink.told c.args.out.now).taken (g.K.Sink.told c.run-in-Loops.new.out).taken
+    (outside (g.F.Folder.told c.args.folder.now).files g.P.Patterns.told g.P.Patterns.find_gives)
+    c.args.patterns.now c.run-in-Loops.new.patterns (a_job c.in-Loops.job.now ∷ []) (one_piece (LoopsComes c.in-Loops.hops limit c.detail_of.result)) c.run-in-Loops.result) c.new-in-Loops.ensures
+    c.run-in-Loops.ensures.ran))
+
+pub returns-in-Compare-clause-ran : goal.returns-in-Compare-clause-ran
+returns-in-Compare-clause-ran g c =
+    rw (c.in-Compare.is) (subst (λ (limit : ℕ). Runs (g.K.Sink.told c.args.out.now).taken (g.K.Sink.told c.run-in-Compare.new.out).taken
+    (outside (g.F.Folder.told c.args.folder.now).files g.P.Patterns.told g.P.Patterns.find_gives)
+    c.args.patterns.now c.run-in-Compare.new.patterns (a_job c.in-Compare.job.now ∷ a_job c.in-Compare.other.now ∷ []) (one_piece (CompareComes c.in-Compare.hops limit)) c.run-in-Compare.result) c.new-in-Compare.ensures
+    c.run-in-Compare.ensures.ran)
 
 pub returns-in-Model-clause-ran : goal.returns-in-Model-clause-ran
 returns-in-Model-clause-ran g c =

@@ -1,0 +1,40 @@
+//! The command `compare`.
+
+ghost use Rattle.compare_command.specs.Compares.{CompareComes};
+
+use crate::comparing::text_of_comparison;
+use crate::jobs::{BothJobs, Jobs};
+use command_edge::{Ending, OwnFault};
+use command_runs::OnePiece;
+use explore_command::RecordLimit;
+use std::alloc::Global;
+
+/// Whether two jobs of one injection deliver the same, from one exploration of each with so many hops and so many records.
+#[derive(Clone, Copy)]
+pub struct Compare<'a> {
+    pub source: BothJobs<'a>,
+    pub hops: u32,
+    pub limit: RecordLimit,
+}
+
+impl<'a> OnePiece for Compare<'a> {
+    type From = BothJobs<'a>;
+
+    ghost source = { λ c. c.source };
+
+    ghost comes = { λ c. CompareComes c.hops c.limit };
+
+    fn source(&self) -> &BothJobs<'a> {
+        &self.source
+    }
+
+    fn text(&self, alloc: Global, given: Jobs) -> Result<(Ending, String), OwnFault> {
+        text_of_comparison(
+            alloc,
+            &given.left,
+            &given.right,
+            self.hops,
+            self.limit.count(),
+        )
+    }
+}

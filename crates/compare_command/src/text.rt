@@ -1,0 +1,138 @@
+//! The text of a comparison.
+
+ghost use Rattle.std.specs.Prelude.{◌≡◌, string_bytes, IfOk};
+ghost use Rattle.compact_json.specs.Tokens.{Gains};
+ghost use Rattle.ask_command.specs.Texts.{counts_data};
+ghost use Rattle.net_compare.specs.Saying.{compared_seen};
+ghost use Rattle.compare_command.specs.Texts.{compared_data, compared_text, other_data, partial_data, partial_text, side_of, unknown_data, word_data};
+
+use compact_json::JsonText;
+use compact_json::laws::objects_are_written;
+use net_compare::Compared;
+use run_text::write_values;
+use sn_width::{NoMemory, Num};
+use std::alloc::Global;
+
+/// The room that a text has at the start, in bytes.
+const ROOM: usize = 1024;
+
+/// An answer that is one word.
+fn write_word(out: &mut JsonText, word: &str) -> Result<(), NoMemory>
+    ensures { Gains (word_data word.now) result out.old out.new }
+{
+    objects_are_written();
+    out.begin_object()?;
+    out.key("answer")?;
+    out.string(word)?;
+    out.key("symnet")?;
+    out.count(1)?;
+    out.end_object()?;
+    Ok(())
+}
+
+fn side_of(left: bool) -> &'static str
+    ensures { result.now ≡ side_of left }
+{
+    if left { "left" } else { "right" }
+}
+
+/// The number of the path that delivers what the other net does not, its side, and the values.
+fn write_other(
+    alloc: Global,
+    out: &mut JsonText,
+    left: bool,
+    number: u64,
+    values: &[Num],
+) -> Result<(), NoMemory>
+    ensures { Gains (other_data left number values.now) result out.old out.new }
+{
+    objects_are_written();
+    out.begin_object()?;
+    out.key("answer")?;
+    out.string("other")?;
+    out.key("number")?;
+    out.count(number)?;
+    out.key("side")?;
+    out.string(side_of(left))?;
+    out.key("symnet")?;
+    out.count(1)?;
+    out.key("values")?;
+    write_values(alloc, out, values)?;
+    out.end_object()?;
+    Ok(())
+}
+
+#[tactic(auto, unfolding(ask_command::specs::Texts::counts_data))]
+fn write_numbers(out: &mut JsonText, numbers: &[u64]) -> Result<(), NoMemory>
+    ensures { Gains (counts_data numbers.now) result out.old out.new }
+{
+    out.begin_list()?;
+    for number in numbers {
+        out.count(*number)?;
+    }
+    out.end_list()?;
+    Ok(())
+}
+
+/// The numbers of the paths of each side of which it is not known.
+fn write_unknown(out: &mut JsonText, left: &[u64], right: &[u64]) -> Result<(), NoMemory>
+    ensures { Gains (unknown_data left.now right.now) result out.old out.new }
+{
+    objects_are_written();
+    out.begin_object()?;
+    out.key("answer")?;
+    out.string("unknown")?;
+    out.key("left")?;
+    write_numbers(out, left)?;
+    out.key("right")?;
+    write_numbers(out, right)?;
+    out.key("symnet")?;
+    out.count(1)?;
+    out.end_object()?;
+    Ok(())
+}
+
+fn write_compared(alloc: Global, out: &mut JsonText, compared: &Compared) -> Result<(), NoMemory>
+    ensures { Gains (compared_data (compared_seen compared.now)) result out.old out.new }
+{
+    match compared {
+        Compared::Same => write_word(out, "same"),
+        Compared::Other {
+            left,
+            number,
+            values,
+        } => write_other(alloc, out, *left, *number, values.as_slice()),
+        Compared::Unknown { left, right } => write_unknown(out, left, right),
+    }
+}
+
+/// The answer as one line of JSON, keys ascending, with a line feed at its end.
+#[tactic(auto, unfolding(crate::specs::Texts::compared_text))]
+pub fn compared_text(alloc: Global, compared: &Compared) -> Result<String, NoMemory>
+    ensures { IfOk result (λ text. string_bytes text ≡ compared_text (compared_seen compared.now)) }
+{
+    let mut out = JsonText::with_capacity(alloc, ROOM)?;
+    write_compared(alloc, &mut out, compared)?;
+    let mut text = out.into_text();
+    text.push('\n')?;
+    Ok(text)
+}
+
+#[tactic(auto, unfolding(crate::specs::Texts::partial_data))]
+fn write_partial(out: &mut JsonText) -> Result<(), NoMemory>
+    ensures { Gains partial_data result out.old out.new }
+{
+    write_word(out, "partial")
+}
+
+/// The line where something of a job is left out.
+#[tactic(auto, unfolding(crate::specs::Texts::partial_text))]
+pub(crate) fn partial_text(alloc: Global) -> Result<String, NoMemory>
+    ensures { IfOk result (λ text. string_bytes text ≡ partial_text) }
+{
+    let mut out = JsonText::with_capacity(alloc, ROOM)?;
+    write_partial(&mut out)?;
+    let mut text = out.into_text();
+    text.push('\n')?;
+    Ok(text)
+}
