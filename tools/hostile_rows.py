@@ -25,6 +25,7 @@ RUNS = [
     ("tables", "their report is confirmed", ["job", "macs", "report"], "counts"),
     ("tables", "their questions are answered", ["job", "macs"], "answers"),
     ("loops", "a ring goes round for ever", ["ring"], "loops"),
+    ("compare", "the other job delivers one time to live less", ["first", "second"], "compared"),
     ("model", "three prefixes, grouped", ["prefixes"], "fib"),
     ("model", "addresses, grouped", ["addresses"], "mac"),
     ("click", "outputs of a tee", ["tee"], "click"),

@@ -131,6 +131,7 @@ RUNS = [
     ("replay", "two paths"),
     ("click", "each primitive"),
     ("loops", "a ring goes round for ever"),
+    ("compare", "the other job delivers one time to live less"),
     ("model", "three prefixes, grouped"),
     ("model", "addresses in style egress"),
     ("acl", "rules in style chain"),

@@ -42,11 +42,22 @@ class Fate:
 
 
 @dataclass(frozen=True)
+class Visit:
+    """An earlier visit of the last port of a cut path that shows no loop: its place, why, and the values or the cause."""
+
+    place: int
+    why: str
+    values: Tuple[int, ...] = ()
+    cause: str = ""
+
+
+@dataclass(frozen=True)
 class Loops:
-    """Cut paths by the numbers of their records: those that go round for ever, each with the place where a round begins, and the others."""
+    """Cut paths by the numbers of their records: those that go round for ever, each with the place where a round begins, and the others, each with
+    its visits where they are told."""
 
     first: Dict[int, int]
-    open: Tuple[int, ...]
+    open: Dict[int, Tuple[Visit, ...]]
 
 
 @dataclass(frozen=True)
@@ -94,10 +105,29 @@ def read_asked(whole: dict) -> List[Answer]:
     return [_each("answer", number, _asked, answer) for number, answer in enumerate(_list(whole["answers"]))]
 
 
+def _visit(visit: dict) -> Visit:
+    place, why = _count(visit["place"]), visit["why"]
+    if why in ("choice", "layout"):
+        return Visit(place, why)
+    if why == "cell":
+        return Visit(place, why, values=_values(visit["values"]))
+    if why == "unknown" and isinstance(visit["cause"], str):
+        return Visit(place, why, cause=visit["cause"])
+    raise NotAnswer(f"{why!r} is none of choice, layout, cell and unknown")
+
+
+def _open(path: object) -> Tuple[int, Tuple[Visit, ...]]:
+    """A path without a loop: its number alone, or with its visits."""
+    if isinstance(path, dict):
+        return _count(path["number"]), tuple(_visit(visit) for visit in _list(path["visits"]))
+    return _count(path), ()
+
+
 def read_loops(whole: dict) -> Loops:
     """The answer of `loops`."""
     try:
-        return Loops({_count(loop["number"]): _count(loop["first"]) for loop in _list(whole["loops"])}, _counts(whole["open"]))
+        first = {_count(loop["number"]): _count(loop["first"]) for loop in _list(whole["loops"])}
+        return Loops(first, dict(_open(path) for path in _list(whole["open"])))
     except (KeyError, TypeError, NotAnswer) as error:
         raise NotAnswer(f"the answer of loops has not its form: {error!r}") from None
 
@@ -254,14 +284,23 @@ def _records(numbers: Sequence[int]) -> str:
     return f"{'record' if len(numbers) == 1 else 'records'} {', '.join(map(str, numbers))}"
 
 
-def loops_lines(loops: Loops, cut_paths: Optional[Dict[int, Tuple[str, ...]]]) -> List[str]:
-    """Each cut path: the ports of one round, where the cut paths of the report are given with their places, or that it is only cut."""
+def _visit_lines(visit: Visit, job: Optional[Job]) -> List[str]:
+    """Why an earlier visit shows no loop, with the packet that shows it."""
+    why = {"choice": "a value was chosen after it", "layout": "other tags or cells were there", "cell": "a cell had another value, as with the packet",
+           "unknown": f"it is undecided whether a cell had another value ({visit.cause})"}[visit.why]
+    return [f"  at place {visit.place} {why}", *(packet_lines(visit.values, job, "    ") if visit.values else [])]
+
+
+def loops_lines(loops: Loops, cut_paths: Optional[Dict[int, Tuple[str, ...]]], job: Optional[Job] = None) -> List[str]:
+    """Each cut path: the ports of one round, where the cut paths of the report are given with their places; or that it is only cut, with what
+    differed at each earlier visit of its last port."""
     lines = []
     for number in sorted([*loops.first, *loops.open]):
         if cut_paths is not None and number not in cut_paths:
             raise NotAnswer(f"record {number} of the report is no path that is cut: the answer is of another job or other hops, or the report was made with --pruned count")
         if number not in loops.first:
             lines.append(f"record {number}: only cut; no round was found, and more hops may show where it ends")
+            lines += [line for visit in loops.open[number] for line in _visit_lines(visit, job)]
             continue
         first = loops.first[number]
         if cut_paths is None:

@@ -220,7 +220,7 @@ def shown(text: Union[str, bytes], inputs: Inputs, with_pruned: bool = False) ->
     if "rules" in whole:
         return "\n".join(rules_lines(read_rules(whole, inputs.rules), inputs.rules))
     if "loops" in whole:
-        return "\n".join(loops_lines(read_loops(whole), inputs.cut_paths()))
+        return "\n".join(loops_lines(read_loops(whole), inputs.cut_paths(), inputs.job))
     if "answer" in whole:
         return "\n".join(compared_lines(read_compared(whole), inputs.job))
     return table(_report(whole), with_pruned, inputs.job)

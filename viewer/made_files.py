@@ -45,6 +45,8 @@ RING_REPORT = report([
     path(["else", "else", "else"], ["in a.0", "out a.0", "in b.0", "out b.1", "in c.0", "out c.0", "in c.0", "out c.0", "in c.0"], "cut", [3, 0]),
 ], hops=4)
 RING_LOOPS = written({"loops": [{"first": 4, "number": 0}], "open": [3], "symnet": 1})
+RING_VISITS = written({"loops": [{"first": 4, "number": 0}], "open": [{"number": 3, "visits": [
+    {"place": 4, "values": [3, 0], "why": "cell"}, {"place": 6, "why": "layout"}]}], "symnet": 1})
 
 # Two rules that decide and one that is hidden by one of them; then halves of all addresses, which hide what is behind them.
 LIST = ("# a border\n"
@@ -128,6 +130,7 @@ BAD_ANSWERS = {
     "step.rules": (written({"rules": [DECIDING[0], {"cover": [7], "rule": "hidden"}], "symnet": 1}), "rule 1"),
     "loops.json": ('{"loops":[{"first":1}],"open":[],"symnet":1}', "answer of loops"),
     "open.json": ('{"loops":[],"open":["x"],"symnet":1}', "answer of loops"),
+    "visits.json": ('{"loops":[],"open":[{"number":3,"visits":[{"place":4,"why":"mood"}]}],"symnet":1}', "answer of loops"),
     "no-open.json": ('{"loops":[],"symnet":1}', "answer of loops"),
     "compared.json": ('{"answer":"maybe","symnet":1}', "answer of compare"),
     "side.json": ('{"answer":"other","number":1,"side":"up","symnet":1,"values":[]}', "answer of compare"),
