@@ -165,8 +165,9 @@ class Run:
             return True
         lines = [b"symnet: out of memory", b"symnet: cannot read ", b"symnet: cannot write", b"symnet: no file "]
         line = {1: lines[0], 3: lines[3], 4: lines[1], 5: lines[2]}.get(status if status in statuses else -1)
-        # Nothing is left to say of a place where memory is refused, so one line stands there alone.
-        return line is not None and error.startswith(line) and error.count(b"\n") == 1 and self.normal[1].startswith(output)
+        # Where memory is refused nothing is left to say, so one line stands there alone; below the others stand words for people.
+        is_told = line is not None and error.startswith(line) and (status != 1 or error.count(b"\n") == 1)
+        return is_told and self.normal[1].startswith(output)
 
     def refusals(self):
         """What is asked of the library, one run after another, and the statuses that it may lead to."""
