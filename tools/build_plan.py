@@ -6,7 +6,7 @@ from pathlib import Path
 # The processor seconds that the proof of each crate took, measured once, and those of a crate that is not there.
 SECONDS = Path(__file__).resolve().parent / "build_seconds.txt"
 OTHER = 40.0
-# So many planned seconds pass before the pace of this machine counts for as much as that of the machine that was measured.
+# After this many planned seconds the pace of this machine counts for as much as that of the machine that was measured.
 TRUST = 60.0
 
 
@@ -48,7 +48,7 @@ def chains(seconds, below):
 
 
 def seconds_left(seconds, below, at_work, lanes):
-    """How long it takes to prove crates on so many lanes: those at work first, then whichever is ready with the longest chain behind it.
+    """How long it takes to prove crates on this many lanes: those at work first, then whichever is ready with the longest chain behind it.
     `seconds` has what is left of each crate, lowest first."""
     chain = chains(seconds, below)
     waiting = sorted((it for it in seconds if it not in at_work), key=lambda it: -chain[it])
