@@ -14,7 +14,7 @@ module _ (net : Network) (i : Entry) (hops : ℕ) (rs : List RecordTree) where
     pub holds : IsTrueOf net i hops q rs outcome
     pub is : reply ≡ reply_of q outcome
 
-  -- one for each question
+  -- what each reply tells of its question is true
   abbrev pub AreTrueReplies : List Question → List Reply → Type 0
   AreTrueReplies [] [] = Unit {0}
   AreTrueReplies [] (reply ∷ replies) = ⊥

@@ -25,11 +25,12 @@ module _ (net : Network) (i : Entry) (hops : ℕ) where
   abbrev pub HasSameWalks : ℕ → Type 0
   HasSameWalks more = (v : List ℕ) (s : Carried ℕ) → Starts net i v s → passages_from net i v more s ≡ passages_from net i v hops s
 
-  -- Where no record was cut, the walks are the same under every larger bound, and the records are exact for it.
+  -- so it is under this bound, and the records are exact for it
   pub record GoBeyond (limit : ℕ) (rs : List RecordTree) (more : ℕ) : Type 0 where
     pub walks : HasSameWalks more
     pub exact : AreExactFor net i more limit rs
 
+  -- where no record was cut, so it is under every larger bound
   abbrev pub UncutRecordsGoBeyond : Type 0
   UncutRecordsGoBeyond = (limit : ℕ) (rs : List RecordTree) → AreExactFor net i hops limit rs → AllUncut rs
       → (more : ℕ) → hops ≤ more → GoBeyond limit rs more
