@@ -27,14 +27,10 @@ MADE = {"examples": examples.table, "outside": hostile_rows.outside, "prefixes":
 SAID = "{}.rows: each row ended as wanted\n"
 
 
-def by_hand():
-    return [it for it in row_tables.names() if it not in MADE]
-
-
 def copied():
     """The files of examples/ that the tables name: where each stands, and where its copy for the tables does."""
-    named = {line.split("from ", 1)[1] for table in row_tables.names() for line in row_tables.lines_of(table) if re.match(r"(times \d+ )?from ", line)}
-    return {TOP / it: DATA / it for it in sorted(named)}
+    lines = "\n".join(line for table in row_tables.names() for line in row_tables.lines_of(table))
+    return {TOP / it: DATA / it for it in sorted(set(re.findall(r"^(?:times \d+ )?from (examples/.+)$", lines, re.MULTILINE)))}
 
 
 # ---- what came
@@ -53,7 +49,7 @@ def came(program, row):
             except OSError:
                 return None
         ran = subprocess.run([program, *row.words], cwd=folder, stdin=subprocess.DEVNULL, stdout=subprocess.PIPE, stderr=subprocess.PIPE, check=False)
-    return ran.returncode, ran.stderr.decode().split("\n", 1)[0], ran.stdout
+    return ran.returncode, ran.stderr.decode(errors="replace").split("\n", 1)[0], ran.stdout
 
 
 def update_table(program, table):
@@ -74,7 +70,8 @@ def update_table(program, table):
 def update(program):
     for told in examples.run(program):
         print(f"rows: examples: {told}")
-    for table in by_hand():
+    copy_examples()
+    for table in (it for it in row_tables.names() if it not in MADE):
         update_table(program, table)
     return make()
 
@@ -85,6 +82,11 @@ def update(program):
 def make():
     for name, made in MADE.items():
         (DATA / f"{name}.rows").write_text(made())
+    copy_examples()
+    return 0
+
+
+def copy_examples():
     wanted = copied()
     for old in (DATA / "examples").rglob("*"):
         if old.is_file() and old not in wanted.values():
@@ -92,7 +94,6 @@ def make():
     for file, copy in wanted.items():
         copy.parent.mkdir(parents=True, exist_ok=True)
         copy.write_bytes(file.read_bytes())
-    return 0
 
 
 def faults():
