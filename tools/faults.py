@@ -145,7 +145,7 @@ CASES = [
     ("explore job", job(TWO_TABLES, **{"sw.mac": MAC + LONG_COMMENT, "two.mac": LONG_COMMENT + "ports\n"}),
      "symnet: bad table two.mac:2 1\ntwo.mac:2:1:\nports\n^\n" + ROW),
     ("explore job", job(TWO_TABLES, **{"sw.mac": MAC + LONG_COMMENT, "two.mac": "ports 1\n" + LONG_COMMENT}),
-     "symnet: refused at 9 3\nthe node has no such port; ports are numbered from 0\n"),
+     "symnet: refused at 12 3\nthe node has no such port; ports are numbered from 0\n"),
     ("model click c", {"c": "a :: Tee;\nb :: Tree;\n"},
      "symnet: bad table c:2 4\nc:2:1:\nb :: Tree;\n^\nthere is no class of this name\n"),
     ("rules list", {"list": LIST},
@@ -200,7 +200,7 @@ EXPECTED = [
     ("symnet 2; node a 1 -> 1 { in 0 { if $v:8 ==", "a value"),
     ("symnet 2; node a 1 -> 1 { in 0 { set", "a field"),
     ("symnet 2; node a 1 -> 1 { in 0 { set $v:8 =", "a value"),
-    ("symnet 2; node a 1 -> 1 { in 0 { if [", "a condition or `[`"), ("symnet 2; node a 1 -> 1 { in 0 { if [ true", "`and`, `or` or `]`"),
+    ("symnet 2; node a 1 -> 1 { in 0 { if [", "a condition"), ("symnet 2; node a 1 -> 1 { in 0 { if [ true", "`and`, `or` or `]`"),
     ("symnet 2; node a 1 -> 1 { in 0 { set $v:8 = ( 1", "`+`, `-` or `)`"), ("symnet 2; node a 1 -> 1 { in 0 { set $v", "`:`"),
     ("symnet 2; node a 1 -> 1 { in 0 { set $v:", "a number from 1 to 128"),
     ("symnet 2; node a 1 -> 1 { in 0 { set head L3 +", "a number of at most 1,048,576"),
@@ -251,7 +251,7 @@ LAST = [
     ("walk job packet", job(JOB, packet="10"), "symnet: bad packet 3",
      "a `where` of the injection is not true of this packet: change the packet, or the `where`"),
     ("explore job", job(changed("r.7", "r.0", changed("sw.1", "sw.5", TABLE)), **{"sw.mac": MAC}), "symnet: refused at 9 3",
-     "the node has no such port; ports are numbered from 0"),
+     "port 5: box sw has 2 output ports, numbered from 0"),
     ("explore job --limit 1", job(JOB), "symnet: partial", f"what is written is right as far as it goes: for the rest raise `--limit`, or {NARROW}"),
     ("ask job", job(MANY), "symnet: partial", f"the exploration ended at 10,000 records; yes and no are right: for the rest {NARROW}"),
     ("loops job", job(MANY), "symnet: partial", f"the exploration ended at 10,000 records, and more paths may be cut: {NARROW}"),
@@ -269,7 +269,7 @@ LAST = [
      "a file has at most 67,108,864 bytes, and that of a report 268,435,456: split it, or explore with `--pruned count`"),
     ("model mac m", {"m": "ports 1\n" + "02:00:00:00:00:01 0\n" * 32_769}, "symnet: bad table m:32770 3",
      "a MAC table has at most 32,768 rows, a forwarding table 200,000: use fewer, or two boxes"),
-    ("model click c", {"c": ELEMENTS + "b :: Tee\n"}, "symnet: bad table c:2 1", "a statement does not go on so, or is not ended by `;`"),
+    ("model click c", {"c": ELEMENTS + "b :: Tee c;\n"}, "symnet: bad table c:2 1", "a statement does not go on so, or is not ended by `;`"),
     ("model click c", {"c": ELEMENTS + "a :: Tee;\n"}, "symnet: bad table c:2 2", "an earlier statement declares this name"),
     ("model click c", {"c": "".join(f"a{number} :: Discard;\n" for number in range(10_001))}, "symnet: bad table c:10001 3",
      "a configuration has at most 10,000 elements"),
@@ -306,12 +306,12 @@ def changed_reports(program):
 
 
 def last(said):
-    return said.splitlines()[-1]
+    return said.splitlines()[-1] if said else ""
 
 
 def ends(said):
     """The first line and the last."""
-    return said.splitlines()[0], last(said)
+    return said.split("\n")[0], last(said)
 
 
 def cases(program):

@@ -14,12 +14,13 @@ MEMBER = re.compile(r'([\[,])(?={"(?:before|decisions|answer|cover|rule|number)"
 
 @dataclass
 class Row:
-    """A row, and the numbers of its lines from 0: by the keys of its lines, and of the pieces of its output, each with its bytes."""
+    """A row, and the numbers of its lines from 0: by the keys of its lines, and of the pieces of its output, each with its bytes. One that says
+    what fails outside or what patterns find is staged."""
 
     name: str
     words: List[str] = field(default_factory=list)
     files: Dict[str, bytes] = field(default_factory=dict)
-    is_failing: bool = False
+    is_staged: bool = False
     status: int = 0
     error: str = ""
     lines: Dict[str, int] = field(default_factory=dict)
@@ -86,8 +87,8 @@ def read(table: str) -> Dict[str, Row]:
             row.status = int(rest)
         elif key == "error":
             row.error = rest
-        elif key == "failing":
-            row.is_failing = True
+        elif key in {"failing", "bad", "finds"}:
+            row.is_staged = True
         if key in {"text", "file"}:
             place[0][rest] = b""
         elif key in {"status", "error", "output"}:

@@ -56,7 +56,7 @@ def update_table(program, table):
     """Writes how the rows of a table end, and says how many changed and which were not run."""
     lines, rows = row_tables.lines_of(table), list(row_tables.read(table).values())
     with ThreadPoolExecutor() as pool:
-        ends = list(pool.map(lambda row: None if row.is_failing else came(program, row), rows))
+        ends = list(pool.map(lambda row: None if row.is_staged else came(program, row), rows))
     changed = 0
     for row, end in reversed(list(zip(rows, ends))):
         if end is not None and end != (row.status, row.error, row.output):
@@ -64,7 +64,7 @@ def update_table(program, table):
             changed += 1
     (DATA / f"{table}.rows").write_text("\n".join(lines))
     skipped = sum(end is None for end in ends)
-    print(f"rows: {table}: {changed} of {len(rows)} changed" + (f", {skipped} not run, which the system cannot be made to end so" if skipped else ""))
+    print(f"rows: {table}: {changed} of {len(rows)} changed" + (f", {skipped} not run, since they say what fails outside or what patterns find" if skipped else ""))
 
 
 def update(program):
