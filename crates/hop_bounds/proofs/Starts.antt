@@ -1,5 +1,5 @@
 -- What is explored under a larger bound of hops.
-use Rattle.std.proofs.Common.{◌≡◌, ◌≤◌, ℕ, List, refl, sym, ap, subst, Result, Ok, Err}
+use Rattle.std.proofs.Common.{◌≡◌, ◌≤◌, ◌∙◌, ℕ, List, refl, sym, ap, subst, Result, Ok, Err}
 use Rattle.sn_width.specs.declared.faults.LayoutFault.{LayoutFault}
 use Rattle.cell_stacks.specs.Outcome.{and_then, on_ok}
 use Rattle.sefl_meaning.specs.Values.{Values}
@@ -10,14 +10,18 @@ use Rattle.sefl_meaning.specs.Runs.{starting}
 use Rattle.sefl_meaning.specs.Start.{Start, start_from, start_of, tests_in, tree_from}
 use Rattle.hop_bounds.proofs.Longer.{Longer, longer_enter}
 
-ok_same : {A : Type 0} {x y : A} → Ok {A} {LayoutFault} x ≡ Ok y → x ≡ y
-ok_same e = cc e
+abbrev or_else : {A : Type 0} → A → Result A LayoutFault → A
+or_else none (Ok x) = x
+or_else none (Err fault) = none
+
+ok_same : {A : Type 0} (x y : A) (r : Result A LayoutFault) → r ≡ Ok x → r ≡ Ok y → x ≡ y
+ok_same x y r h k = ap (or_else x) (sym h ∙ k)
+
+clash : {A : Type 0} (fault : LayoutFault) (x : A) (r : Result A LayoutFault) → r ≡ Err fault → r ≡ Ok x → ⊥
+clash fault x r failed is = cc
 
 no_error : {A C : Type 0} (fault : LayoutFault) (x : A) → Err fault ≡ Ok x → C
-no_error fault x e = absurd (clash fault x e)
-  where
-    clash : {A : Type 0} (fault : LayoutFault) (x : A) → Err fault ≡ Ok x → ⊥
-    clash fault x e = cc e
+no_error fault x e = absurd (clash fault x (Err fault) refl e)
 
 module _ {V F : Type 0} (o : Values V F) (net : Network) (i : Entry) (hops more : ℕ) (least : hops ≤ more) where
   -- the same start, but for a tree that goes on where that of the other is cut
@@ -35,7 +39,7 @@ module _ {V F : Type 0} (o : Values V F) (net : Network) (i : Entry) (hops more 
       → Goes start (on_ok (made more s) result)
   with_tests s (Err fault) start e = no_error fault start e
   with_tests s (Ok fs) start e =
-      subst (λ (x : Start V F). Goes x (on_ok (made more s) (Ok fs))) (ok_same e)
+      subst (λ (x : Start V F). Goes x (on_ok (made more s) (Ok fs))) (ok_same (made hops s fs) start (Ok (made hops s fs)) refl e)
       (record {
         further = made more s fs;
         is = refl;
