@@ -1,5 +1,5 @@
 -- A tree that goes on where another one is cut: every route that is not cut is a route of both.
-use Rattle.std.proofs.Common.{◌≡◌, ◌≤◌, ◌⊎◌, ℕ, zero, suc, inl, inr, Bool, true, false, List, [], ◌∷◌, ◌++◌, refl, sym, ap, subst, ◌∙◌, arith, Option, Some, None, option_map}
+use Rattle.std.proofs.Common.{◌≡◌, ◌≤◌, ◌⊎◌, ℕ, zero, suc, inl, inr, Bool, true, false, List, [], ◌∷◌, ◌++◌, refl, sym, ap, subst, arith, Option, Some, None, option_map}
 use Rattle.sn_width.specs.declared.ids.NodeId.{NodeId}
 use Rattle.sefl_syntax.specs.declared.net.Side.TheVariants.{Inward, Outward}
 use Rattle.sefl_meaning.specs.declared.walk.Decision.{Decision}
@@ -9,7 +9,6 @@ use Rattle.sefl_meaning.specs.declared.walk.End.TheVariants.{Cut}
 use Rattle.sefl_meaning.specs.Values.{Values}
 use Rattle.sefl_meaning.specs.Network.{Network, link_of}
 use Rattle.sefl_meaning.specs.Runs.{Exit, off, go, forked, failed}
-use Rattle.sefl_meaning.specs.Walks.{place_at}
 use Rattle.sefl_meaning.specs.Courses.{Asking, Course, Progress, ends, asks}
 use Rattle.sefl_meaning.specs.Trees.{Copies, Onward, Tree, over, arrives, tests, splits, no_copies, copy_and, copies, crossed, enter, leave, passed, port_course, then_tree}
 use Rattle.sefl_meaning.specs.Routes.{IsOpen, Route, arriving, by_number, by_truth, copy_route, number_of, route, taking, truth_of, waiting}
@@ -78,9 +77,9 @@ module _ {V F : Type 0} where
 
   arrives_so : (place : Place) (p : Progress V) (way other : Option (Route V F)) → GoesSo way other
       → GoesSo (option_map (arriving place p) way) (option_map (arriving place p) other)
-  arrives_so place p way other go r e uncut =
+  arrives_so place p way other next r e uncut =
       let m = mapped_some (arriving place p) way r e in
-      let w = go m.0 m.1 (λ cut. uncut (subst (λ (x : Route V F). IsAtCut x.left) m.2 cut)) in
+      let w = next m.0 m.1 (λ cut. uncut (subst (λ (x : Route V F). IsAtCut x.left) m.2 cut)) in
       subst (λ (x : Route V F). SameWay (option_map (arriving place p) other) x) m.2
       (record {
         same = arriving place p w.same;
@@ -92,9 +91,9 @@ module _ {V F : Type 0} where
 
   takes_so : (test : F) (truth : Bool) (way other : Option (Route V F)) → GoesSo way other
       → GoesSo (option_map (taking test truth) way) (option_map (taking test truth) other)
-  takes_so test truth way other go r e uncut =
+  takes_so test truth way other next r e uncut =
       let m = mapped_some (taking test truth) way r e in
-      let w = go m.0 m.1 (λ cut. uncut (subst (λ (x : Route V F). IsAtCut x.left) m.2 cut)) in
+      let w = next m.0 m.1 (λ cut. uncut (subst (λ (x : Route V F). IsAtCut x.left) m.2 cut)) in
       subst (λ (x : Route V F). SameWay (option_map (taking test truth) other) x) m.2
       (record {
         same = taking test truth w.same;
@@ -106,14 +105,14 @@ module _ {V F : Type 0} where
 
   by_truth_so : (o : Option Bool) (test : F) (held broken h b : Option (Route V F)) → GoesSo held h → GoesSo broken b
       → GoesSo (by_truth o test held broken) (by_truth o test h b)
-  by_truth_so None test held broken h b go_held go_broken r e uncut = not_some r e
-  by_truth_so (Some true) test held broken h b go_held go_broken r e uncut = takes_so test true held h go_held r e uncut
-  by_truth_so (Some false) test held broken h b go_held go_broken r e uncut = takes_so test false broken b go_broken r e uncut
+  by_truth_so None test held broken h b k_held k_broken r e uncut = not_some r e
+  by_truth_so (Some true) test held broken h b k_held k_broken r e uncut = takes_so test true held h k_held r e uncut
+  by_truth_so (Some false) test held broken h b k_held k_broken r e uncut = takes_so test false broken b k_broken r e uncut
 
   by_number_so : (o : Option ℕ) (copy other : ℕ → Option (Route V F)) → ((n : ℕ) → GoesSo (copy n) (other n))
       → GoesSo (by_number o copy) (by_number o other)
-  by_number_so None copy other go r e uncut = not_some r e
-  by_number_so (Some n) copy other go r e uncut = go n r e uncut
+  by_number_so None copy other next r e uncut = not_some r e
+  by_number_so (Some n) copy other next r e uncut = next n r e uncut
 
   mutual
     pub same_way : (t u : Tree V F) → Longer t u → (ds : List Decision) → GoesSo (route t ds) (route u ds)
