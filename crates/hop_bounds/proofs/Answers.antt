@@ -1,5 +1,5 @@
 -- What is right of a question over records that were not cut is right for every larger bound of hops.
-use Rattle.std.proofs.Common.{◌≡◌, ◌≤◌, ◌⊎◌, ℕ, suc, inl, inr, true, List, [], ◌∷◌, ◌++◌, length, map, refl, sym, ap, ap₂, subst, ◌∙◌}
+use Rattle.std.proofs.Common.{◌≡◌, ◌≤◌, ℕ, suc, inl, inr, true, List, [], ◌∷◌, map, sym, ap, ap₂, subst, ◌∙◌}
 use Rattle.std.specs.List.{AllByRecursion}
 use Rattle.lin_term.specs.Terms.{LinearTerm}
 use Rattle.refutation_check.specs.declared.outcome.Verdict.{Verdict}
@@ -10,9 +10,8 @@ use Rattle.sefl_meaning.specs.declared.walk.Place.{Place}
 use Rattle.sefl_meaning.specs.Network.{Network, Entry}
 use Rattle.sefl_meaning.specs.Carried.{Carried}
 use Rattle.sefl_meaning.specs.Fields.{Fields}
-use Rattle.sefl_meaning.specs.Injected.{Starts, passages_from, unknown_count}
+use Rattle.sefl_meaning.specs.Injected.{unknown_count}
 use Rattle.sefl_meaning.specs.Order.{Has}
-use Rattle.sefl_meaning.specs.Trees.{over}
 use Rattle.sefl_meaning.specs.Walks.{Passage}
 use Rattle.term_values.specs.TermValues.{terms}
 use Rattle.exact_records.specs.Records.{HasMeaning, IsPath, Leads, RecordTree, SymCondition, SymRoute, SymStart, SymTree, condition_on, decisions_of, path, pruned, unexplored, with_test}
@@ -21,10 +20,10 @@ use Rattle.exact_records.specs.Packets.{AreExactFor}
 use Rattle.question_meaning.specs.Answers.{IsRight, IsTrueHit, IsTrueOf}
 use Rattle.question_meaning.specs.Formulas.{asked_left, conditions_on, explored, formula_of, no_start, start_or}
 use Rattle.question_meaning.specs.Questions.{Question, reach, invariant, visible}
-use Rattle.question_meaning.specs.Sentences.{IsShownAt, NotShown, Sentence, Shown, ShowsIt, Walked}
+use Rattle.question_meaning.specs.Sentences.{IsShownAt, NotShown, Shown, ShowsIt, Walked}
 use Rattle.question_meaning.specs.Telling.{FirstMet, IsFirstHit, IsOutcome, IsUndecided, IsUnmet, Outcome, Saying, AreOpenBy, found, left_open, saying}
 use Rattle.hop_bounds.specs.Beyond.{AllUncut, GoBeyond, HasSameWalks, IsUncut}
-use Rattle.hop_bounds.proofs.Longer.{IsAtCut, Longer, same_over}
+use Rattle.hop_bounds.proofs.Longer.{Longer, same_over}
 use Rattle.hop_bounds.proofs.Records.{Both, both_ways, uncut_over}
 use Rattle.hop_bounds.proofs.Same.{all_behind, all_before, all_both, all_map, some_same}
 use Rattle.hop_bounds.proofs.Starts.{goes_further}
@@ -70,7 +69,7 @@ module _ {X : Type 0} (one other : Saying X) where
 -- ---- what walks show
 
 module _ (net : Network) (i : Entry) (hops more : ℕ) (same : HasSameWalks net i hops more) where
-  walked_further : Walked net i hops → Walked net i more
+  abbrev walked_further : Walked net i hops → Walked net i more
   walked_further x = record {
     packet = x.packet;
     carried = x.carried;
@@ -79,7 +78,7 @@ module _ (net : Network) (i : Entry) (hops more : ℕ) (same : HasSameWalks net 
     is = subst (λ (us : List Passage). Has us x.walk) (sym (same x.packet x.carried x.starts)) x.is;
   }
 
-  walked_before : Walked net i more → Walked net i hops
+  abbrev walked_before : Walked net i more → Walked net i hops
   walked_before x = record {
     packet = x.packet;
     carried = x.carried;

@@ -1,5 +1,5 @@
 -- Records of which none was cut are exact for every larger bound of hops.
-use Rattle.std.proofs.Common.{◌≡◌, ◌≤◌, ◌⊎◌, ◌↔◌, ℕ, inl, inr, Bool, true, List, [], ◌∷◌, ◌++◌, map, refl, sym, ap, ap₂, subst, ◌∙◌, Option, Some, None, Ok}
+use Rattle.std.proofs.Common.{◌≡◌, ◌≤◌, ◌⊎◌, ℕ, inl, inr, Bool, true, List, [], ◌∷◌, ◌++◌, map, refl, sym, ap, ap₂, subst, ◌∙◌, Option, Some, None}
 use Rattle.std.specs.List.{AllByRecursion}
 use Rattle.lin_term.specs.Terms.{LinearTerm}
 use Rattle.path_formula.specs.Formulas.{FormulaTree}
@@ -13,25 +13,23 @@ use Rattle.sefl_meaning.specs.declared.walk.End.{End}
 use Rattle.sefl_meaning.specs.declared.walk.End.TheVariants.{Cut}
 use Rattle.sefl_meaning.specs.declared.walk.Place.{Place}
 use Rattle.sefl_meaning.specs.Network.{Network, Entry}
-use Rattle.sefl_meaning.specs.Carried.{Carried}
 use Rattle.sefl_meaning.specs.Courses.{Progress}
 use Rattle.sefl_meaning.specs.Fields.{Fields}
-use Rattle.sefl_meaning.specs.Injected.{Starts, passages_from, unknown_count}
+use Rattle.sefl_meaning.specs.Injected.{passages_from, unknown_count}
 use Rattle.sefl_meaning.specs.Order.{BeginsWith, Has}
 use Rattle.sefl_meaning.specs.Routes.{IsOpen, route}
-use Rattle.sefl_meaning.specs.Start.{progress_of, start_of}
-use Rattle.sefl_meaning.specs.Trees.{Tree, over, tests}
+use Rattle.sefl_meaning.specs.Trees.{over, tests}
 use Rattle.sefl_meaning.specs.Walks.{Passage, Trail, shown}
 use Rattle.term_values.specs.TermValues.{terms}
 use Rattle.exact_records.specs.Records.{EndsAtTest, HasMeaning, HasVerdict, IsPath, IsPruned, IsPrunedSide, IsRefutedBy, IsVerdictOn, Leads, MayBe, MayPrecede, RecordTree, SymCondition, SymRoute, SymStart, SymTree, Takes, condition_on, decisions_of, first_condition, path, pruned, unexplored, with_test}
-use Rattle.exact_records.specs.Exact.{AllBegun, AreExact, ExactlyOne, IsBegun, IsCutOff, IsGood, IsShownOnce, IsTried, IsUnexplored, IsUnrefuted, IsWhole, SomeOne}
-use Rattle.exact_records.specs.Packets.{AreExactFor, HasWalk, IsExplored, IsShown, IsWalkOf, Shows}
+use Rattle.exact_records.specs.Exact.{AllBegun, AreExact, ExactlyOne, IsCutOff, IsGood, IsUnexplored, IsUnrefuted, IsWhole}
+use Rattle.exact_records.specs.Packets.{AreExactFor, HasWalk, Shows}
 use Rattle.exact_records.specs.Laws.{ExactRecordsShowWalks, PacketsTakeRoutes}
 use Rattle.hop_bounds.specs.Beyond.{AllUncut, GoBeyond, HasSameWalks, IsUncut}
-use Rattle.hop_bounds.proofs.Longer.{IsAtCut, Longer, SameWay, Waits, also_open, begins_open, same_over, same_progress, same_way, side_open, waits_before}
+use Rattle.hop_bounds.proofs.Longer.{IsAtCut, Longer, SameWay, also_open, begins_open, same_over, same_progress, same_way, side_open, waits_before}
 use Rattle.hop_bounds.proofs.Passages.{none_cut, same_enter}
 use Rattle.hop_bounds.proofs.Same.{all_behind, all_both, all_map, one_of, same_parent, some_same}
-use Rattle.hop_bounds.proofs.Starts.{Goes, goes_further}
+use Rattle.hop_bounds.proofs.Starts.{goes_further}
 
 -- ---- no walk of a packet is cut
 
@@ -112,7 +110,7 @@ module _ (s t : SymStart) (unknowns : t.unknowns ≡ s.unknowns) (fs : t.tests �
       let same : q ≡ b.other = some_same (sym also ∙ b.leads) in
       subst P b.condition (subst (λ (x : SymRoute). P (condition_on t x)) same h)
 
-  uncut_over : (r : SymRoute) (p : Progress LinearTerm) (end' : End) → r.left ≡ over p end' → (end' ≡ Cut → ⊥) → IsAtCut r.left → ⊥
+  pub uncut_over : (r : SymRoute) (p : Progress LinearTerm) (end' : End) → r.left ≡ over p end' → (end' ≡ Cut → ⊥) → IsAtCut r.left → ⊥
   uncut_over r p end' ended uncut cut = uncut (subst (λ (x : SymTree). IsAtCut x) ended cut)
 
   pub uncut_test : (ds : List Decision) (side : EndsAtTest s ds) → IsAtCut side.way.left → ⊥
