@@ -55,12 +55,16 @@ def piece(line: str, texts: Dict[str, bytes]) -> bytes:
 
 def read(table: str) -> Dict[str, Row]:
     """The rows of a table by name."""
+    return read_lines(lines_of(table))
+
+
+def read_lines(lines: List[str]) -> Dict[str, Row]:
     texts: Dict[str, bytes] = {}
     rows: Dict[str, Row] = {}
     row: Optional[Row] = None
     # What the next pieces belong to: a dictionary and a key of it, or the row's output.
     place: Optional[Tuple[Dict[str, bytes], str]] = None
-    for number, line in enumerate(lines_of(table)):
+    for number, line in enumerate(lines):
         key, _, rest = line.partition(" ")
         if not line or line.startswith("#"):
             continue
