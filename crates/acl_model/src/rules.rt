@@ -1,6 +1,6 @@
 //! The rules of a file, line by line.
 
-ghost use Rattle.std.specs.Prelude.{◌≡◌};
+ghost use Rattle.std.specs.Prelude.{◌≡◌, OnErr};
 ghost use Rattle.acl_rules.specs.Covers.{IsRule};
 ghost use Rattle.table_lines.specs.Reading.{Leaves};
 ghost use Rattle.acl_model.specs.Rules.{added, step};
@@ -35,7 +35,8 @@ impl Rules {
     /// One rule more, of this line.
     fn add(&mut self, line: u64, rule: Rule) -> Result<(), TableFault>
         requires { IsRule rule }
-        ensures { Leaves (added self.old line rule) result self.new }
+        ensures leaves { Leaves (added self.old line rule) result self.new }
+        ensures kept { OnErr result (self.new ≡ self.old) }
     {
         if self.rules.len() >= MOST_RULES {
             return Err(TableFault::Limit { line });

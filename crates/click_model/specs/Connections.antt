@@ -2,7 +2,10 @@
 use Rattle.std.specs.Prelude.{ℕ, Bool, true, false, not, bytes_eq, nat_eq, nat_lt, ◌==◌, ◌||◌, ◌&&◌, if◌then◌else◌, List, [], ◌∷◌, ◌++◌, Option, None, Some}
 use Rattle.std.specs.List.{list_any}
 use Rattle.std.specs.Map.{lookup}
-use Rattle.indexmap.specs.IndexSet.{insert_key}
+use Rattle.std.specs.declared.cmp.Ordering.{Ordering}
+use Rattle.std.specs.Ordering.{nat_cmp, ordering_then}
+use Rattle.std.specs.Cmp.Lexicographic.{slice_cmp}
+use Rattle.std.specs.BTreeSet.{insert_key}
 use Rattle.sefl_syntax.specs.declared.net.Link.{Link}
 use Rattle.click_text.specs.Items.{ItemSeen}
 use Rattle.click_model.specs.declared.flaw.Wrong.{Wrong}
@@ -19,7 +22,10 @@ Output = List ℕ × ℕ
 abbrev pub is_output : Output → Output → Bool
 is_output a b = bytes_eq a.0 b.0 && nat_eq a.1 b.1
 
--- what was connected so far: the outputs that connections leave by, the connections, and the flaw that is told
+abbrev pub output_cmp : Output → Output → Ordering
+output_cmp a b = ordering_then (slice_cmp nat_cmp a.0 b.0) (nat_cmp a.1 b.1)
+
+-- what was connected so far: the outputs that connections leave by, ascending, the connections, and the flaw that is told
 pub record ConnectedSeen : Type 0 where
   pub used : List Output
   pub links : List Link
@@ -60,7 +66,7 @@ link_of output next = record { from = output.0; from_port = output.1; to = next.
 abbrev pub with_use : ConnectedSeen → ℕ → Output → Option Known → Option ItemSeen → ConnectedSeen
 with_use c line output known None = record c { flaw = noted c.flaw line (use_wrong false known) }
 with_use c line output known (Some next) = record {
-  used = insert_key is_output c.used output;
+  used = insert_key output_cmp c.used output;
   links = c.links ++ link_of output next ∷ [];
   flaw = noted c.flaw line (use_wrong (clashes known c.used output next.input) known);
 }

@@ -2,7 +2,9 @@
 use Rattle.std.specs.Prelude.{ℕ, ◌+◌, ◌==◌, bytes_eq, if◌then◌else◌, List, [], ◌∷◌, ◌++◌, map, Option, None, Some, ok_or, Result, Ok, Err}
 use Rattle.std.specs.Option.{option_or}
 use Rattle.std.specs.Map.{lookup}
-use Rattle.indexmap.specs.IndexMap.{insert_entry}
+use Rattle.std.specs.Ordering.{nat_cmp}
+use Rattle.std.specs.Cmp.Lexicographic.{slice_cmp}
+use Rattle.std.specs.BTreeMap.{insert_entry}
 use Rattle.click_text.specs.Arguments.{arguments_text}
 use Rattle.click_text.specs.Items.{ItemSeen}
 use Rattle.click_elements.specs.declared.class.ClassName.{ClassName}
@@ -70,7 +72,7 @@ first_wrong first count wrong = option_or (conflict_with first) (option_or (limi
 
 -- the first declaration of a name stays
 abbrev pub with_name : List (List ℕ × Known) → List ℕ → Known → Option Known → List (List ℕ × Known)
-with_name names name known None = insert_entry bytes_eq names name known
+with_name names name known None = insert_entry (slice_cmp nat_cmp) names name known
 with_name names name known (Some first) = names
 
 abbrev pub with_element : List ElementSeen → List ℕ → Result ClassSeen Wrong → List ElementSeen

@@ -9,16 +9,16 @@ ghost use Rattle.click_model.specs.Connections.{is_output, seen_connected, joine
 use crate::declare::{Known, known_of, name_of};
 use crate::flaw::{Flaw, Wrong, noted};
 use click_text::Item;
-use indexmap::{IndexMap, IndexSet};
 use sefl_syntax::{Link, Name};
 use sn_width::NoMemory;
 use std::alloc::Global;
+use std::collections::{BTreeMap, BTreeSet};
 
 /// What was connected so far.
 #[derive(Drop)]
 pub(crate) struct Connected {
     /// The outputs that connections leave by.
-    pub used: IndexSet<(Name, u32)>,
+    pub used: BTreeSet<(Name, u32)>,
     pub links: Vec<Link>,
     pub flaw: Option<Flaw>,
 }
@@ -58,7 +58,7 @@ fn may_leave(known: Option<Known>, port: u32) -> bool
     }
 }
 
-fn is_used(used: &IndexSet<(Name, u32)>, output: &(Name, u32)) -> bool
+fn is_used(used: &BTreeSet<(Name, u32)>, output: &(Name, u32)) -> bool
     ensures { result ≡ list_any (is_output output.now) used.now.keys }
 {
     used.contains(output)
@@ -67,7 +67,7 @@ fn is_used(used: &IndexSet<(Name, u32)>, output: &(Name, u32)) -> bool
 /// Whether a connection from the output to the input takes a port that is not free.
 fn clashes(
     known: Option<Known>,
-    used: &IndexSet<(Name, u32)>,
+    used: &BTreeSet<(Name, u32)>,
     output: &(Name, u32),
     input: u32,
 ) -> bool
@@ -124,7 +124,7 @@ impl Connected {
     fn take(
         &mut self,
         alloc: Global,
-        names: &IndexMap<Name, Known>,
+        names: &BTreeMap<Name, Known>,
         item: Item<'_>,
         next: Option<Item<'_>>,
     ) -> Result<(), NoMemory>
@@ -145,7 +145,7 @@ impl Connected {
 /// What all these items connect.
 pub(crate) fn connect_all(
     alloc: Global,
-    names: &IndexMap<Name, Known>,
+    names: &BTreeMap<Name, Known>,
     items: &[Item<'_>],
     flaw: Option<Flaw>,
 ) -> Result<Connected, NoMemory>
@@ -153,7 +153,7 @@ pub(crate) fn connect_all(
     ensures { IfOk result (λ all. seen_connected all ≡ connected_from names.now.entries (nothing_connected flaw) (map seen_item items.now)) }
 {
     let mut all = Connected {
-        used: IndexSet::new(alloc),
+        used: BTreeSet::new(alloc),
         links: Vec::new(alloc),
         flaw,
     };

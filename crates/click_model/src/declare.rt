@@ -11,10 +11,10 @@ use crate::element::Element;
 use crate::flaw::{Flaw, Wrong, noted};
 use click_elements::{Class, most_outputs};
 use click_text::Item;
-use indexmap::IndexMap;
 use sefl_syntax::Name;
 use sn_width::NoMemory;
 use std::alloc::Global;
+use std::collections::BTreeMap;
 use std::str;
 
 /// The most declarations of a configuration.
@@ -31,7 +31,7 @@ pub(crate) struct Known {
 /// What was declared so far.
 #[derive(Drop)]
 pub(crate) struct Declared {
-    pub names: IndexMap<Name, Known>,
+    pub names: BTreeMap<Name, Known>,
     /// Those whose classes and arguments are good.
     pub elements: Vec<Element>,
     /// How many declarations there were.
@@ -54,7 +54,7 @@ pub(crate) fn name_of(alloc: Global, word: &[u8]) -> Result<Name, NoMemory>
 }
 
 /// What is known of a name.
-pub(crate) fn known_of(names: &IndexMap<Name, Known>, name: &Name) -> Option<Known>
+pub(crate) fn known_of(names: &BTreeMap<Name, Known>, name: &Name) -> Option<Known>
     ensures { result ≡ lookup (bytes_eq name.now) names.now.entries }
 {
     names.get(name).copied()
@@ -94,7 +94,7 @@ fn first_wrong(first: Option<Known>, count: u64, wrong: Option<Wrong>) -> Option
 
 /// Keeps the first declaration of a name.
 fn put_name(
-    names: &mut IndexMap<Name, Known>,
+    names: &mut BTreeMap<Name, Known>,
     name: &Name,
     known: Known,
     first: Option<Known>,
@@ -168,7 +168,7 @@ pub(crate) fn declare_all(alloc: Global, items: &[Item<'_>]) -> Result<Declared,
     ensures { IfOk result (λ all. seen_declared all ≡ declared_from nothing_declared (map seen_item items.now)) }
 {
     let mut all = Declared {
-        names: IndexMap::new(alloc),
+        names: BTreeMap::new(alloc),
         elements: Vec::new(alloc),
         count: 0,
         flaw: None,

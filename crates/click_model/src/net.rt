@@ -9,10 +9,10 @@ ghost use Rattle.click_model.specs.Nets as nets;
 use crate::config::ClickConfig;
 use crate::element::Element;
 use click_elements::{Leads, class_node};
-use indexmap::IndexMap;
 use sefl_syntax::{Body, Link, Name, NodeDecl, RawNet};
 use sn_width::NoMemory;
 use std::alloc::Global;
+use std::collections::BTreeMap;
 
 /// The outputs of a Tee without an argument are below this number.
 const MOST_OUTPUTS: u32 = 1024;
@@ -34,11 +34,17 @@ fn with_port(leads: Leads, port: u32) -> Leads
     Leads { second, widest }
 }
 
+fn leads_at(leads: &BTreeMap<Name, Leads>, name: &Name) -> Option<Leads>
+    ensures { result ≡ lookup (bytes_eq name.now) leads.now.entries }
+{
+    leads.get(name).copied()
+}
+
 /// What is connected of the outputs of the element with that name.
-fn leads_of(leads: &IndexMap<Name, Leads>, name: &Name) -> Leads
+fn leads_of(leads: &BTreeMap<Name, Leads>, name: &Name) -> Leads
     ensures { result ≡ unwrap_or (lookup (bytes_eq name.now) leads.now.entries) nets.no_leads }
 {
-    match leads.get(name).copied() {
+    match leads_at(leads, name) {
         Some(leads) => leads,
         None => Leads {
             second: false,
@@ -48,7 +54,7 @@ fn leads_of(leads: &IndexMap<Name, Leads>, name: &Name) -> Leads
 }
 
 /// Notes the output that a link leaves by.
-fn note(leads: &mut IndexMap<Name, Leads>, link: &Link) -> Result<(), NoMemory>
+fn note(leads: &mut BTreeMap<Name, Leads>, link: &Link) -> Result<(), NoMemory>
     ensures { OnOk result ((name : List ℕ) → unwrap_or (lookup (bytes_eq name) leads.new.entries) nets.no_leads
         ≡ (if bytes_eq link.now.from name then nets.with_port (unwrap_or (lookup (bytes_eq name) leads.old.entries) nets.no_leads) link.now.from_port
         else unwrap_or (lookup (bytes_eq name) leads.old.entries) nets.no_leads)) }
@@ -60,10 +66,10 @@ fn note(leads: &mut IndexMap<Name, Leads>, link: &Link) -> Result<(), NoMemory>
 }
 
 /// What is connected of the outputs of each element.
-fn all_leads(alloc: Global, links: &[Link]) -> Result<IndexMap<Name, Leads>, NoMemory>
+fn all_leads(alloc: Global, links: &[Link]) -> Result<BTreeMap<Name, Leads>, NoMemory>
     ensures { IfOk result (λ leads. (name : List ℕ) → unwrap_or (lookup (bytes_eq name) leads.entries) nets.no_leads ≡ nets.leads_of name links.now) }
 {
-    let mut leads = IndexMap::new(alloc);
+    let mut leads = BTreeMap::new(alloc);
     for link in links {
         note(&mut leads, link)?;
     }

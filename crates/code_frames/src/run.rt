@@ -1,6 +1,6 @@
 //! The run of code up to its next question.
 
-ghost use Rattle.std.specs.Prelude.{◌≡◌, ◌+◌, ◌<◌, ◌≤◌, ◌∷◌, Some, IfOk, OnOk, length, reverse};
+ghost use Rattle.std.specs.Prelude.{◌≡◌, ◌+◌, ◌<◌, ◌≤◌, ◌∷◌, Some, IfOk, OnErr, OnOk, length, reverse};
 ghost use Rattle.sn_tree.specs.Ends.{first, tail};
 ghost use Rattle.sn_width.specs.declared.ids.NodeId.{NodeId as Box};
 ghost use Rattle.sefl_syntax.specs.Views.{code_tree};
@@ -51,7 +51,8 @@ pub fn next<'a, M: Machine, L: Ledger>(
     Ok(Move::Ended(Exit::Off))
 }
 
-/// Goes on from a question where its test has this truth: puts the block that is taken on the frames, or ends.
+/// Goes on from a question where its test has this truth: puts the block that is taken on the frames, or ends. A refusal changes
+/// nothing.
 pub fn answer<'a, M: Machine>(
     question: &Question<'a>,
     holds: bool,
@@ -61,6 +62,7 @@ pub fn answer<'a, M: Machine>(
         → course_left o net at left (reverse frames.new.items) p ≡ course_behind o net at question.now holds (reverse frames.old.items) p) }
     ensures weight { OnOk result ((net : Network)
         → frames_weight net (reverse frames.new.items) ≤ question_weight net question.now + frames_weight net (reverse frames.old.items)) }
+    ensures kept { OnErr result (frames.new.items ≡ frames.old.items) }
 {
     match question {
         Question::If {

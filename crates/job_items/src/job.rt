@@ -19,11 +19,11 @@ use crate::ports::Ports;
 use crate::rule::Breach;
 use crate::tags::check_tags;
 use crate::tally::Tally;
-use indexmap::{IndexMap, IndexSet};
+use indexmap::IndexMap;
 use sefl_syntax::{Job, Name, RawInjection, RawNet};
 use sn_width::NoMemory;
 use std::alloc::Global;
-use std::collections::BTreeMap;
+use std::collections::{BTreeMap, BTreeSet};
 
 /// The number of the first item of a job that breaks a rule, and the first rule that it breaks;
 /// None exactly where there is no such item.
@@ -72,7 +72,7 @@ fn check_net<'a>(
     ensures made { OnOk result (lent_nodes nodes.new.entries ≡ nodes_after [] (net_tree net.now).nodes) }
 {
     check_nodes(alloc, tally, nodes, &net.nodes)?;
-    let mut used = IndexSet::new(alloc);
+    let mut used = BTreeSet::new(alloc);
     check_links(tally, nodes, &mut used, &net.links)
 }
 

@@ -2,10 +2,10 @@
 
 ghost use Rattle.std.specs.Prelude.{◌≡◌, ◌∷◌, [], OnOk, IfOk};
 ghost use Rattle.std.specs.List.{list_any};
-ghost use Rattle.indexmap.specs.IndexSet.{insert_key};
+ghost use Rattle.std.specs.BTreeSet.{insert_key};
 ghost use Rattle.job_items.specs.Items.{link_item, link_items, injection_item};
 ghost use Rattle.job_items.specs.LentNodes.{lent_nodes, lent_outputs};
-ghost use Rattle.job_items.specs.Nodes.{node_named, with_link, is_same_output};
+ghost use Rattle.job_items.specs.Nodes.{node_named, output_cmp, with_link, is_same_output};
 ghost use Rattle.job_items.specs.Progress.{progress_of, outcome_from, Follows};
 
 use crate::halt::Halt;
@@ -13,15 +13,16 @@ use crate::nodes::node_named;
 use crate::ports::{Ports, is_past};
 use crate::rule::{Breach, Rule};
 use crate::tally::{Tally, first_breach};
-use indexmap::{IndexMap, IndexSet};
+use indexmap::IndexMap;
 use sefl_syntax::{Link, Name, Side};
 use sn_width::NoMemory;
+use std::collections::BTreeSet;
 
 /// Passes the links, up to the first that breaks a rule.
 pub(crate) fn check_links<'a>(
     tally: &mut Tally<'a>,
     nodes: &IndexMap<&'a Name, Ports>,
-    used: &mut IndexSet<(&'a Name, u32)>,
+    used: &mut BTreeSet<(&'a Name, u32)>,
     links: &'a [Link],
 ) -> Result<(), Halt>
     ensures { Follows (outcome_from (progress_of tally.old) (link_items (lent_nodes nodes.now.entries) (lent_outputs used.old.keys) links.now)) result (progress_of tally.new) }
@@ -35,7 +36,7 @@ pub(crate) fn check_links<'a>(
 fn check_link<'a>(
     tally: &mut Tally<'a>,
     nodes: &IndexMap<&'a Name, Ports>,
-    used: &mut IndexSet<(&'a Name, u32)>,
+    used: &mut BTreeSet<(&'a Name, u32)>,
     link: &'a Link,
 ) -> Result<(), Halt>
     ensures follows { Follows (outcome_from (progress_of tally.old)
@@ -60,17 +61,15 @@ fn check_link<'a>(
 
 /// Notes an output port that a link leaves; whether an earlier link does.
 fn leave<'a>(
-    used: &mut IndexSet<(&'a Name, u32)>,
+    used: &mut BTreeSet<(&'a Name, u32)>,
     name: &'a Name,
     port: u32,
 ) -> Result<bool, NoMemory>
     ensures second { IfOk result (λ is_second. is_second ≡ list_any (is_same_output (name.now, port)) (lent_outputs used.old.keys)) }
-    ensures made { OnOk result (lent_outputs used.new.keys ≡ insert_key is_same_output (lent_outputs used.old.keys) (name.now, port)) }
+    ensures made { OnOk result (lent_outputs used.new.keys ≡ insert_key output_cmp (lent_outputs used.old.keys) (name.now, port)) }
 {
-    let key = (name, port);
-    let is_second = used.contains(&key);
-    used.insert(key)?;
-    Ok(is_second)
+    let is_first = used.insert((name, port))?;
+    Ok(!is_first)
 }
 
 /// Passes the heading of an injection.

@@ -8,8 +8,8 @@ use crate::Loaded;
 use std::alloc::Global;
 use std::io::{Read, Write};
 
-// How many bytes a read asks for at most.
-const CHUNK: usize = 65536;
+// How many bytes a read asks for at most. Its buffer stands on the stack, which may be small.
+const CHUNK: usize = 8192;
 
 // All the bytes that a reader has left. It ends after `limit + 1` bytes.
 pub(crate) fn read_whole<R: Read>(alloc: Global, reader: &mut R, limit: u64) -> Loaded

@@ -499,6 +499,34 @@ fn assert_first_choice<L: Ledger>(rt: &impl Abort, alloc: Global, steps: &mut St
     drop(job);
 }
 
+/// Whether both list the same turns.
+fn are_turns(found: &[(Option<NodeId>, NameId)], wanted: &[(Option<NodeId>, NameId)]) -> bool {
+    found == wanted
+}
+
+/// A For goes over those of its names that are allocated, globals first; a step that changes nothing is one step.
+fn assert_turns<L: Ledger>(rt: &impl Abort, alloc: Global, steps: &mut Steps<L>) {
+    let text =
+        "symnet 2; node a 1 -> 0 { in 0 { allocate global b:8; allocate local b:8; allocate global c:8; deallocate global c:8; } } inject a.0 { }";
+    let job = accepted(rt, alloc, text);
+    let source = job_of(rt, alloc, text);
+    let mut state = begun(rt, alloc, &job);
+    run_all(rt, alloc, &job, code_of(&source), &mut state, steps);
+    let asked = [NameId(1), NameId(0)];
+    let found = state.turns(alloc, &asked, steps).expect(rt, "memory");
+    check(
+        rt,
+        are_turns(&found, &[(None, NameId(0)), (Some(NodeId(0)), NameId(0))]),
+        text,
+    );
+    state.pass(steps);
+    assert_place_count(rt, alloc, &state, 1);
+    drop(found);
+    drop(state);
+    drop(source);
+    drop(job);
+}
+
 /// The first part of the term in the first metadata's first cell.
 fn first_part(fields: &Fields) -> Option<(SymId, Num)> {
     match fields.metas.as_slice() {
@@ -542,6 +570,7 @@ fn run_rows<L: Ledger>(rt: &impl Abort, alloc: Global, blank: Blank)
     run_passed(rt, alloc, &mut steps);
     assert_apart(rt, alloc, &mut steps);
     assert_first_choice(rt, alloc, &mut steps);
+    assert_turns(rt, alloc, &mut steps);
 }
 
 #[test]

@@ -3,7 +3,7 @@
 //! An ordered map finds the rows: who writes a file chooses its keys, and might choose those that a hash map puts into one place.
 
 ghost use Rattle.std.specs.Map.{lookup};
-ghost use Rattle.std.specs.Prelude.{◌≡◌, ◌++◌, ◌∷◌, [], None, OnOk};
+ghost use Rattle.std.specs.Prelude.{◌≡◌, ◌++◌, ◌∷◌, [], None, OnErr, OnOk};
 ghost use Rattle.table_lines.specs.Rows.{is_key};
 
 use std::alloc::{AllocError, Global};
@@ -55,10 +55,11 @@ impl Entries {
         self.found.get(&key).copied()
     }
 
-    /// One more row, of a key that no row has.
+    /// One more row, of a key that no row has. A refusal changes nothing.
     pub(crate) fn add(&mut self, key: (u64, u32), seen: Seen) -> Result<(), AllocError>
         requires { lookup (is_key key) self.old ≡ None }
-        ensures { OnOk result (self.new ≡ self.old ++ (key, seen) ∷ []) }
+        ensures added { OnOk result (self.new ≡ self.old ++ (key, seen) ∷ []) }
+        ensures kept { OnErr result (self.new ≡ self.old) }
     {
         self.rows.reserve(1)?;
         self.found.insert(key, seen)?;

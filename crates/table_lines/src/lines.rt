@@ -1,6 +1,6 @@
 //! Lines, and files that are read line by line.
 
-ghost use Rattle.std.specs.Prelude.{◌≡◌, ◌<◌, [], ◌∷◌, length, ℕ, List, Result, IfSome, IfNone};
+ghost use Rattle.std.specs.Prelude.{◌≡◌, ◌<◌, [], ◌∷◌, length, ℕ, List, Result, IfSome, IfNone, OnErr};
 ghost use Rattle.table_lines.specs.Lines.{lines, without_return};
 ghost use Rattle.table_lines.specs.Reading.{Leaves, read_from};
 ghost use Rattle.table_lines.specs.declared.fault.TableFault.{TableFault};
@@ -39,8 +39,10 @@ pub trait LineReader {
     /// What it makes of a line, by the line's number.
     ghost step: { Self → ℕ → List ℕ → Result Self TableFault };
 
+    /// Reads a line. A refusal changes nothing.
     fn take(&mut self, line: u64, text: &[u8]) -> Result<(), TableFault>
-        ensures { Leaves (step self.old line text.now) result self.new };
+        ensures leaves { Leaves (step self.old line text.now) result self.new }
+        ensures kept { OnErr result (self.new ≡ self.old) };
 }
 
 /// Reads all lines of a text, up to the first that has a fault.

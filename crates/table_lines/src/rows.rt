@@ -1,7 +1,7 @@
 //! The rows of a table, line by line.
 
 ghost use Rattle.std.specs.Map.{lookup};
-ghost use Rattle.std.specs.Prelude.{◌≡◌};
+ghost use Rattle.std.specs.Prelude.{◌≡◌, OnErr};
 ghost use Rattle.table_lines.specs.Reading.{Leaves};
 ghost use Rattle.table_lines.specs.Rows.{is_key, limit_of, step, row_read, header_read, placed, counted};
 
@@ -48,7 +48,8 @@ impl Model for Rows {
 
 impl Rows {
     fn count_one(&mut self, line: u64) -> Result<(), TableFault>
-        ensures { Leaves (counted self.old line self.old.rows) result self.new }
+        ensures leaves { Leaves (counted self.old line self.old.rows) result self.new }
+        ensures kept { OnErr result (self.new ≡ self.old) }
     {
         if self.count >= limit_of(self.kind) {
             return Err(TableFault::Limit { line });
@@ -59,7 +60,8 @@ impl Rows {
 
     /// A row with its line; the first row of a key counts.
     fn place(&mut self, line: u64, key: (u64, u32), port: u32) -> Result<(), TableFault>
-        ensures { Leaves (placed self.old line key port (lookup (is_key key) self.old.rows)) result self.new }
+        ensures leaves { Leaves (placed self.old line key port (lookup (is_key key) self.old.rows)) result self.new }
+        ensures kept { OnErr result (self.new ≡ self.old) }
     {
         if let Some(seen) = self.rows.get(key) {
             if seen.port != port {
@@ -79,7 +81,8 @@ impl Rows {
     }
 
     fn read_row(&mut self, line: u64, key: (u64, u32), port: u32) -> Result<(), TableFault>
-        ensures { Leaves (row_read self.old line key port self.old.ports) result self.new }
+        ensures leaves { Leaves (row_read self.old line key port self.old.ports) result self.new }
+        ensures kept { OnErr result (self.new ≡ self.old) }
     {
         let Some(ports) = self.ports else {
             return Err(TableFault::BadLine { line });
@@ -91,7 +94,8 @@ impl Rows {
     }
 
     fn read_header(&mut self, line: u64, ports: u32) -> Result<(), TableFault>
-        ensures { Leaves (header_read self.old line ports self.old.ports) result self.new }
+        ensures leaves { Leaves (header_read self.old line ports self.old.ports) result self.new }
+        ensures kept { OnErr result (self.new ≡ self.old) }
     {
         if self.ports.is_some() {
             return Err(TableFault::BadLine { line });
