@@ -18,6 +18,10 @@ both a b c first second g h = record { gained = h.gained ∙ (ap (λ s. s ++ sec
 pub grown : (a b first second : List ℕ) → first ≡ second → Grows first a b → Grows second a b
 grown a b first second same h = record { gained = h.gained ∙ ap (λ s. a ++ s) same }
 
+-- behind nothing
+pub alone : (a b c first second : List ℕ) → a ≡ [] → Grows first a b → Grows second b c → c ≡ first ++ second
+alone a b c first second empty g h = h.gained ∙ ap (λ s. s ++ second) (g.gained ∙ ap (λ s. s ++ first) empty)
+
 module _ (closes : (later : Bool) (ds : List Data) → items_text later (items_of ds) ≡ record_pieces later ds ++ 93 ∷ []) where
   listed : (ds : List Data) (rest : List ℕ) → items_text false (items_of ds) ++ rest ≡ record_pieces false ds ++ 93 ∷ rest
   listed ds rest = ap (λ s. s ++ rest) (closes false ds) ∙ append_assoc (record_pieces false ds) (93 ∷ []) rest

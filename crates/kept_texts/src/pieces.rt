@@ -22,6 +22,7 @@ use run_text::write_end;
 use sefl_meaning::{Decision, End, Place};
 use sn_width::{NameId, NoMemory, NodeId, TagId};
 use std::alloc::Global;
+use std::marker::Model;
 
 /// The room that the text of an end has at the start, in bytes.
 const END_ROOM: usize = 32;
@@ -29,19 +30,34 @@ const END_ROOM: usize = 32;
 /// The room that other texts have at the start, in bytes.
 const ROOM: usize = 256;
 
-/// The pieces of records of a net, and the texts of the last one.
+/// What is kept of the texts of the last record.
 #[derive(Drop)]
-pub struct Pieces<'a, N: OfNet> {
+struct KeptTexts<N: OfNet> {
     alloc: Global,
-    net: &'a Net,
     decisions: KeptList<N, Decision>,
     places: KeptList<N, Place>,
     tags: KeptList<N, (TagId, i32)>,
     heads: KeptCells<N, i32>,
     metas: KeptCells<N, (Option<NodeId>, NameId)>,
-    /// The last piece.
-    pub piece: String,
-    ghost own: { network net.now ≡ N.net },
+}
+
+/// The pieces of records of a net. Contracts see the last one.
+#[derive(Drop)]
+pub struct Pieces<'a, N: OfNet> {
+    net: &'a Net,
+    texts: KeptTexts<N>,
+    piece: String,
+}
+
+impl<'a, N: OfNet> Model for Pieces<'a, N> {
+    ghost use Rattle.std.specs.Prelude.{◌≡◌, ℕ, List, string_bytes};
+    ghost use Rattle.net_check.specs.Network.{network};
+
+    ghost Value = { List ℕ };
+
+    ghost view = { λ pieces. string_bytes pieces.piece };
+
+    ghost invariant = { λ pieces. network pieces.net.now ≡ N.net };
 }
 
 fn end_text(alloc: Global, end: &End) -> Result<String, NoMemory>
@@ -76,116 +92,113 @@ fn refutation_text(alloc: Global, steps: &[Refute]) -> Result<String, NoMemory>
     Ok(out.into_text())
 }
 
-impl<'a, N: OfNet> Pieces<'a, N> {
-    /// No piece yet.
-    pub fn new(alloc: Global, net: &'a Net) -> Pieces<'a, N>
-        requires { network net.now ≡ N.net }
-    {
-        Pieces {
+impl<N: OfNet> KeptTexts<N> {
+    fn new(alloc: Global) -> KeptTexts<N> {
+        KeptTexts {
             alloc,
-            net,
             decisions: KeptList::new(alloc),
             places: KeptList::new(alloc),
             tags: KeptList::new(alloc),
             heads: Vec::new(alloc),
             metas: Vec::new(alloc),
-            piece: String::new(alloc),
         }
     }
 
     /// Puts what is carried at the end of a path.
-    fn put_fields(&mut self, fields: &Fields) -> Result<(), NoMemory>
-        ensures { OnOk result (Grows (compact_text (fields_data term_data N.net (fields_seen fields.now))) (string_bytes self.old.piece) (string_bytes self.new.piece)) }
+    fn put_fields(&mut self, net: &Net, fields: &Fields, out: &mut String) -> Result<(), NoMemory>
+        requires { network net.now ≡ N.net }
+        ensures { OnOk result (Grows (compact_text (fields_data term_data N.net (fields_seen fields.now))) (string_bytes out.old) (string_bytes out.new)) }
     {
         lists_are_joined();
-        self.tags.follow(self.alloc, self.net, &fields.tags)?;
-        put(&mut self.piece, "{\"heads\":[")?;
-        put_heads(
-            self.alloc,
-            self.net,
-            &mut self.heads,
-            &fields.heads,
-            &mut self.piece,
-        )?;
-        put(&mut self.piece, "],\"metas\":[")?;
-        put_metas(
-            self.alloc,
-            self.net,
-            &mut self.metas,
-            &fields.metas,
-            &mut self.piece,
-        )?;
-        put(&mut self.piece, "],\"tags\":[")?;
-        put(&mut self.piece, self.tags.text())?;
-        put(&mut self.piece, "]}")?;
+        self.tags.follow(self.alloc, net, &fields.tags)?;
+        put(out, "{\"heads\":[")?;
+        put_heads(self.alloc, net, &mut self.heads, &fields.heads, out)?;
+        put(out, "],\"metas\":[")?;
+        put_metas(self.alloc, net, &mut self.metas, &fields.metas, out)?;
+        put(out, "],\"tags\":[")?;
+        put(out, self.tags.text())?;
+        put(out, "]}")?;
         Ok(())
     }
 
     fn put_path(
         &mut self,
+        net: &Net,
         decisions: &[Decision],
         places: &[Place],
         end: &End,
         fields: &Fields,
         verdict: &Verdict,
+        out: &mut String,
     ) -> Result<(), NoMemory>
+        requires { network net.now ≡ N.net }
         ensures { OnOk result (Grows (compact_text (path_data N.net decisions.now places.now end.now (fields_seen fields.now) verdict.now))
-            (string_bytes self.old.piece) (string_bytes self.new.piece)) }
+            (string_bytes out.old) (string_bytes out.new)) }
     {
         lists_are_joined();
-        self.decisions.follow(self.alloc, self.net, decisions)?;
-        put(&mut self.piece, "{\"decisions\":[")?;
-        put(&mut self.piece, self.decisions.text())?;
-        put(&mut self.piece, "],\"end\":")?;
+        self.decisions.follow(self.alloc, net, decisions)?;
+        put(out, "{\"decisions\":[")?;
+        put(out, self.decisions.text())?;
+        put(out, "],\"end\":")?;
         let text = end_text(self.alloc, end)?;
-        put(&mut self.piece, &text)?;
-        put(&mut self.piece, ",\"fields\":")?;
-        self.put_fields(fields)?;
-        self.places.follow(self.alloc, self.net, places)?;
-        put(&mut self.piece, ",\"kind\":\"path\",\"places\":[")?;
-        put(&mut self.piece, self.places.text())?;
-        put(&mut self.piece, "],\"verdict\":")?;
+        put(out, &text)?;
+        put(out, ",\"fields\":")?;
+        self.put_fields(net, fields, out)?;
+        self.places.follow(self.alloc, net, places)?;
+        put(out, ",\"kind\":\"path\",\"places\":[")?;
+        put(out, self.places.text())?;
+        put(out, "],\"verdict\":")?;
         let text = verdict_text(self.alloc, verdict)?;
-        put(&mut self.piece, &text)?;
-        put(&mut self.piece, "}")?;
+        put(out, &text)?;
+        put(out, "}")?;
         Ok(())
     }
 
     fn put_pruned(
         &mut self,
+        net: &Net,
         before: &Option<Verdict>,
         decisions: &[Decision],
         steps: &[Refute],
+        out: &mut String,
     ) -> Result<(), NoMemory>
-        ensures { OnOk result (Grows (compact_text (pruned_data before.now decisions.now steps.now)) (string_bytes self.old.piece) (string_bytes self.new.piece)) }
+        requires { network net.now ≡ N.net }
+        ensures { OnOk result (Grows (compact_text (pruned_data before.now decisions.now steps.now)) (string_bytes out.old) (string_bytes out.new)) }
     {
         lists_are_joined();
-        self.decisions.follow(self.alloc, self.net, decisions)?;
-        put(&mut self.piece, "{\"before\":")?;
+        self.decisions.follow(self.alloc, net, decisions)?;
+        put(out, "{\"before\":")?;
         let text = before_text(self.alloc, before)?;
-        put(&mut self.piece, &text)?;
-        put(&mut self.piece, ",\"decisions\":[")?;
-        put(&mut self.piece, self.decisions.text())?;
-        put(&mut self.piece, "],\"kind\":\"pruned\",\"refutation\":")?;
+        put(out, &text)?;
+        put(out, ",\"decisions\":[")?;
+        put(out, self.decisions.text())?;
+        put(out, "],\"kind\":\"pruned\",\"refutation\":")?;
         let text = refutation_text(self.alloc, steps)?;
-        put(&mut self.piece, &text)?;
-        put(&mut self.piece, "}")?;
+        put(out, &text)?;
+        put(out, "}")?;
         Ok(())
     }
 
-    fn put_unexplored(&mut self, decisions: &[Decision]) -> Result<(), NoMemory>
-        ensures { OnOk result (Grows (compact_text (unexplored_data decisions.now)) (string_bytes self.old.piece) (string_bytes self.new.piece)) }
+    fn put_unexplored(
+        &mut self,
+        net: &Net,
+        decisions: &[Decision],
+        out: &mut String,
+    ) -> Result<(), NoMemory>
+        requires { network net.now ≡ N.net }
+        ensures { OnOk result (Grows (compact_text (unexplored_data decisions.now)) (string_bytes out.old) (string_bytes out.new)) }
     {
         lists_are_joined();
-        self.decisions.follow(self.alloc, self.net, decisions)?;
-        put(&mut self.piece, "{\"decisions\":[")?;
-        put(&mut self.piece, self.decisions.text())?;
-        put(&mut self.piece, "],\"kind\":\"unexplored\"}")?;
+        self.decisions.follow(self.alloc, net, decisions)?;
+        put(out, "{\"decisions\":[")?;
+        put(out, self.decisions.text())?;
+        put(out, "],\"kind\":\"unexplored\"}")?;
         Ok(())
     }
 
-    fn put_record(&mut self, item: &Record) -> Result<(), NoMemory>
-        ensures { OnOk result (Grows (compact_text (record_data N.net item.now)) (string_bytes self.old.piece) (string_bytes self.new.piece)) }
+    fn put_record(&mut self, net: &Net, item: &Record, out: &mut String) -> Result<(), NoMemory>
+        requires { network net.now ≡ N.net }
+        ensures { OnOk result (Grows (compact_text (record_data N.net item.now)) (string_bytes out.old) (string_bytes out.new)) }
     {
         match item {
             Record::Path {
@@ -194,23 +207,43 @@ impl<'a, N: OfNet> Pieces<'a, N> {
                 end,
                 fields,
                 verdict,
-            } => self.put_path(decisions, places, end, fields, verdict),
+            } => self.put_path(net, decisions, places, end, fields, verdict, out),
             Record::Pruned {
                 decisions,
                 before,
                 refutation,
-            } => self.put_pruned(before, decisions, refutation.as_slice()),
-            Record::Unexplored { decisions } => self.put_unexplored(decisions),
+            } => self.put_pruned(net, before, decisions, refutation.as_slice(), out),
+            Record::Unexplored { decisions } => self.put_unexplored(net, decisions, out),
+        }
+    }
+}
+
+impl<'a, N: OfNet> Pieces<'a, N> {
+    /// No piece yet.
+    pub fn new(alloc: Global, net: &'a Net) -> Pieces<'a, N>
+        requires { network net.now ≡ N.net }
+    {
+        Pieces {
+            net,
+            texts: KeptTexts::new(alloc),
+            piece: String::new(alloc),
         }
     }
 
     /// Writes the piece of a record: its text, behind a comma where another one was put before it.
     pub fn write(&mut self, later: bool, item: &Record) -> Result<(), NoMemory>
-        ensures { OnOk result (string_bytes self.new.piece ≡ piece later (record_data N.net item.now)) }
+        ensures { OnOk result (self.new ≡ piece later (record_data N.net item.now)) }
     {
         self.piece.clear();
         put_comma(&mut self.piece, later)?;
-        self.put_record(item)?;
+        self.texts.put_record(self.net, item, &mut self.piece)?;
         Ok(())
+    }
+
+    /// The last piece.
+    pub fn text(&self) -> &str
+        ensures { result.now ≡ self.now }
+    {
+        self.piece.as_str()
     }
 }

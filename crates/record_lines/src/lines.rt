@@ -1,6 +1,6 @@
 //! Records that are put as they are found.
 
-ghost use Rattle.std.specs.Prelude.{◌≡◌, ◌+◌, string_bytes, IfSome, IsTrue};
+ghost use Rattle.std.specs.Prelude.{◌≡◌, ◌+◌, IfSome, IsTrue};
 ghost use Rattle.record_ranges.specs.Ranges.{RecordInRange};
 ghost use Rattle.record_lines.specs.Lines.{HasLines, IsTask, StopsInLine, is_written, refuted_by};
 
@@ -107,7 +107,7 @@ fn task_of<N: OfNet>(
     refuted: u64,
     item: &Record,
 ) -> Task
-    ensures { IsTask N.net sides later refuted item.now (string_bytes pieces.new.piece) result }
+    ensures { IsTask N.net sides later refuted item.now pieces.new result }
 {
     let Some(refuted) = refuted_with(refuted, item) else {
         return Task::NoMemory;
@@ -132,7 +132,7 @@ fn last_task_of<N: OfNet>(
     refuted: u64,
     item: Record,
 ) -> Task
-    ensures { IsTask N.net sides later refuted item (string_bytes pieces.new.piece) result }
+    ensures { IsTask N.net sides later refuted item pieces.new result }
 {
     task_of(pieces, sides, later, refuted, &item)
 }
@@ -156,7 +156,7 @@ impl<N: OfNet, M: Mark, K: Sink> Receiver for Lines<'_, N, M, K> {
             self.refuted,
             item,
         ) {
-            Task::Write { refuted } => match put_piece(&self.pieces.piece, self.out) {
+            Task::Write { refuted } => match put_piece(self.pieces.text(), self.out) {
                 Put::All => {
                     self.some = true;
                     self.refuted = refuted;

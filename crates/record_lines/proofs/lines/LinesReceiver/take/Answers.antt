@@ -15,8 +15,8 @@ pub returns-in-All-clause-took : goal.returns-in-All-clause-took
 returns-in-All-clause-took g c =
     let (put, range, few, counts, is) = c.in-Write.ensures in
     one_more g.N.OfNet.net g.M.Mark.sides c.args.self.now.sides g.M.Mark.known (g.K.Sink.told c.args.self.now.out.now).taken (g.K.Sink.told c.put_piece.new.out).taken
-    c.args.self.now.some c.args.self.now.refuted c.args.item put range (subst IsUtf8 (c.deref.ensures ∙ is) c.deref.utf8) c.in-Write.refuted few counts
-    (c.in-All.ensures.puts ∙ ap (append_known (g.K.Sink.told c.args.self.now.out.now).taken) (c.deref.ensures ∙ is))
+    c.args.self.now.some c.args.self.now.refuted c.args.item put range (subst IsUtf8 (c.text.ensures ∙ is) c.text.utf8) c.in-Write.refuted few counts
+    (c.in-All.ensures.puts ∙ ap (append_known (g.K.Sink.told c.args.self.now.out.now).taken) (c.text.ensures ∙ is))
 
 pub returns-in-Failed-clause-took : goal.returns-in-Failed-clause-took
 returns-in-Failed-clause-took g c =
@@ -24,5 +24,5 @@ returns-in-Failed-clause-took g c =
     let (part, begins, gained) = c.in-Failed.ensures.puts in (
       c.in-Failed.ensures.failed,
       stops_in g.N.OfNet.net g.M.Mark.sides c.args.self.now.sides g.M.Mark.known (g.K.Sink.told c.args.self.now.out.now).taken (g.K.Sink.told c.put_piece.new.out).taken
-          c.args.self.now.some c.args.self.now.refuted c.args.item put (part, subst (IsPrefix part) (c.deref.ensures ∙ is) begins, gained),
+          c.args.self.now.some c.args.self.now.refuted c.args.item put (part, subst (IsPrefix part) (c.text.ensures ∙ is) begins, gained),
     )

@@ -4,7 +4,7 @@ use Rattle.run_text.specs.Forms.{decision_data, decisions_data}
 use Rattle.record_text.specs.Records.{before_data, pruned_data, refutation_data}
 use Rattle.record_text.specs.Reports.{record_pieces}
 use Rattle.kept_texts.proofs.RecordLemmas.{both, grown, pruned_text}
-use Rattle.kept_texts.proofs.pieces.Pieces.put_pruned.Goals as goal
+use Rattle.kept_texts.proofs.pieces.KeptTexts.put_pruned.Goals as goal
 
 pub returns : goal.returns
 unfolding pruned_data decisions_data

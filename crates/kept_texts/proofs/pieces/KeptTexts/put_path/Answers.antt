@@ -7,7 +7,7 @@ use Rattle.record_text.specs.Records.{path_data, verdict_data}
 use Rattle.record_text.specs.Reports.{record_pieces}
 use Rattle.kept_texts.specs.Kept.{Grows}
 use Rattle.kept_texts.proofs.RecordLemmas.{both, grown, path_text}
-use Rattle.kept_texts.proofs.pieces.Pieces.put_path.Goals as goal
+use Rattle.kept_texts.proofs.pieces.KeptTexts.put_path.Goals as goal
 
 pub returns : goal.returns
 unfolding path_data decisions_data places_data

@@ -4,7 +4,7 @@ use Rattle.run_text.specs.Forms.{decision_data, decisions_data}
 use Rattle.record_text.specs.Records.{unexplored_data}
 use Rattle.record_text.specs.Reports.{record_pieces}
 use Rattle.kept_texts.proofs.RecordLemmas.{both, grown, unexplored_text}
-use Rattle.kept_texts.proofs.pieces.Pieces.put_unexplored.Goals as goal
+use Rattle.kept_texts.proofs.pieces.KeptTexts.put_unexplored.Goals as goal
 
 pub returns : goal.returns
 unfolding unexplored_data decisions_data

@@ -6,7 +6,7 @@ use Rattle.run_text.specs.Held.{held_head, held_meta}
 use Rattle.record_text.specs.Reports.{record_pieces}
 use Rattle.kept_texts.specs.Kept.{Grows}
 use Rattle.kept_texts.proofs.RecordLemmas.{both, fields_text, grown}
-use Rattle.kept_texts.proofs.pieces.Pieces.put_fields.Goals as goal
+use Rattle.kept_texts.proofs.pieces.KeptTexts.put_fields.Goals as goal
 
 pub returns : goal.returns
 unfolding fields_data heads_data metas_data tags_data
@@ -20,8 +20,8 @@ returns g c =
     grown _ _ _ _ (ap (λ hs. record_pieces false (map (λ p. head_data term_data p.0 p.1) (map held_head hs))) c.deref-2.ensures.value) c.in_ok-put_heads.ensures in
     let own_metas : Grows (record_pieces false metas) c.put-2.new.out.bytes.items c.put_metas.new.out.bytes.items =
     grown _ _ _ _
-    (ap (λ ms. record_pieces false (map (λ p. meta_data term_data (network c.args.self.now.net.now) p.0 p.1 p.2) (map held_meta ms))) c.deref-3.ensures.value
-    ∙ ap (λ n. record_pieces false (map (λ p. meta_data term_data n p.0 p.1 p.2) (map held_meta fields.metas.items))) c.args.self.now.own)
+    (ap (λ ms. record_pieces false (map (λ p. meta_data term_data (network c.args.net.now) p.0 p.1 p.2) (map held_meta ms))) c.deref-3.ensures.value
+    ∙ ap (λ n. record_pieces false (map (λ p. meta_data term_data n p.0 p.1 p.2) (map held_meta fields.metas.items))) c.requires)
     c.in_ok-put_metas.ensures in
     let own_tags : c.text.result.now ≡ record_pieces false tags =
     c.text.ensures ∙ ap (λ ts. record_pieces false (map (tag_data net) ts)) (c.in_ok-follow.ensures ∙ c.deref.ensures.value) in
