@@ -1,5 +1,4 @@
-use Rattle.std.proofs.Common.{◌≡◌, sym, subst, string_bytes}
-use Rattle.net_check.specs.Network.{network}
+use Rattle.std.proofs.Common.{subst, string_bytes}
 use Rattle.kept_texts.specs.Kept.{Grows, has_some, piece}
 use Rattle.kept_texts.proofs.ListLemmas.{kept_with}
 use Rattle.kept_texts.proofs.list.KeptList.add.Goals as goal

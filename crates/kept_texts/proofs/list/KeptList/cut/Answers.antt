@@ -1,6 +1,5 @@
-use Rattle.std.proofs.Common.{rules, ◌≡◌, ◌∙◌, ap, subst, sym, string_bytes, map, take, None, Some, List}
+use Rattle.std.proofs.Common.{rules, ◌≡◌, ◌∙◌, ap, sym, string_bytes, take, None, Some}
 use Rattle.std.specs.Prelude.{slice_get}
-use Rattle.kept_texts.specs.Kept.{AreKept}
 use Rattle.kept_texts.proofs.ListLemmas.{kept_cut, may_cut, none_cut}
 use Rattle.kept_texts.proofs.list.KeptList.cut.Goals as goal
 

@@ -1,4 +1,3 @@
-use Rattle.std.proofs.Common.{rules, ◌≡◌}
 use Rattle.kept_texts.proofs.ListLemmas.{followed}
 use Rattle.kept_texts.proofs.list.KeptList.follow.Goals as goal
 

@@ -1,4 +1,4 @@
-use Rattle.std.proofs.Common.{◌≡◌, ◌∙◌, ap, sym, ℕ, List, false, map}
+use Rattle.std.proofs.Common.{◌≡◌, ◌∙◌, ap, sym, List, false, map}
 use Rattle.serde_json.specs.Data.{Data}
 use Rattle.net_check.specs.Network.{network}
 use Rattle.run_text.specs.Forms.{fields_data, head_data, heads_data, meta_data, metas_data, tag_data, tags_data, term_data}

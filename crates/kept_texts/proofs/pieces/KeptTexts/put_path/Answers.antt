@@ -1,11 +1,9 @@
-use Rattle.std.proofs.Common.{◌≡◌, ◌∙◌, ap, sym, List, false, map, string_bytes}
+use Rattle.std.proofs.Common.{◌≡◌, ◌∙◌, ap, sym, List, false, map}
 use Rattle.serde_json.specs.Data.{Data}
-use Rattle.serde_json.specs.Written.{compact_text}
 use Rattle.run_text.specs.Forms.{decision_data, decisions_data, end_data, fields_data, place_data, places_data, term_data}
 use Rattle.path_records.specs.Shown.{fields_seen}
 use Rattle.record_text.specs.Records.{path_data, verdict_data}
 use Rattle.record_text.specs.Reports.{record_pieces}
-use Rattle.kept_texts.specs.Kept.{Grows}
 use Rattle.kept_texts.proofs.RecordLemmas.{both, grown, path_text}
 use Rattle.kept_texts.proofs.pieces.KeptTexts.put_path.Goals as goal
 
