@@ -134,7 +134,15 @@ fn put_rest<K: Sink>(
     ensures puts { PutsRest hops limit sides (network job.now.net) (entry job.now.injection) (K.told out.old).taken (K.told out.new).taken result }
     ensures shows { IfErr result (StopShows (K.told out.old) (K.told out.new)) }
 {
-    let tail = put_records::<Brand, Brand, K, Brand>(alloc, job, hops, limit, sides, out, Blank::new(1))?;
+    let tail = put_records::<Brand, Brand, K, Brand>(
+        alloc,
+        job,
+        hops,
+        limit,
+        sides,
+        out,
+        Blank::new(1),
+    )?;
     put_end(alloc, tail, out)
 }
 

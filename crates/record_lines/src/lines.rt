@@ -149,13 +149,7 @@ impl<N: OfNet, M: Mark, K: Sink> Receiver for Lines<'_, N, M, K> {
     } };
 
     fn take(&mut self, item: Record) -> Took {
-        match last_task_of(
-            &mut self.pieces,
-            self.sides,
-            self.some,
-            self.refuted,
-            item,
-        ) {
+        match last_task_of(&mut self.pieces, self.sides, self.some, self.refuted, item) {
             Task::Write { refuted } => match put_piece(self.pieces.text(), self.out) {
                 Put::All => {
                     self.some = true;

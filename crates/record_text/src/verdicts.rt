@@ -77,11 +77,7 @@ fn write_undecided(alloc: Global, out: &mut JsonText, cause: &Cause) -> Result<(
 
 /// A verdict: `{"sat":[..]}` with values, or `{"undecided":..}` with the cause.
 #[tactic(auto, unfolding(crate::specs::Records::verdict_data))]
-pub fn write_verdict(
-    alloc: Global,
-    out: &mut JsonText,
-    verdict: &Verdict,
-) -> Result<(), NoMemory>
+pub fn write_verdict(alloc: Global, out: &mut JsonText, verdict: &Verdict) -> Result<(), NoMemory>
     ensures { Gains (verdict_data verdict.now) result out.old out.new }
 {
     match verdict {

@@ -77,7 +77,12 @@ fn place_text(
 }
 
 /// A place: `"in NODE.PORT"` or `"out NODE.PORT"`, with an empty name for an id that is none of the net's.
-pub fn write_place(alloc: Global, out: &mut JsonText, net: &Net, place: Place) -> Result<(), NoMemory>
+pub fn write_place(
+    alloc: Global,
+    out: &mut JsonText,
+    net: &Net,
+    place: Place,
+) -> Result<(), NoMemory>
     ensures { Gains (place_data (network net.now) place) result out.old out.new }
 {
     match place.side {
