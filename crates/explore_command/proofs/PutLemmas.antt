@@ -74,8 +74,8 @@ module _ (hops limit : ℕ) (sides : RefutedSides) (net : Network) (i : Entry) w
   }
 
   -- an exploration over lines ended so
-  module _ {E : Type 0} (known now : Option (List ℕ)) (own : Network) (own_sides : RefutedSides) (some : Bool) (refuted : ℕ) (m : Receiving Record)
-      (stands : (items : List Record) → m.StandsFor items → HasLines net sides known now own own_sides some refuted items)
+  module _ {E : Type 0} (known now : Option (List ℕ)) (own_sides : RefutedSides) (some : Bool) (refuted : ℕ) (m : Receiving Record)
+      (stands : (items : List Record) → m.StandsFor items → HasLines net sides known now own_sides some refuted items)
       (stopped : (items : List Record) → m.StoppedIn items → StopsInLine net sides known now items)
       (fits : FitSo)
       (stops before after : ℕ) where

@@ -11,6 +11,7 @@ ghost use Rattle.explore_command.specs.Explores.{explore_work, is_done};
 ghost use Rattle.explore_command.specs.Putting.{PutsEnd, PutsRecords, PutsRest, StopShows, tail_of};
 
 use command_edge::{Ending, Stop};
+use kept_texts::{OfNet, Pieces};
 use net_check::Accepted;
 use own_records::laws::exact_records_fit;
 use own_records::names_are_spelled;
@@ -61,7 +62,7 @@ fn is_done(ending: Ending) -> bool
 }
 
 /// Puts the records as they are found.
-fn put_records<M: Mark, K: Sink, L: Ledger>(
+fn put_records<N: OfNet, M: Mark, K: Sink, L: Ledger>(
     alloc: Global,
     job: &Accepted,
     hops: u32,
@@ -72,7 +73,7 @@ fn put_records<M: Mark, K: Sink, L: Ledger>(
 ) -> Result<Tail, Stop>
     requires job { AreOfOneJob (network job.now.net) (entry job.now.injection) }
     requires limit { 0 < limit }
-    requires net { network job.now.net ≡ M.net }
+    requires net { network job.now.net ≡ N.net }
     requires sides { sides ≡ M.sides }
     requires known { (K.told out.old).taken ≡ M.known }
     requires name { blank.name ≡ L.name }
@@ -85,9 +86,8 @@ fn put_records<M: Mark, K: Sink, L: Ledger>(
     exact_records_fit();
     names_are_spelled(&job.net);
     let mut steps = Steps::<L>::new(blank);
-    let mut lines: Lines<'_, M, K> = Lines {
-        alloc,
-        net: &job.net,
+    let mut lines: Lines<'_, N, M, K> = Lines {
+        pieces: Pieces::new(alloc, &job.net),
         out,
         sides,
         some: false,
@@ -134,7 +134,15 @@ fn put_rest<K: Sink>(
     ensures puts { PutsRest hops limit sides (network job.now.net) (entry job.now.injection) (K.told out.old).taken (K.told out.new).taken result }
     ensures shows { IfErr result (StopShows (K.told out.old) (K.told out.new)) }
 {
-    let tail = put_records::<Brand, K, Brand>(alloc, job, hops, limit, sides, out, Blank::new(1))?;
+    let tail = put_records::<Brand, Brand, K, Brand>(
+        alloc,
+        job,
+        hops,
+        limit,
+        sides,
+        out,
+        Blank::new(1),
+    )?;
     put_end(alloc, tail, out)
 }
 

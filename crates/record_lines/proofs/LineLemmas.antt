@@ -83,24 +83,22 @@ pub none_of_types : (net : Network) (sides : RefutedSides) → AreOfTypes net si
 none_of_types net Written = record { ranges = tt; few = omega arith; utf8 = IsUtf8-nil }
 none_of_types net Counted = record { ranges = tt; few = omega arith; utf8 = IsUtf8-nil }
 
-module _ (net own : Network) (sides own_sides : RefutedSides) (known before now : Option (List ℕ)) (some : Bool) (refuted : ℕ) (item : Record) where
+module _ (net : Network) (sides own_sides : RefutedSides) (known before now : Option (List ℕ)) (some : Bool) (refuted : ℕ) (item : Record) where
   -- the piece was put
-  pub one_more : is_written own_sides item ≡ true → RecordInRange item → IsUtf8 (piece_text own some item) → (count : ℕ) → count < 2 ^ 64
-      → count ≡ refuted + refuted_by item → now ≡ append_known before (piece_text own some item)
-      → (items : List Record) → HasLines net sides known before own own_sides some refuted items
-      → HasLines net sides known now own own_sides true count (items ++ item ∷ [])
+  pub one_more : is_written own_sides item ≡ true → RecordInRange item → IsUtf8 (piece_text net some item) → (count : ℕ) → count < 2 ^ 64
+      → count ≡ refuted + refuted_by item → now ≡ append_known before (piece_text net some item)
+      → (items : List Record) → HasLines net sides known before own_sides some refuted items
+      → HasLines net sides known now own_sides true count (items ++ item ∷ [])
   one_more put range utf8 count small counts gained items has =
       let is : is_written sides item ≡ true = subst (λ s. is_written s item ≡ true) has.same_sides put in
       let before_it = written_of sides items in
       let counted : count ≡ refuted_count (items ++ item ∷ []) = counts ∙ (ap (λ n. n + refuted_by item) has.counted ∙ sym (count_with items item)) in
       record {
-        same = has.same;
         same_sides = has.same_sides;
-        taken = gained ∙ (ap (λ n. append_known before (piece_text n some item)) has.same
-            ∙ (ap (λ b. append_known before (piece_text net b item)) has.has
+        taken = gained ∙ (ap (λ b. append_known before (piece_text net b item)) has.has
             ∙ (ap (λ k. append_known k (piece_text net (has_some before_it) item)) has.taken
             ∙ (append_known-append known (records_text net before_it) (piece_text net (has_some before_it) item)
-            ∙ ap (append_known known) (sym (written_behind net sides items item is))))));
+            ∙ ap (append_known known) (sym (written_behind net sides items item is)))));
         has = sym (has_some_with before_it item) ∙ ap has_some (sym (written_with sides items item is));
         counted = counted;
         of_types = record {
@@ -108,20 +106,19 @@ module _ (net own : Network) (sides own_sides : RefutedSides) (known before now 
           few = subst (λ n. n < 2 ^ 64) counted small;
           utf8 = subst IsUtf8 (sym (written_behind net sides items item is))
               (IsUtf8-append (records_text net before_it) (piece_text net (has_some before_it) item) has.of_types.utf8
-              (subst (λ b. IsUtf8 (piece_text net b item)) has.has (subst (λ n. IsUtf8 (piece_text n some item)) has.same utf8)));
+              (subst (λ b. IsUtf8 (piece_text net b item)) has.has utf8));
         };
       }
 
   -- it is not written
   pub one_counted : is_written own_sides item ≡ false → RecordInRange item → (count : ℕ) → count < 2 ^ 64 → count ≡ refuted + refuted_by item
-      → (items : List Record) → HasLines net sides known before own own_sides some refuted items
-      → HasLines net sides known before own own_sides some count (items ++ item ∷ [])
+      → (items : List Record) → HasLines net sides known before own_sides some refuted items
+      → HasLines net sides known before own_sides some count (items ++ item ∷ [])
   one_counted left range count small counts items has =
       let is : is_written sides item ≡ false = subst (λ s. is_written s item ≡ false) has.same_sides left in
       let same : written_of sides items ≡ written_of sides (items ++ item ∷ []) = sym (written_without sides items item is) in
       let counted : count ≡ refuted_count (items ++ item ∷ []) = counts ∙ (ap (λ n. n + refuted_by item) has.counted ∙ sym (count_with items item)) in
       record {
-        same = has.same;
         same_sides = has.same_sides;
         taken = has.taken ∙ ap (λ xs. append_known known (records_text net xs)) same;
         has = has.has ∙ ap has_some same;
@@ -134,14 +131,14 @@ module _ (net own : Network) (sides own_sides : RefutedSides) (known before now 
       }
 
   -- or a beginning of its piece was put
-  pub stops_in : is_written own_sides item ≡ true → ((part : List ℕ) × IsPrefix part (piece_text own some item) × (now ≡ append_known before part))
-      → (items : List Record) → HasLines net sides known before own own_sides some refuted items → StopsInLine net sides known now (items ++ item ∷ [])
+  pub stops_in : is_written own_sides item ≡ true → ((part : List ℕ) × IsPrefix part (piece_text net some item) × (now ≡ append_known before part))
+      → (items : List Record) → HasLines net sides known before own_sides some refuted items → StopsInLine net sides known now (items ++ item ∷ [])
   stops_in put (part, begins, gained) items has = record {
     done = items;
     last = item;
     is = refl;
     put = subst (λ s. is_written s item ≡ true) has.same_sides put;
     part = part;
-    begins = subst (λ b. IsPrefix part (piece_text net b item)) has.has (subst (λ n. IsPrefix part (piece_text n some item)) has.same begins);
+    begins = subst (λ b. IsPrefix part (piece_text net b item)) has.has begins;
     taken = gained ∙ (ap (λ k. append_known k part) has.taken ∙ append_known-append known (records_text net (written_of sides items)) part);
   }

@@ -1,5 +1,5 @@
 -- What a sink has gained of the records of a report.
-use Rattle.std.specs.Prelude.{ℕ, ◌≡◌, ◌+◌, ◌<◌, ◌^◌, Bool, true, false, List, [], ◌∷◌, ◌++◌, filter, map, string_bytes, sum_by, IsUtf8, Option}
+use Rattle.std.specs.Prelude.{ℕ, ◌≡◌, ◌+◌, ◌<◌, ◌^◌, Bool, true, false, List, [], ◌∷◌, ◌++◌, filter, map, sum_by, IsUtf8, Option}
 use Rattle.std.specs.List.{AllByRecursion}
 use Rattle.std.specs.Io.KnownBytes.{append_known}
 use Rattle.serde_json.specs.Written.{comma_if, compact_text}
@@ -47,14 +47,14 @@ has_some (x ∷ xs) = true
 abbrev pub piece_text : Network → Bool → Record → List ℕ
 piece_text net later item = comma_if later ++ compact_text (record_data net item)
 
--- what is to be done with a record, where one was put before it or not and so many refuted sides were taken: its piece is put, or it is
--- only counted
-abbrev pub IsTask : Network → RefutedSides → Bool → ℕ → Record → Task → Type 0
-IsTask net sides later refuted item (task.Write piece count) =
-    (is_written sides item ≡ true) × RecordInRange item × (count < 2 ^ 64) × (count ≡ refuted + refuted_by item) × (string_bytes piece ≡ piece_text net later item)
-IsTask net sides later refuted item (task.Count count) =
+-- what is to be done with a record, where one was put before it or not and that many refuted sides were taken: its piece is put, or it
+-- is only counted
+abbrev pub IsTask : Network → RefutedSides → Bool → ℕ → Record → List ℕ → Task → Type 0
+IsTask net sides later refuted item piece (task.Write count) =
+    (is_written sides item ≡ true) × RecordInRange item × (count < 2 ^ 64) × (count ≡ refuted + refuted_by item) × (piece ≡ piece_text net later item)
+IsTask net sides later refuted item piece (task.Count count) =
     (is_written sides item ≡ false) × RecordInRange item × (count < 2 ^ 64) × (count ≡ refuted + refuted_by item)
-IsTask net sides later refuted item task.NoMemory = Unit {0}
+IsTask net sides later refuted item piece task.NoMemory = Unit {0}
 
 -- the pieces of records
 abbrev pub records_text : Network → List Record → List ℕ
@@ -73,10 +73,9 @@ pub record AreOfTypes (net : Network) (sides : RefutedSides) (items : List Recor
   pub utf8 : IsUtf8 (records_text net (written_of sides items))
 
 module _ (net : Network) (sides : RefutedSides) (known now : Option (List ℕ)) where
-  -- behind what was known there are the pieces of those of these records that are written, which are of the net; whether there is
-  -- any, and how many are refuted sides
-  pub record HasLines (own : Network) (own_sides : RefutedSides) (some : Bool) (refuted : ℕ) (items : List Record) : Type 0 where
-    pub same : own ≡ net
+  -- behind what was known there are the pieces of those of these records that are written; whether there is any, and how many are
+  -- refuted sides
+  pub record HasLines (own_sides : RefutedSides) (some : Bool) (refuted : ℕ) (items : List Record) : Type 0 where
     pub same_sides : own_sides ≡ sides
     pub taken : now ≡ append_known known (records_text net (written_of sides items))
     pub has : some ≡ has_some (written_of sides items)
@@ -92,11 +91,3 @@ module _ (net : Network) (sides : RefutedSides) (known now : Option (List ℕ)) 
     pub part : List ℕ
     pub begins : IsPrefix part (piece_text net (has_some (written_of sides done)) last)
     pub taken : now ≡ append_known known (records_text net (written_of sides done) ++ part)
-
--- a net without nodes, whose records nobody writes
-abbrev pub no_net : Network
-no_net = record {
-  own = record { nodes = []; links = [] };
-  names = record { metas = []; tags = []; patterns = [] };
-  found = [];
-}

@@ -1,19 +1,15 @@
 //! Records that are put as they are found.
 
-ghost use Rattle.std.specs.Prelude.{◌≡◌, ◌+◌, string_bytes, IfOk, IfSome, IsTrue};
-ghost use Rattle.net_check.specs.Network.{network};
+ghost use Rattle.std.specs.Prelude.{◌≡◌, ◌+◌, IfSome, IsTrue};
 ghost use Rattle.record_ranges.specs.Ranges.{RecordInRange};
-ghost use Rattle.record_lines.specs.Lines.{HasLines, IsTask, StopsInLine, is_written, piece_text, refuted_by};
+ghost use Rattle.record_lines.specs.Lines.{HasLines, IsTask, StopsInLine, is_written, refuted_by};
 
 use crate::ends::put_piece;
-use net_check::Net;
+use kept_texts::{OfNet, Pieces};
 use path_exec::{Receiver, Took};
 use path_records::Record;
 use record_ranges::numbers_are_in_range;
-use record_text::record_text;
 use sn_edge::{Put, Sink};
-use sn_width::NoMemory;
-use std::alloc::Global;
 use std::marker::{Brand, PhantomData};
 
 /// What is put of refuted sides.
@@ -25,13 +21,10 @@ pub enum RefutedSides {
     Counted,
 }
 
-/// The net that records are of, which of them are written, and what a sink held before the first of them.
+/// Which records are written, and what a sink held before the first of them.
 pub trait Mark {
     ghost use Rattle.std.specs.Prelude.{ℕ, List, Option};
-    ghost use Rattle.net_check.specs.Network.{Network};
     ghost use Rattle.record_lines.specs.declared.lines.RefutedSides.{RefutedSides as Sides};
-
-    ghost net: { Network };
 
     ghost sides: { Sides };
 
@@ -40,10 +33,7 @@ pub trait Mark {
 
 impl Mark for Brand {
     ghost use Rattle.std.specs.Prelude.{None};
-    ghost use Rattle.record_lines.specs.Lines.{no_net};
     ghost use Rattle.record_lines.specs.declared.lines.RefutedSides.TheVariants.{Written};
-
-    ghost net = { no_net };
 
     ghost sides = { Written };
 
@@ -53,9 +43,8 @@ impl Mark for Brand {
 /// Puts each record of a net that is written into a sink, behind a comma where another one was put before it. It keeps none of
 /// them.
 #[derive(Drop)]
-pub struct Lines<'a, M: Mark, K: Sink> {
-    pub alloc: Global,
-    pub net: &'a Net,
+pub struct Lines<'a, N: OfNet, M: Mark, K: Sink> {
+    pub pieces: Pieces<'a, N>,
     pub out: &'a mut K,
     pub sides: RefutedSides,
     /// Whether a record was put.
@@ -63,17 +52,6 @@ pub struct Lines<'a, M: Mark, K: Sink> {
     /// How many refuted sides were taken.
     pub refuted: u64,
     pub of: PhantomData<M>,
-}
-
-/// The piece of a record.
-fn piece_of(alloc: Global, net: &Net, later: bool, item: &Record) -> Result<String, NoMemory>
-    ensures { IfOk result (λ piece. string_bytes piece ≡ piece_text (network net.now) later item.now) }
-{
-    let text = record_text(alloc, net, item)?;
-    if later {
-        return Ok(format!(in alloc; ",{text}")?);
-    }
-    Ok(text)
 }
 
 /// The number of refuted sides with this record; None where it cannot rise any more.
@@ -113,23 +91,23 @@ fn is_written(sides: RefutedSides, item: &Record) -> bool
 /// What is to be done with a record.
 #[derive(Drop)]
 enum Task {
-    /// Its piece is put; with it there are so many refuted sides.
-    Write { piece: String, refuted: u64 },
+    /// Its piece, which was written, is put; with it there are so many refuted sides.
+    Write { refuted: u64 },
     /// It is only counted.
     Count { refuted: u64 },
     NoMemory,
 }
 
-/// What is to be done with a record, where one was put before it or not, and so many refuted sides were taken.
-fn task_of(
-    alloc: Global,
-    net: &Net,
+/// What is to be done with a record, where one was put before it or not, and so many refuted sides were taken. The piece of
+/// one that is put is written.
+fn task_of<N: OfNet>(
+    pieces: &mut Pieces<'_, N>,
     sides: RefutedSides,
     later: bool,
     refuted: u64,
     item: &Record,
 ) -> Task
-    ensures { IsTask (network net.now) sides later refuted item.now result }
+    ensures { IsTask N.net sides later refuted item.now pieces.new result }
 {
     let Some(refuted) = refuted_with(refuted, item) else {
         return Task::NoMemory;
@@ -140,47 +118,39 @@ fn task_of(
     if !is_written(sides, item) {
         return Task::Count { refuted };
     }
-    match piece_of(alloc, net, later, item) {
-        Ok(piece) => Task::Write { piece, refuted },
+    match pieces.write(later, item) {
+        Ok(()) => Task::Write { refuted },
         Err(_) => Task::NoMemory,
     }
 }
 
 /// The same of a record that is not kept.
-fn last_task_of(
-    alloc: Global,
-    net: &Net,
+fn last_task_of<N: OfNet>(
+    pieces: &mut Pieces<'_, N>,
     sides: RefutedSides,
     later: bool,
     refuted: u64,
     item: Record,
 ) -> Task
-    ensures { IsTask (network net.now) sides later refuted item result }
+    ensures { IsTask N.net sides later refuted item pieces.new result }
 {
-    task_of(alloc, net, sides, later, refuted, &item)
+    task_of(pieces, sides, later, refuted, &item)
 }
 
-impl<M: Mark, K: Sink> Receiver for Lines<'_, M, K> {
+impl<N: OfNet, M: Mark, K: Sink> Receiver for Lines<'_, N, M, K> {
     type Item = Record;
 
     ghost seen = { λ lines. record {
-      StandsFor = HasLines M.net M.sides M.known (K.told lines.out.now).taken (network lines.net.now) lines.sides lines.some lines.refuted;
-      StoppedIn = StopsInLine M.net M.sides M.known (K.told lines.out.now).taken;
+      StandsFor = HasLines N.net M.sides M.known (K.told lines.out.now).taken lines.sides lines.some lines.refuted;
+      StoppedIn = StopsInLine N.net M.sides M.known (K.told lines.out.now).taken;
       stops = (K.told lines.out.now).faults;
       target = lines.out.ghost_name;
       Takes = λ item. Unit {0};
     } };
 
     fn take(&mut self, item: Record) -> Took {
-        match last_task_of(
-            self.alloc,
-            self.net,
-            self.sides,
-            self.some,
-            self.refuted,
-            item,
-        ) {
-            Task::Write { piece, refuted } => match put_piece(&piece, self.out) {
+        match last_task_of(&mut self.pieces, self.sides, self.some, self.refuted, item) {
+            Task::Write { refuted } => match put_piece(self.pieces.text(), self.out) {
                 Put::All => {
                     self.some = true;
                     self.refuted = refuted;

@@ -13,7 +13,7 @@ use Rattle.record_text.specs.declared.report.Report.{Report}
 use Rattle.record_text.specs.Records.{record_data, records_data}
 use Rattle.record_text.specs.Reports.{state_text, report_data, head_text, record_pieces, tail_text, report_line, report_text}
 
-records_close : (later : Bool) (ds : List Data) → items_text later (items_of ds) ≡ record_pieces later ds ++ 93 ∷ []
+pub records_close : (later : Bool) (ds : List Data) → items_text later (items_of ds) ≡ record_pieces later ds ++ 93 ∷ []
 records_close later [] = refl
 records_close later (d ∷ ds) =
     ap (λ s. comma_if later ++ (compact_text d ++ s)) (records_close true ds)

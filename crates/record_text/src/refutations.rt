@@ -68,7 +68,7 @@ fn write_step(out: &mut JsonText, step: &Refute) -> Result<(), NoMemory>
 
 /// The steps of a refutation, in order.
 #[tactic(auto, unfolding(crate::specs::Records::refutation_data))]
-pub(crate) fn write_refutation(out: &mut JsonText, steps: &[Refute]) -> Result<(), NoMemory>
+pub fn write_refutation(out: &mut JsonText, steps: &[Refute]) -> Result<(), NoMemory>
     ensures { Gains (refutation_data steps.now) result out.old out.new }
 {
     out.begin_list()?;

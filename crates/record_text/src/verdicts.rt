@@ -77,11 +77,7 @@ fn write_undecided(alloc: Global, out: &mut JsonText, cause: &Cause) -> Result<(
 
 /// A verdict: `{"sat":[..]}` with values, or `{"undecided":..}` with the cause.
 #[tactic(auto, unfolding(crate::specs::Records::verdict_data))]
-pub(crate) fn write_verdict(
-    alloc: Global,
-    out: &mut JsonText,
-    verdict: &Verdict,
-) -> Result<(), NoMemory>
+pub fn write_verdict(alloc: Global, out: &mut JsonText, verdict: &Verdict) -> Result<(), NoMemory>
     ensures { Gains (verdict_data verdict.now) result out.old out.new }
 {
     match verdict {
@@ -92,7 +88,7 @@ pub(crate) fn write_verdict(
 
 /// A verdict, or null where there is none.
 #[tactic(auto, unfolding(crate::specs::Records::before_data))]
-pub(crate) fn write_before(
+pub fn write_before(
     alloc: Global,
     out: &mut JsonText,
     before: &Option<Verdict>,

@@ -41,7 +41,8 @@ fn write_tag_name(out: &mut JsonText, net: &Net, tag: TagId) -> Result<(), NoMem
 }
 
 #[tactic(auto, unfolding(crate::specs::Forms::head_data))]
-fn write_head<V: CellValue>(
+/// An address in bits, and its cells.
+pub fn write_head<V: CellValue>(
     alloc: Global,
     out: &mut JsonText,
     address: i32,
@@ -74,7 +75,8 @@ fn write_heads<V: CellValue>(
 }
 
 #[tactic(auto, unfolding(crate::specs::Forms::meta_data))]
-fn write_meta<V: CellValue>(
+/// The name of the owner, null for a global, a name of metadata, and its cells.
+pub fn write_meta<V: CellValue>(
     alloc: Global,
     out: &mut JsonText,
     net: &Net,
@@ -110,7 +112,8 @@ fn write_metas<V: CellValue>(
     Ok(())
 }
 
-fn write_tag(out: &mut JsonText, net: &Net, tag: TagId, address: i32) -> Result<(), NoMemory>
+/// The name of a tag, and an address in bits.
+pub fn write_tag(out: &mut JsonText, net: &Net, tag: TagId, address: i32) -> Result<(), NoMemory>
     ensures { Gains (tag_data (network net.now) (tag, address)) result out.old out.new }
 {
     lists_are_written();

@@ -37,7 +37,8 @@ pub fn write_values(alloc: Global, out: &mut JsonText, values: &[Num]) -> Result
     Ok(())
 }
 
-fn write_decision(out: &mut JsonText, decision: Decision) -> Result<(), NoMemory>
+/// A decision: `"then"`, `"else"`, `"pass"`, `"broken"`, or the number of a Copy.
+pub fn write_decision(out: &mut JsonText, decision: Decision) -> Result<(), NoMemory>
     ensures { Gains (decision_data decision) result out.old out.new }
 {
     match decision {
@@ -49,7 +50,7 @@ fn write_decision(out: &mut JsonText, decision: Decision) -> Result<(), NoMemory
     }
 }
 
-/// A list of decisions: `"then"`, `"else"`, `"pass"`, `"broken"`, and the number of a Copy.
+/// A list of decisions.
 #[tactic(auto, unfolding(crate::specs::Forms::decisions_data))]
 pub fn write_decisions(out: &mut JsonText, decisions: &[Decision]) -> Result<(), NoMemory>
     ensures { Gains (decisions_data decisions.now) result out.old out.new }
@@ -75,7 +76,13 @@ fn place_text(
     Ok(format!(in alloc; "{side}{name}.{port}")?)
 }
 
-fn write_place(alloc: Global, out: &mut JsonText, net: &Net, place: Place) -> Result<(), NoMemory>
+/// A place: `"in NODE.PORT"` or `"out NODE.PORT"`, with an empty name for an id that is none of the net's.
+pub fn write_place(
+    alloc: Global,
+    out: &mut JsonText,
+    net: &Net,
+    place: Place,
+) -> Result<(), NoMemory>
     ensures { Gains (place_data (network net.now) place) result out.old out.new }
 {
     match place.side {
@@ -86,8 +93,7 @@ fn write_place(alloc: Global, out: &mut JsonText, net: &Net, place: Place) -> Re
     }
 }
 
-/// A list of places: `"in NODE.PORT"` and `"out NODE.PORT"`, with an empty name for an id that is none
-/// of the net's.
+/// A list of places.
 #[tactic(auto, unfolding(crate::specs::Forms::places_data))]
 pub fn write_places(
     alloc: Global,

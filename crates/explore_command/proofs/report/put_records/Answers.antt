@@ -13,8 +13,8 @@ returns-clause-puts g c =
     let lines = c.explore_into-ended.new.out in
     let puts : PutsRecords c.args.hops c.args.limit g.M.Mark.sides net i g.M.Mark.known (g.K.Sink.told lines.out.now).taken c.tail_of.result =
     subst (PutsRecords c.args.hops c.args.limit g.M.Mark.sides net i g.M.Mark.known (g.K.Sink.told lines.out.now).taken) (sym c.tail_of.ensures)
-    (records_put c.args.hops c.args.limit g.M.Mark.sides net i g.M.Mark.known (g.K.Sink.told lines.out.now).taken (network lines.net.now) lines.sides lines.some lines.refuted _
-    (λ items h. subst (λ n. HasLines n g.M.Mark.sides g.M.Mark.known (g.K.Sink.told lines.out.now).taken (network lines.net.now) lines.sides lines.some lines.refuted items) (sym c.requires.net) h)
+    (records_put c.args.hops c.args.limit g.M.Mark.sides net i g.M.Mark.known (g.K.Sink.told lines.out.now).taken lines.sides lines.some lines.refuted _
+    (λ items h. subst (λ n. HasLines n g.M.Mark.sides g.M.Mark.known (g.K.Sink.told lines.out.now).taken lines.sides lines.some lines.refuted items) (sym c.requires.net) h)
     (λ items h. subst (λ n. StopsInLine n g.M.Mark.sides g.M.Mark.known (g.K.Sink.told lines.out.now).taken items) (sym c.requires.net) h)
     (λ items exact ranges. c.exact_records_fit.ensures net i c.args.hops c.args.limit items c.requires.job c.names_are_spelled.ensures exact ranges)
     _ _ _ c.explore_into-ended.result c.explore_into-ended.ensures.explored) in

@@ -2,28 +2,27 @@ use Rattle.std.proofs.Common.{◌∙◌, ap, subst}
 use Rattle.std.specs.Prelude.{IsUtf8}
 use Rattle.std.specs.Io.KnownBytes.{append_known}
 use Rattle.sn_edge.specs.Pieces.{IsPrefix}
-use Rattle.net_check.specs.Network.{network}
 use Rattle.record_lines.proofs.LineLemmas.{one_counted, one_more, stops_in}
 use Rattle.record_lines.proofs.lines.LinesReceiver.take.Goals as goal
 
 pub returns-in-Count-clause-took : goal.returns-in-Count-clause-took
 returns-in-Count-clause-took g c =
     let (left, range, few, counts) = c.in-Count.ensures in
-    one_counted g.M.Mark.net (network c.args.self.now.net.now) g.M.Mark.sides c.args.self.now.sides g.M.Mark.known (g.K.Sink.told c.args.self.now.out.now).taken
+    one_counted g.N.OfNet.net g.M.Mark.sides c.args.self.now.sides g.M.Mark.known (g.K.Sink.told c.args.self.now.out.now).taken
     (g.K.Sink.told c.args.self.now.out.now).taken c.args.self.now.some c.args.self.now.refuted c.args.item left range c.in-Count.refuted few counts
 
 pub returns-in-All-clause-took : goal.returns-in-All-clause-took
 returns-in-All-clause-took g c =
     let (put, range, few, counts, is) = c.in-Write.ensures in
-    one_more g.M.Mark.net (network c.args.self.now.net.now) g.M.Mark.sides c.args.self.now.sides g.M.Mark.known (g.K.Sink.told c.args.self.now.out.now).taken (g.K.Sink.told c.put_piece.new.out).taken
-    c.args.self.now.some c.args.self.now.refuted c.args.item put range (subst IsUtf8 (c.deref.ensures ∙ is) c.deref.utf8) c.in-Write.refuted few counts
-    (c.in-All.ensures.puts ∙ ap (append_known (g.K.Sink.told c.args.self.now.out.now).taken) (c.deref.ensures ∙ is))
+    one_more g.N.OfNet.net g.M.Mark.sides c.args.self.now.sides g.M.Mark.known (g.K.Sink.told c.args.self.now.out.now).taken (g.K.Sink.told c.put_piece.new.out).taken
+    c.args.self.now.some c.args.self.now.refuted c.args.item put range (subst IsUtf8 (c.text.ensures ∙ is) c.text.utf8) c.in-Write.refuted few counts
+    (c.in-All.ensures.puts ∙ ap (append_known (g.K.Sink.told c.args.self.now.out.now).taken) (c.text.ensures ∙ is))
 
 pub returns-in-Failed-clause-took : goal.returns-in-Failed-clause-took
 returns-in-Failed-clause-took g c =
     let (put, range, few, counts, is) = c.in-Write.ensures in
     let (part, begins, gained) = c.in-Failed.ensures.puts in (
       c.in-Failed.ensures.failed,
-      stops_in g.M.Mark.net (network c.args.self.now.net.now) g.M.Mark.sides c.args.self.now.sides g.M.Mark.known (g.K.Sink.told c.args.self.now.out.now).taken (g.K.Sink.told c.put_piece.new.out).taken
-          c.args.self.now.some c.args.self.now.refuted c.args.item put (part, subst (IsPrefix part) (c.deref.ensures ∙ is) begins, gained),
+      stops_in g.N.OfNet.net g.M.Mark.sides c.args.self.now.sides g.M.Mark.known (g.K.Sink.told c.args.self.now.out.now).taken (g.K.Sink.told c.put_piece.new.out).taken
+          c.args.self.now.some c.args.self.now.refuted c.args.item put (part, subst (IsPrefix part) (c.text.ensures ∙ is) begins, gained),
     )
