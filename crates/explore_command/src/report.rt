@@ -103,7 +103,13 @@ fn put_records<N: OfNet, M: Mark, K: Sink, L: Ledger>(
         &mut lines,
         &mut steps,
     );
-    tail_of(ended, lines.refuted)
+    let Lines {
+        pieces,
+        refuted,
+        ..
+    } = lines;
+    drop(pieces);
+    tail_of(ended, refuted)
 }
 
 /// Puts the tail.

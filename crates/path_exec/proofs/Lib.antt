@@ -3,6 +3,7 @@ pub mod Splitting
 pub mod Taking
 pub mod Spending
 pub mod Counting
+pub mod Turned
 pub mod Steps
 pub mod Endings
 pub mod Leaving

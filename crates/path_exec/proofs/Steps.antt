@@ -104,6 +104,15 @@ pub known_now : (s : SymStart) (c : Spot) (verdict : Verdict) → AllTyped itsel
     → IsKnown (condition_at s c) verdict
 known_now s c verdict typed is = record { first = c.widths; more = []; widths = sym (append_nil c.widths); typed = typed; is = is }
 
+-- ---- no decision is taken where a run goes on
+
+module _ {P O N D T : Type 0} (x : Views P O N D T) where
+  pub over_behind : (h : Here) (o : O) (before after : ℕ) → Advances x h before after (AtEnd o) → (x.over_at o).decisions ≡ h.decisions
+  over_behind h o before after adv = (adv.goes 0).0.arrives.decisions
+
+  pub came_behind : (h : Here) (n : N) (offer : Offer) (before after : ℕ) → Advances x h before after (AtNode n offer) → (x.node_at n).decisions ≡ h.decisions
+  came_behind h n offer before after adv = (adv.goes 0).0.arrives.decisions
+
 -- ---- steps
 
 module _ {P O N D T : Type 0} (x : Views P O N D T) (below : StepsStand x.start) (stay : VerdictsStay x.start) (exact : StandingIsExact x.start) where

@@ -168,3 +168,9 @@ module _ {P O N D T : Type 0} (x : Views P O N D T) where
   pub placed_next : (w : Work N D) (h : IsWork x w) (place : P) → spot_at (begun_at x.start.tree (x.node_at w.node).decisions) (x.place_at place) ≡ (next_of w h).spot
       → behind_last x.start (x.place_at place) ≡ (next_of w h).spot
   placed_next w h place e = placed x w.node (offer_at w.offer w.taken) place (next_of w h).spot e (next_of w h).decisions
+
+  -- the decisions of such a place
+  pub next_course : (w : Work N D) (h : IsWork x w) (place : P) (d : Decision) (course : List Decision) → behind_last x.start (x.place_at place) ≡ (next_of w h).spot
+      → d ≡ offer_at w.offer w.taken → course ≡ (x.node_at w.node).decisions ++ d ∷ [] → course ≡ (x.place_at place).decisions
+  next_course w h place d course e is turned =
+      turned ∙ (ap (λ (c : Decision). (x.node_at w.node).decisions ++ c ∷ []) is ∙ (sym (next_of w h).decisions ∙ sym (ap (λ (a : Spot). a.decisions) e)))

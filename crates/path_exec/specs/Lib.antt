@@ -1,9 +1,11 @@
+pub mod Handing
 pub mod Here
 pub mod Views
 pub mod Offers
 pub mod Moves
 pub mod Trials
 pub mod Works
+pub mod Coursing
 pub mod Paying
 pub mod Keeping
 pub mod Receiving

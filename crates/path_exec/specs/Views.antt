@@ -6,8 +6,8 @@ use Rattle.refutation_check.specs.declared.outcome.Verdict.{Verdict}
 use Rattle.exact_records.specs.Records.{RecordTree, SymStart}
 use Rattle.path_exec.specs.Here.{Here}
 
--- what is explored; places, ends and nodes as where they stand, and what is carried at a place; findings as verdicts; records as
--- what they mean, and whether their names are those of the net
+-- what is explored; places, ends and nodes as where they stand, and what is carried at a place; findings as verdicts; what is
+-- handed over as the record that it means, and whether its names are those of the net
 pub record Views (P O N D T : Type 0) : Type 1 where
   pub start : SymStart
   pub place_at : P → Here

@@ -1,8 +1,10 @@
 //! What an exploration stands on: places of a run, and the decision of their conditions.
 
-ghost use Rattle.std.specs.Prelude.{◌≡◌, ◌↔◌, ◌++◌, ◌∷◌, [], ℕ, Some, None, IfOk, IsTrue, length};
+ghost use Rattle.std.specs.Prelude.{◌≡◌, ◌↔◌, [], ℕ, List, Some, None, IfOk, IsTrue, length};
+ghost use Rattle.sefl_meaning.specs.declared.walk.Decision.{Decision as ADecision};
 ghost use Rattle.exact_records.specs.Records.{pruned, unexplored};
 ghost use Rattle.exact_records.specs.Spots.{Spot, condition_at, filled_verdict, first_spot, IsKnown};
+ghost use Rattle.path_exec.specs.Handing.{Handed, IsListed, handed};
 ghost use Rattle.path_exec.specs.Here.{EndsWith, spot_at};
 ghost use Rattle.path_exec.specs.Views.{Views, IsMade};
 ghost use Rattle.path_exec.specs.Offers.{IsOffered, next_spot};
@@ -13,6 +15,7 @@ use refutation_check::Refutation;
 use sefl_meaning::{Decision, Place};
 use sn_width::{NoMemory, Steps};
 use std::alloc::Global;
+use std::rc::Rc;
 use std::sync::ledger::Ledger;
 
 /// The instruction that waits for a decision.
@@ -63,11 +66,11 @@ pub trait Engine {
     /// What was found of a condition that is not refuted.
     type Finding: Drop;
 
-    /// What is written out.
-    type Record: Drop;
+    /// What is found at the end of a list of decisions.
+    type Found: Drop;
 
     /// What all these are seen as.
-    ghost views: { Self → Views Self.Place Self.Over Self.Node Self.Finding Self.Record };
+    ghost views: { Self → Views Self.Place Self.Over Self.Node Self.Finding (Handed Self.Found) };
 
     /// The place before the injection's port.
     fn begin(&self, alloc: Global) -> Result<Self::Place, NoMemory>
@@ -120,37 +123,28 @@ pub trait Engine {
         ensures { IfOk result (λ tried. (begun : ℕ) (c : Spot) → next_spot (spot_at begun ((views self.now).node_at node.now)) decision ≡ Some c
             → IsTrial (views self.now) begun c tried) };
 
-    /// The record of a path that is over, where this was found of its condition.
-    fn path(
-        &self,
-        alloc: Global,
-        over: Self::Over,
-        finding: &Self::Finding,
-    ) -> Result<Self::Record, NoMemory>
-        ensures { IfOk result (λ made. (begun : ℕ) → IsPathOf (views self.now) (spot_at begun ((views self.now).over_at over)) ((views self.now).verdict_of finding.now) made) };
+    /// A path that is over, where this was found of its condition.
+    fn path(&self, over: Self::Over, finding: Rc<Self::Finding>) -> Self::Found
+        ensures { IsListed ((views self.now).over_at over).decisions → (begun : ℕ)
+            → IsPathOf (views self.now) (spot_at begun ((views self.now).over_at over)) ((views self.now).verdict_of finding.value)
+            (handed ((views self.now).over_at over).decisions result) };
 
-    /// The record of a refuted injection.
-    fn refuted(&self, alloc: Global, refutation: Refutation) -> Result<Self::Record, NoMemory>
-        ensures { IfOk result (IsMade (views self.now) (pruned [] None refutation)) };
+    /// A refuted injection.
+    fn refuted(&self, refutation: Refutation) -> Self::Found
+        ensures { IsMade (views self.now) (pruned [] None refutation) (handed [] result) };
 
-    /// The record of a refuted side, where this was found before its decision.
+    /// A refuted side behind a node, where this was found before its decision.
     fn pruned(
         &self,
-        alloc: Global,
         node: &Self::Node,
-        decision: Decision,
-        before: &Self::Finding,
+        before: Rc<Self::Finding>,
         refutation: Refutation,
-    ) -> Result<Self::Record, NoMemory>
-        ensures { IfOk result (IsMade (views self.now) (pruned (((views self.now).node_at node.now).decisions ++ decision ∷ [])
-            (Some (filled_verdict (length ((views self.now).node_at node.now).widths) ((views self.now).verdict_of before.now))) refutation)) };
+    ) -> Self::Found
+        ensures { (ds : List ADecision) → IsListed ds → IsMade (views self.now)
+            (pruned ds (Some (filled_verdict (length ((views self.now).node_at node.now).widths) ((views self.now).verdict_of before.value))) refutation)
+            (handed ds result) };
 
-    /// The record of a decision that is not tried.
-    fn unexplored(
-        &self,
-        alloc: Global,
-        node: &Self::Node,
-        decision: Decision,
-    ) -> Result<Self::Record, NoMemory>
-        ensures { IfOk result (IsMade (views self.now) (unexplored (((views self.now).node_at node.now).decisions ++ decision ∷ []))) };
+    /// A decision that is not tried.
+    fn unexplored(&self) -> Self::Found
+        ensures { (ds : List ADecision) → IsListed ds → IsMade (views self.now) (unexplored ds) (handed ds result) };
 }

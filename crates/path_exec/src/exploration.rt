@@ -4,14 +4,19 @@ ghost use Rattle.std.specs.Prelude.{◌≡◌, ◌<◌, ◌≤◌, ◌∷◌, []
 ghost use Rattle.sefl_meaning.specs.Routes.{Splits};
 ghost use Rattle.exact_records.specs.Spots.{first_spot, to_decide};
 ghost use Rattle.path_exec.specs.Works.{all_tasks, AreWorks};
+ghost use Rattle.path_exec.specs.Coursing.{AreOnCourse, MetOnCourse};
+ghost use Rattle.path_exec.specs.Handing.{handed_if};
 ghost use Rattle.path_exec.specs.Receiving.{IsSame, TakesOwn};
 ghost use Rattle.path_exec.specs.Keeping.{Keeps, Leaves, Runs};
 ghost use Rattle.path_exec.specs.Ending.{BegunAs, Explored, LeftAs, RanAs};
 
+use crate::course::turn_to;
 use crate::engine::{Engine, Tried};
+use crate::observer::Observer;
 use crate::opening::{Work, go_on, offer_at, put_back, take_next};
-use crate::receiver::{Receiver, Took};
+use crate::receiver::Took;
 use exact_records::laws::{records_that_stand_are_exact, steps_keep_what_stands, verdicts_stay};
+use sefl_meaning::Decision;
 use sn_width::{NoMemory, Steps};
 use std::alloc::Global;
 use std::rc::Rc;
@@ -24,7 +29,7 @@ pub enum Ended {
     Whole,
     /// The limit was met, and what is left was named.
     Partial,
-    /// The receiver stopped.
+    /// The observer stopped.
     Stopped,
 }
 
@@ -44,29 +49,27 @@ fn begin<E: Engine, L: Ledger>(
     engine: &E,
     works: &mut Vec<Work<E::Node, E::Finding>>,
     steps: &mut Steps<L>,
-) -> Result<Option<E::Record>, NoMemory>
+) -> Result<Option<E::Found>, NoMemory>
     requires splits { Splits (E.views engine.now).start.tree }
-    ensures { IfOk result (λ made. Keeps (E.views engine.now) ((first_spot (E.views engine.now).start, to_decide None) ∷ [])
-        works.old.items works.new.items made steps.old steps.new) }
+    ensures keeps { IfOk result (λ made. Keeps (E.views engine.now) ((first_spot (E.views engine.now).start, to_decide None) ∷ [])
+        works.old.items works.new.items (handed_if [] made) steps.old steps.new) }
+    ensures course { IfOk result (λ made. AreOnCourse (E.views engine.now) [] works.old.items → AreOnCourse (E.views engine.now) [] works.new.items) }
 {
     steps_keep_what_stands();
     verdicts_stay();
     records_that_stand_are_exact();
     let tried = engine.try_begin(alloc)?;
     match tried {
-        Tried::Refuted { refutation } => {
-            let record = engine.refuted(alloc, refutation)?;
-            Ok(Some(record))
-        }
+        Tried::Refuted { refutation } => Ok(Some(engine.refuted(refutation))),
         Tried::Open { place, finding } => {
             let finding = Rc::new(alloc, finding)?;
-            go_on(alloc, engine, place, finding, works, steps)
+            go_on(alloc, engine, place, finding, &[], works, steps)
         }
     }
 }
 
-/// Takes the first step, and hands over its record, if it makes one: how many were handed over; None where the receiver stopped.
-fn start<E: Engine, K: Receiver<Item = E::Record>, L: Ledger>(
+/// Takes the first step, and hands over what it finds, if anything: how much was handed over; None where the observer stopped.
+fn start<E: Engine, K: Observer<Found = E::Found>, L: Ledger>(
     alloc: Global,
     engine: &E,
     limit: u32,
@@ -81,25 +84,27 @@ fn start<E: Engine, K: Receiver<Item = E::Record>, L: Ledger>(
     requires takes { TakesOwn (E.views engine.now) (K.seen out.old) }
     ensures same { IsSame (K.seen out.old) (K.seen out.new) }
     ensures begun { BegunAs (E.views engine.now) limit (K.seen out.old).stops (K.seen out.new) works.new.items steps.old steps.new result }
+    ensures course { IfOk result (λ count. AreOnCourse (E.views engine.now) [] works.new.items) }
 {
     steps_keep_what_stands();
     records_that_stand_are_exact();
-    let Some(record) = begin(alloc, engine, works, steps)? else {
+    let Some(found) = begin(alloc, engine, works, steps)? else {
         return Ok(Some(0));
     };
-    match out.take(record) {
+    match out.see(found, &[]) {
         Took::More => Ok(Some(1)),
         Took::Stop => Ok(None),
         Took::NoMemory => Err(NoMemory),
     }
 }
 
-/// Explores below the limit, where so many records were handed over.
-fn run<E: Engine, K: Receiver<Item = E::Record>, L: Ledger>(
+/// Explores below the limit, where so much was handed over.
+fn run<E: Engine, K: Observer<Found = E::Found>, L: Ledger>(
     alloc: Global,
     engine: &E,
     limit: u32,
     first: u32,
+    course: &mut Vec<Decision>,
     works: &mut Vec<Work<E::Node, E::Finding>>,
     out: &mut K,
     steps: &mut Steps<L>,
@@ -107,11 +112,13 @@ fn run<E: Engine, K: Receiver<Item = E::Record>, L: Ledger>(
     requires splits { Splits (E.views engine.now).start.tree }
     requires within { first ≤ limit }
     requires works { AreWorks (E.views engine.now) works.old.items }
+    requires course { AreOnCourse (E.views engine.now) course.old.items works.old.items }
     requires takes { TakesOwn (E.views engine.now) (K.seen out.old) }
     requires runs { (before : ℕ) × Runs (E.views engine.now) limit first (K.seen out.old) (all_tasks (E.views engine.now) works.old.items) before steps.old }
     ensures same { IsSame (K.seen out.old) (K.seen out.new) }
     ensures ran { (before : ℕ) → Runs (E.views engine.now) limit first (K.seen out.old) (all_tasks (E.views engine.now) works.old.items) before steps.old
         → RanAs (E.views engine.now) limit (K.seen out.old).stops (K.seen out.new) works.new.items before steps.new result }
+    ensures course { MetOnCourse (E.views engine.now) course.new.items works.new.items result }
 {
     records_that_stand_are_exact();
     let mut count = first;
@@ -119,10 +126,10 @@ fn run<E: Engine, K: Receiver<Item = E::Record>, L: Ledger>(
         let Some(next) = works.pop() else {
             return Ok(Ran::Over);
         };
-        let Some(record) = take_next(alloc, engine, next, works, steps)? else {
+        let Some(found) = take_next(alloc, engine, next, course, works, steps)? else {
             continue;
         };
-        match out.take(record) {
+        match out.see(found, course) {
             Took::More => count += 1,
             Took::Stop => return Ok(Ran::Interrupted),
             Took::NoMemory => return Err(NoMemory),
@@ -131,16 +138,17 @@ fn run<E: Engine, K: Receiver<Item = E::Record>, L: Ledger>(
     Ok(Ran::Met)
 }
 
-/// Names what is left, a record for each decision that is not tried.
-fn leave<E: Engine, K: Receiver<Item = E::Record>>(
-    alloc: Global,
+/// Names what is left, each decision that is not tried.
+fn leave<E: Engine, K: Observer<Found = E::Found>>(
     engine: &E,
     limit: u32,
+    course: &mut Vec<Decision>,
     works: &mut Vec<Work<E::Node, E::Finding>>,
     out: &mut K,
 ) -> Result<Ended, NoMemory>
     requires splits { Splits (E.views engine.now).start.tree }
     requires works { AreWorks (E.views engine.now) works.old.items }
+    requires course { AreOnCourse (E.views engine.now) course.old.items works.old.items }
     requires takes { TakesOwn (E.views engine.now) (K.seen out.old) }
     ensures same { IsSame (K.seen out.old) (K.seen out.new) }
     ensures left { (before after : ℕ) → Leaves (E.views engine.now) limit (K.seen out.old) (all_tasks (E.views engine.now) works.old.items) before after
@@ -150,9 +158,10 @@ fn leave<E: Engine, K: Receiver<Item = E::Record>>(
     records_that_stand_are_exact();
     while let Some(next) = works.pop() {
         let decision = offer_at(next.offer, next.taken);
-        let record = engine.unexplored(alloc, &next.node, decision)?;
+        turn_to(course, next.depth, decision)?;
         put_back(next, works)?;
-        match out.take(record) {
+        let found = engine.unexplored();
+        match out.see(found, course) {
             Took::More => {}
             Took::Stop => return Ok(Ended::Stopped),
             Took::NoMemory => return Err(NoMemory),
@@ -161,11 +170,11 @@ fn leave<E: Engine, K: Receiver<Item = E::Record>>(
     Ok(Ended::Partial)
 }
 
-/// Explores, and hands over each record as it is found: at most `limit` of paths and refuted sides, in the order of their
-/// decisions, and then one for each decision that is left.
+/// Explores, and hands over what is found, at once and with the decisions that led there: at most `limit` of paths and refuted
+/// sides, in the order of their decisions, and then each decision that is left.
 ///
-/// For want of memory, and where the receiver answers it, what was handed over is exact so far.
-pub fn explore_into<E: Engine, K: Receiver<Item = E::Record>, L: Ledger>(
+/// For want of memory, and where the observer answers it, what was handed over is exact so far.
+pub fn explore_into<E: Engine, K: Observer<Found = E::Found>, L: Ledger>(
     alloc: Global,
     engine: &E,
     limit: u32,
@@ -182,10 +191,20 @@ pub fn explore_into<E: Engine, K: Receiver<Item = E::Record>, L: Ledger>(
     steps_keep_what_stands();
     records_that_stand_are_exact();
     let mut works = Vec::new(alloc);
+    let mut course = Vec::new(alloc);
     let Some(count) = start(alloc, engine, limit, &mut works, out, steps)? else {
         return Ok(Ended::Stopped);
     };
-    let ran = run(alloc, engine, limit, count, &mut works, out, steps)?;
+    let ran = run(
+        alloc,
+        engine,
+        limit,
+        count,
+        &mut course,
+        &mut works,
+        out,
+        steps,
+    )?;
     match ran {
         Ran::Over => Ok(Ended::Whole),
         Ran::Interrupted => Ok(Ended::Stopped),
@@ -193,7 +212,7 @@ pub fn explore_into<E: Engine, K: Receiver<Item = E::Record>, L: Ledger>(
             if works.is_empty() {
                 return Ok(Ended::Whole);
             }
-            leave(alloc, engine, limit, &mut works, out)
+            leave(engine, limit, &mut course, &mut works, out)
         }
     }
 }

@@ -8,7 +8,6 @@ use Rattle.sefl_meaning.specs.declared.walk.End.{End}
 use Rattle.sefl_meaning.specs.Routes.{IsOpen}
 use Rattle.sefl_meaning.specs.Start.{progress_of}
 use Rattle.sefl_meaning.specs.Trees.{over, arrives, tests, splits}
-use Rattle.path_records.specs.declared.records.Record.{Record}
 use Rattle.exact_records.specs.Records.{SymStart, SymTree, condition_on, injection_tests}
 use Rattle.exact_records.specs.Work.{begun_at}
 use Rattle.sym_state.specs.Symbolic.{Symbolic}
@@ -20,6 +19,7 @@ use Rattle.path_exec.specs.Following.{IsLed, LeadsTo as IsLedTo, here_of}
 use Rattle.path_exec.specs.Here.{spot_at}
 use Rattle.path_exec.specs.Offers.{IsNode}
 use Rattle.path_exec.specs.Stepping.{IsLedThere}
+use Rattle.path_exec.specs.Handing.{Handed}
 use Rattle.path_exec.specs.Views.{Views}
 use Rattle.record_checks.specs.Stops.{LeadsTo, StopsAs, trees_of}
 use Rattle.symbolic_engine.specs.declared.origin.Origin.{Ghosts}
@@ -29,6 +29,7 @@ use Rattle.symbolic_engine.specs.declared.spots.Waiting.{Waiting}
 use Rattle.symbolic_engine.specs.declared.stage.Wait.{Wait}
 use Rattle.symbolic_engine.specs.declared.stage.Wait.TheVariants.{Asked, Forked}
 use Rattle.symbolic_engine.specs.Origins.{IsRunOf, entries_seen, here_of as here_in, progress_in}
+use Rattle.symbolic_engine.specs.declared.found.Found.{Found}
 use Rattle.symbolic_engine.specs.Seeing.{views_of}
 use Rattle.symbolic_engine.specs.Stages.{wait_tree}
 use Rattle.path_replay.specs.Stopping.{state_of, stop_of}
@@ -76,7 +77,7 @@ module _ (s : SymStart) (ds : List Decision) (x : Symbolic) (tree : ℕ → SymT
 
 module _ {B : Type 0} {origin : Ghosts B} (s : SymStart) (net : Network) where
   -- what the runs from this start are seen as
-  abbrev pub here : Views (Standing B) (Finished B) (Waiting B origin) Verdict Record
+  abbrev pub here : Views (Standing B) (Finished B) (Waiting B origin) Verdict (Handed Found)
   here = views_of {B = B} {origin = origin} s net
 
   pub stop_led : (ds : List Decision) (next : Next (Finished B) (Waiting B origin)) → IsRunOf s (state_of next) → IsLedTo here ds next

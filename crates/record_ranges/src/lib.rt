@@ -7,3 +7,4 @@ mod records;
 mod verdicts;
 
 pub use records::numbers_are_in_range;
+pub use verdicts::{steps_fit, verdict_fits};

@@ -23,7 +23,8 @@ fn cause_fits(cause: &Cause)
     }
 }
 
-pub(crate) fn verdict_fits(verdict: &Verdict)
+/// Says that the numbers of a verdict are of their types. It does nothing.
+pub fn verdict_fits(verdict: &Verdict)
     ensures { VerdictFits verdict.now }
 {
     match verdict {
@@ -58,7 +59,8 @@ fn step_fits(step: &Refute)
     }
 }
 
-pub(crate) fn steps_fit(steps: &[Refute])
+/// Says that the numbers of a refutation are of their types. It does nothing.
+pub fn steps_fit(steps: &[Refute])
     ensures { AllByRecursion StepFits steps.now }
 {
     for step in steps {

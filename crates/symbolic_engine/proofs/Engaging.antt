@@ -1,6 +1,8 @@
 -- What the engine's calls answer.
 use Rattle.std.proofs.Common.{◌≡◌, ℕ, List, [], ◌∷◌, ◌++◌, length, reverse, Option, None, Some, IfSome, sym, ap, subst, ◌∙◌}
 use Rattle.std.proofs.lemmas.List.{reverse-append, reverse-reverse}
+use Rattle.std.specs.Global.{Global}
+use Rattle.std.specs.declared.rc.Rc.{Rc}
 use Rattle.sn_tree.specs.Ends.{first}
 use Rattle.sn_width.specs.declared.ids.NodeId.{NodeId}
 use Rattle.lin_term.specs.Terms.{LinearTerm}
@@ -20,14 +22,15 @@ use Rattle.sefl_meaning.specs.Runs.{Progress}
 use Rattle.sefl_meaning.specs.Trees.{enter, over}
 use Rattle.term_values.specs.TermValues.{terms}
 use Rattle.code_frames.specs.Frames.{progress_at}
-use Rattle.path_records.specs.declared.records.Record.{Record}
 use Rattle.sym_state.specs.Symbolic.{Symbolic}
-use Rattle.exact_records.specs.Records.{IsRefutedBy, IsVerdictOn, SymCondition, SymStart, SymTree, path}
+use Rattle.exact_records.specs.Records.{IsRefutedBy, IsVerdictOn, SymCondition, SymStart, SymTree, path, pruned}
 use Rattle.exact_records.specs.Spots.{IsKnown, Spot, condition_at, filled_verdict, first_spot}
-use Rattle.exact_records.specs.View.{record_tree}
+use Rattle.path_exec.specs.Handing.{IsListed, handed}
 use Rattle.path_exec.specs.Here.{EndsWith, spot_at}
 use Rattle.path_exec.specs.Offers.{next_spot}
 use Rattle.path_exec.specs.Trials.{IsOpenAt, IsPathOf}
+use Rattle.path_exec.specs.Views.{IsMade}
+use Rattle.symbolic_engine.specs.declared.found.Found.TheVariants.{Path, Pruned}
 use Rattle.symbolic_engine.specs.declared.origin.Origin.{Ghosts}
 use Rattle.symbolic_engine.specs.declared.spots.Standing.{Standing}
 use Rattle.symbolic_engine.specs.declared.stage.Stage.{Stage}
@@ -116,15 +119,24 @@ base_behind stays wait x d y noted (Some b) h = base_noted stays wait x d y b no
 over_same : (p q : Progress LinearTerm) (e f : End) → ◌≡◌ {A = SymTree} (over p e) (over q f) → (p ≡ q) × (e ≡ f)
 over_same p q e f h = (cc h, cc h)
 
-pub path_there : {B : Type 0} {origin : Ghosts B} (s : SymStart) (net : Network) (x : Symbolic) (how : End) (verdict : Verdict) (made : Record)
-    → record_tree made ≡ path (reverse x.decisions) (reverse x.places) how (fields_of x.carried) (filled_verdict (length x.condition.widths) verdict)
-    → (begun : ℕ) → IsPathOf (views_of {B = B} {origin = origin} s net) (spot_at begun (finished_at s x how)) verdict made
-path_there s net x how verdict made is begun p end' e =
+-- a path that is over, with a verdict on its condition
+pub path_there : {B : Type 0} {origin : Ghosts B} (s : SymStart) (net : Network) (x y : Symbolic) (how : End) (verdict : Rc Verdict Global) → y ≡ x → IsListed (reverse x.decisions)
+    → (begun : ℕ) → IsPathOf (views_of {B = B} {origin = origin} s net) (spot_at begun (finished_at s x how)) verdict.value (handed (reverse x.decisions) (Path y how verdict))
+path_there s net x y how verdict is fits begun p end' e =
     let same = over_same (progress_in x begun) p how end' e in
     record {
-      is = is ∙ (λ i. path (reverse x.decisions) (reverse x.places) (same.1 i) (fields_of (same.0 i).state) (filled_verdict (length x.condition.widths) verdict));
-      own = tt;
+      is = (λ i. path (reverse x.decisions) (reverse (is i).places) how (fields_of (is i).carried) (filled_verdict (length (is i).condition.widths) verdict.value))
+          ∙ (λ i. path (reverse x.decisions) (reverse x.places) (same.1 i) (fields_of (same.0 i).state) (filled_verdict (length x.condition.widths) verdict.value));
+      own = fits;
     }
+
+-- a refuted side, with the verdict before it
+pub side_there : {B : Type 0} {origin : Ghosts B} (s : SymStart) (net : Network) (x : Symbolic) (wait : Wait) (verdict : Rc Verdict Global) (count : ℕ) (refutation : List Refute)
+    → count ≡ length x.condition.widths → (ds : List Decision) → IsListed ds
+    → IsMade (views_of {B = B} {origin = origin} s net) (pruned ds (Some (filled_verdict (length (waiting_at s net x wait).widths) verdict.value)) refutation)
+    (handed ds (Pruned (Some (record { verdict = verdict; symbols = count })) refutation))
+side_there s net x wait verdict count refutation is ds fits =
+    record { is = ap (λ (n : ℕ). pruned ds (Some (filled_verdict n verdict.value)) refutation) is; own = fits }
 
 -- ---- copies of places, and where they stand
 

@@ -12,8 +12,7 @@ use Rattle.term_values.specs.TermValues.{terms}
 use Rattle.path_records.specs.declared.records.Record.{Record}
 use Rattle.exact_records.specs.Laws.{ExactRecordsShowWalks}
 use Rattle.exact_records.specs.Packets.{IsExplored}
-use Rattle.exact_records.specs.Records.{SymStart, SymTree, condition_on, injection_tests}
-use Rattle.exact_records.specs.View.{record_tree, record_trees}
+use Rattle.exact_records.specs.Records.{RecordTree, SymStart, SymTree, condition_on, injection_tests}
 use Rattle.exact_records.specs.Work.{work_of}
 use Rattle.sym_state.specs.Beginning.{Begins, start_in}
 use Rattle.sym_state.specs.Symbolic.{Symbolic}
@@ -24,11 +23,13 @@ use Rattle.path_exec.specs.declared.guided.FollowFault.{FollowFault}
 use Rattle.path_exec.specs.declared.guided.FollowFault.TheVariants.{Impossible, NoMemory}
 use Rattle.path_exec.specs.Ending.{Explored}
 use Rattle.path_exec.specs.Following.{Followed, IsLed}
+use Rattle.path_exec.specs.Handing.{Handed}
 use Rattle.path_exec.specs.Here.{spot_at}
 use Rattle.path_exec.specs.Offers.{IsNode}
 use Rattle.path_exec.specs.Receiving.{Receiving}
 use Rattle.path_exec.specs.Views.{Views}
 use Rattle.path_exec.specs.Visiting.{AreVisits, Arrival, ArrivedAs, ArrivesAt}
+use Rattle.symbolic_engine.specs.declared.found.Found.{Found}
 use Rattle.symbolic_engine.specs.declared.origin.Origin.{Ghosts}
 use Rattle.symbolic_engine.specs.declared.spots.Standing.{Standing}
 use Rattle.symbolic_engine.specs.declared.guiding.Led.{Led}
@@ -38,7 +39,8 @@ use Rattle.symbolic_engine.specs.declared.stage.Wait.TheVariants.{Asked, Forked}
 use Rattle.symbolic_engine.specs.Stages.{wait_tree}
 use Rattle.symbolic_engine.specs.Origins.{IsFirstState, IsRunOf, condition_seen, here_of}
 use Rattle.symbolic_engine.specs.Seeing.{views_of}
-use Rattle.symbolic_engine.specs.Exploring.{AreFound, ArrivedFor, ArrivesIn, ExploredFor, FollowedFor, LeadsThere, WaitsAs}
+use Rattle.symbolic_engine.specs.Finds.{handed_tree}
+use Rattle.symbolic_engine.specs.Exploring.{AreFound, ArrivedFor, ArrivesIn, ExploredFor, FollowedFor, LeadsThere, ObservedFor, WaitsAs}
 use Rattle.symbolic_engine.proofs.Running.{all_tests}
 
 -- ---- the start
@@ -55,6 +57,9 @@ first_of net i hops x begins = record {
   places = begins.places;
 }
 
+abbrev Trees : List (Handed Found) → List RecordTree
+Trees items = map handed_tree items
+
 ok_same : {A E : Type 0} {x y : A} → ◌≡◌ {A = Result A E} (Ok x) (Ok y) → x ≡ y
 ok_same e = cc e
 
@@ -64,32 +69,32 @@ module _ (net : Network) (i : Entry) (hops : ℕ) where
   one_start : (s t : SymStart) → IsExplored net i hops s → IsExplored net i hops t → s ≡ t
   one_start s t a b = ok_same (sym a ∙ b)
 
-  spent_for : (s t : SymStart) (xs : List Record) (before after : ℕ) → IsExplored net i hops s → IsExplored net i hops t
-      → after ≤ before + work_of s (record_trees xs) → after ≤ before + work_of t (record_trees xs)
-  spent_for s t xs before after a b h = subst (λ (u : SymStart). after ≤ before + work_of u (record_trees xs)) (one_start s t a b) h
+  spent_for : (s t : SymStart) (xs : List RecordTree) (before after : ℕ) → IsExplored net i hops s → IsExplored net i hops t
+      → after ≤ before + work_of s xs → after ≤ before + work_of t xs
+  spent_for s t xs before after a b h = subst (λ (u : SymStart). after ≤ before + work_of u xs) (one_start s t a b) h
 
   module _ {E : Type 0} (own : Network) (s : SymStart) (laws : ExactRecordsShowWalks net i hops) (is : IsExplored net i hops s) (limit stops : ℕ)
-      (m : Receiving Record) (before after : ℕ) where
+      (m : Receiving (Handed Found)) (before after : ℕ) where
     -- what is exact for the start is exact for the net
     pub explored_for : (B : Type 0) (origin : Ghosts B) (r : Result Ended E) → Explored (views_of {B = B} {origin = origin} s own) limit stops m before after r
-        → ExploredFor net i hops limit stops m before after r
+        → ObservedFor net i hops limit stops m before after r
     explored_for B origin (Ok Whole) h =
-        let exact = laws.exact s limit (record_trees h.items) is h.exact in
-        record { items = h.items; stands = h.stands; exact = exact; tried = h.tried; spent = spent_for s exact.start h.items before after is exact.explored h.spent }
+        let exact = laws.exact s limit (Trees h.items) is h.exact in
+        record { items = h.items; stands = h.stands; exact = exact; tried = h.tried; spent = spent_for s exact.start (Trees h.items) before after is exact.explored h.spent }
     explored_for B origin (Ok Partial) h =
-        let exact = laws.exact s limit (record_trees h.items) is h.exact in
-        record { items = h.items; stands = h.stands; exact = exact; untried = h.untried; spent = spent_for s exact.start h.items before after is exact.explored h.spent }
+        let exact = laws.exact s limit (Trees h.items) is h.exact in
+        record { items = h.items; stands = h.stands; exact = exact; untried = h.untried; spent = spent_for s exact.start (Trees h.items) before after is exact.explored h.spent }
     explored_for B origin (Ok Stopped) h =
-        let exact = laws.up_to s (record_trees h.items) (record_tree h.last) is h.exact in
+        let exact = laws.up_to s (Trees h.items) (handed_tree h.last) is h.exact in
         record {
           items = h.items;
           last = h.last;
           stopped = h.stopped;
           exact = exact;
           cause = h.cause;
-          spent = spent_for s exact.start (h.items ++ h.last ∷ []) before after is exact.explored h.spent;
+          spent = spent_for s exact.start (Trees (h.items ++ h.last ∷ [])) before after is exact.explored h.spent;
         }
-    explored_for B origin (Err e) h = record { items = h.items; stands = h.stands; exact = laws.so_far s (record_trees h.items) is h.exact }
+    explored_for B origin (Err e) h = record { items = h.items; stands = h.stands; exact = laws.so_far s (Trees h.items) is h.exact }
 
 -- ---- where decisions lead
 
@@ -174,8 +179,8 @@ pub at_wait : (offer : Offer) (t u : SymTree) → t ≡ u → IsNode offer u →
 at_wait offer t u e h = subst (IsNode offer) (sym e) h
 
 -- what nothing was handed over to is, where there was no memory
-pub nothing_yet : {E : Type 0} (net : Network) (i : Entry) (hops limit stops : ℕ) (m : Receiving Record) (before after : ℕ) (r : Result Ended E) (Q : E → Type 0)
-    → IsErrAnd r Q → m.StandsFor [] → ExploredFor net i hops limit stops m before after r
+pub nothing_yet : {E : Type 0} (net : Network) (i : Entry) (hops limit stops : ℕ) (m : Receiving (Handed Found)) (before after : ℕ) (r : Result Ended E) (Q : E → Type 0)
+    → IsErrAnd r Q → m.StandsFor [] → ObservedFor net i hops limit stops m before after r
 nothing_yet net i hops limit stops m before after (Ok how) Q h stands = absurd h
 nothing_yet net i hops limit stops m before after (Err e) Q h stands = record { items = []; stands = stands; exact = record { is = inl refl } }
 

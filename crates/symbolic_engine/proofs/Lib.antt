@@ -7,3 +7,4 @@ pub mod Bases
 pub mod Engaging
 pub mod Filling
 pub mod Explored
+pub mod Recorded

@@ -1,5 +1,5 @@
 -- What explorations of a net and an injection answer.
-use Rattle.std.specs.Prelude.{ℕ, ◌≡◌, ◌<◌, ◌≤◌, ◌+◌, List, [], ◌∷◌, ◌++◌, length, map, reverse, Result, Ok, Err, Some}
+use Rattle.std.specs.Prelude.{ℕ, ◌≡◌, ◌≤◌, ◌+◌, List, [], ◌∷◌, ◌++◌, length, map, reverse, Result, Ok, Err, Some}
 use Rattle.std.specs.Global.{Vec}
 use Rattle.std.specs.List.{AllByRecursion}
 use Rattle.sefl_meaning.specs.declared.walk.Decision.{Decision}
@@ -9,63 +9,51 @@ use Rattle.sefl_meaning.specs.Routes.{IsFirstClosed, places_on, route}
 use Rattle.sefl_meaning.specs.Start.{progress_of, tests_on}
 use Rattle.sefl_meaning.specs.Trees.{over}
 use Rattle.path_records.specs.declared.records.Record.{Record}
-use Rattle.exact_records.specs.Exact.{IsTried, IsUnexplored, SomeOne}
-use Rattle.exact_records.specs.Packets.{AreExactFor, AreExactSoFarFor, AreExactUpToFor, IsExplored}
+use Rattle.exact_records.specs.Packets.{AreExactFor, IsExplored}
 use Rattle.exact_records.specs.Records.{SymCondition, SymRoute, SymStart, SymTree, condition_on}
 use Rattle.exact_records.specs.View.{record_tree, record_trees}
 use Rattle.exact_records.specs.Work.{work_of}
 use Rattle.sym_state.specs.Symbolic.{Symbolic}
 use Rattle.path_exec.specs.declared.exploration.Ended.{Ended}
-use Rattle.path_exec.specs.declared.exploration.Ended.TheVariants.{Whole, Partial, Stopped}
 use Rattle.path_exec.specs.declared.guided.FollowFault.{FollowFault}
 use Rattle.path_exec.specs.declared.guided.FollowFault.TheVariants.{Impossible, NoMemory}
+use Rattle.path_exec.specs.Handing.{Handed}
 use Rattle.path_exec.specs.Offers.{IsNode}
 use Rattle.path_exec.specs.Receiving.{Receiving}
 use Rattle.path_exec.specs.Visiting.{AreVisits, Arrival, LeadsFirst}
+use Rattle.symbolic_engine.specs.declared.found.Found.{Found}
 use Rattle.symbolic_engine.specs.declared.guiding.Led.{Led}
 use Rattle.symbolic_engine.specs.declared.guiding.Waits.{Waits}
 use Rattle.symbolic_engine.specs.declared.guiding.Waits.TheVariants.{Nothing, Decides}
+use Rattle.symbolic_engine.specs.Ends.{EndsEarly, EndsPartial, EndsSo, EndsStopped, EndsWhole}
+use Rattle.symbolic_engine.specs.Finds.{handed_tree}
 use Rattle.symbolic_engine.specs.Origins.{condition_seen, progress_in}
 
+-- the receiver stands for exact records of the net, of which none is left out
+abbrev pub EndsWholeFor : Network → Entry → ℕ → ℕ → Receiving Record → ℕ → ℕ → Type 0
+EndsWholeFor = EndsWhole record_tree
+
+-- it stands for exact records, of which some is left out
+abbrev pub EndsPartialFor : Network → Entry → ℕ → ℕ → Receiving Record → ℕ → ℕ → Type 0
+EndsPartialFor = EndsPartial record_tree
+
+-- it stopped in records that are exact up to the last one
+abbrev pub EndsStoppedFor : Network → Entry → ℕ → ℕ → Receiving Record → ℕ → ℕ → Type 0
+EndsStoppedFor = EndsStopped record_tree
+
+-- it stands for records that are exact so far
+abbrev pub EndsEarlyFor : Network → Entry → ℕ → Receiving Record → Type 0
+EndsEarlyFor = EndsEarly record_tree
+
+-- how an exploration ends, where the receiver had stopped so often before it
+abbrev pub ExploredFor : Network → Entry → ℕ → {E : Type 0} → ℕ → ℕ → Receiving Record → ℕ → ℕ → Result Ended E → Type 0
+ExploredFor net i hops = EndsSo record_tree net i hops
+
+-- the same where what is found is shown to an observer
+abbrev pub ObservedFor : Network → Entry → ℕ → {E : Type 0} → ℕ → ℕ → Receiving (Handed Found) → ℕ → ℕ → Result Ended E → Type 0
+ObservedFor net i hops = EndsSo handed_tree net i hops
+
 module _ (net : Network) (i : Entry) (hops : ℕ) where
-  -- the receiver stands for exact records of the net, of which none is left out
-  pub record EndsWholeFor (limit : ℕ) (m : Receiving Record) (before after : ℕ) : Type 0 where
-    pub items : List Record
-    pub stands : m.StandsFor items
-    pub exact : AreExactFor net i hops limit (record_trees items)
-    pub tried : AllByRecursion IsTried (record_trees items)
-    pub spent : after ≤ before + work_of exact.start (record_trees items)
-
-  -- it stands for exact records, of which some is left out
-  pub record EndsPartialFor (limit : ℕ) (m : Receiving Record) (before after : ℕ) : Type 0 where
-    pub items : List Record
-    pub stands : m.StandsFor items
-    pub exact : AreExactFor net i hops limit (record_trees items)
-    pub untried : SomeOne IsUnexplored (record_trees items)
-    pub spent : after ≤ before + work_of exact.start (record_trees items)
-
-  -- it stopped in records that are exact up to the last one
-  pub record EndsStoppedFor (stops : ℕ) (m : Receiving Record) (before after : ℕ) : Type 0 where
-    pub items : List Record
-    pub last : Record
-    pub stopped : m.StoppedIn (items ++ last ∷ [])
-    pub exact : AreExactUpToFor net i hops (record_trees items) (record_tree last)
-    pub cause : stops < m.stops
-    pub spent : after ≤ before + work_of exact.start (record_trees (items ++ last ∷ []))
-
-  -- it stands for records that are exact so far
-  pub record EndsEarlyFor (m : Receiving Record) : Type 0 where
-    pub items : List Record
-    pub stands : m.StandsFor items
-    pub exact : AreExactSoFarFor net i hops (record_trees items)
-
-  -- how an exploration ends, where the receiver had stopped so often before it
-  abbrev pub ExploredFor : {E : Type 0} → ℕ → ℕ → Receiving Record → ℕ → ℕ → Result Ended E → Type 0
-  ExploredFor limit stops m before after (Ok Whole) = EndsWholeFor limit m before after
-  ExploredFor limit stops m before after (Ok Partial) = EndsPartialFor limit m before after
-  ExploredFor limit stops m before after (Ok Stopped) = EndsStoppedFor stops m before after
-  ExploredFor limit stops m before after (Err e) = EndsEarlyFor m
-
   -- the list is exact for the net, and so much was spent
   pub record AreFound (limit before after : ℕ) (records : List Record) : Type 0 where
     pub exact : AreExactFor net i hops limit (record_trees records)

@@ -5,15 +5,15 @@ use Rattle.refutation_check.specs.declared.outcome.Cause.TheVariants.{Outside, C
 use Rattle.refutation_check.specs.declared.outcome.Verdict.{Verdict}
 use Rattle.refutation_check.specs.declared.outcome.Verdict.TheVariants.{Sat, Undecided}
 use Rattle.exact_records.specs.Records.{IsRefutedBy, IsVerdictOn, SymCondition}
-use Rattle.symbolic_engine.specs.declared.deciding.Found.{Found}
-use Rattle.symbolic_engine.specs.declared.deciding.Found.TheVariants.{Open, Refuted}
+use Rattle.symbolic_engine.specs.declared.deciding.Judged.{Judged}
+use Rattle.symbolic_engine.specs.declared.deciding.Judged.TheVariants.{Open, Refuted}
 
 -- the verdict on the condition, whose formulas are typed
 pub record IsOpenBy (c : SymCondition) (verdict : Verdict) : Type 0 where
   pub typed : AllTyped itself c.widths c.entries
   pub verdict_is : IsVerdictOn c verdict
 
-abbrev pub IsFoundOf : SymCondition → Found → Type 0
+abbrev pub IsFoundOf : SymCondition → Judged → Type 0
 IsFoundOf c (Open verdict) = IsOpenBy c verdict
 IsFoundOf c (Refuted refutation) = IsRefutedBy c refutation
 

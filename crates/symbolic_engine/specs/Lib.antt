@@ -3,4 +3,7 @@ pub mod Stages
 pub mod Turning
 pub mod Seeing
 pub mod Finding
+pub mod Finds
+pub mod Ends
+pub mod Recorded
 pub mod Exploring

@@ -3,18 +3,19 @@ use Rattle.net_check.specs.Network.{Network}
 use Rattle.refutation_check.specs.declared.outcome.Verdict.{Verdict}
 use Rattle.sefl_meaning.specs.declared.walk.End.{End}
 use Rattle.sefl_meaning.specs.Trees.{over}
-use Rattle.path_records.specs.declared.records.Record.{Record}
 use Rattle.exact_records.specs.Records.{SymStart}
-use Rattle.exact_records.specs.View.{record_tree}
 use Rattle.sym_state.specs.Symbolic.{Symbolic}
+use Rattle.path_exec.specs.Handing.{Handed, IsListed}
 use Rattle.path_exec.specs.Here.{Here}
 use Rattle.path_exec.specs.Views.{Views}
+use Rattle.symbolic_engine.specs.declared.found.Found.{Found}
 use Rattle.symbolic_engine.specs.declared.origin.Origin.{Ghosts}
 use Rattle.symbolic_engine.specs.declared.spots.Finished.{Finished}
 use Rattle.symbolic_engine.specs.declared.spots.Standing.{Standing}
 use Rattle.symbolic_engine.specs.declared.spots.Waiting.{Waiting}
 use Rattle.symbolic_engine.specs.declared.stage.Stage.{Stage}
 use Rattle.symbolic_engine.specs.declared.stage.Wait.{Wait}
+use Rattle.symbolic_engine.specs.Finds.{handed_tree}
 use Rattle.symbolic_engine.specs.Origins.{here_of, progress_in}
 use Rattle.symbolic_engine.specs.Stages.{stage_tree, wait_tree}
 
@@ -29,8 +30,9 @@ module _ (s : SymStart) (net : Network) where
 abbrev pub finished_at : SymStart → Symbolic → End → Here
 finished_at s x how = here_of s x (λ begun. over (progress_in x begun) how)
 
--- what the engine's values are seen as; nothing is said of the ids in a record, so a receiver has to take each of them
-abbrev pub views_of : {B : Type 0} {origin : Ghosts B} → SymStart → Network → Views (Standing B) (Finished B) (Waiting B origin) Verdict Record
+-- what the engine's values are seen as; of what is handed over no more is said than that the program has its decisions, so an observer
+-- has to take each of them
+abbrev pub views_of : {B : Type 0} {origin : Ghosts B} → SymStart → Network → Views (Standing B) (Finished B) (Waiting B origin) Verdict (Handed Found)
 views_of s net = record {
   start = s;
   place_at = λ place. standing_at s net place.run place.stage;
@@ -38,6 +40,6 @@ views_of s net = record {
   over_at = λ ended. finished_at s ended.run ended.how;
   node_at = λ node. waiting_at s net node.run node.wait;
   verdict_of = λ verdict. verdict;
-  record_of = record_tree;
-  IsOwn = λ made. Unit {0};
+  record_of = handed_tree;
+  IsOwn = λ made. IsListed made.decisions;
 }

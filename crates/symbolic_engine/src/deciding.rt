@@ -20,14 +20,14 @@ use sym_state::SymState;
 
 /// What is found of a condition.
 #[derive(Drop)]
-pub(crate) enum Found {
+pub(crate) enum Judged {
     /// It is not refuted.
     Open { verdict: Verdict },
     Refuted { refutation: Refutation },
 }
 
 /// Decides the condition of a state, where a base of it is known or none.
-pub(crate) fn find(alloc: Global, state: &SymState, base: Option<&Base>) -> Result<Found, NoMemory>
+pub(crate) fn find(alloc: Global, state: &SymState, base: Option<&Base>) -> Result<Judged, NoMemory>
     requires { IfSome base (λ b. IsBaseOf state.now.condition b.now) }
     ensures { IfOk result (IsFoundOf (condition_seen state.now)) }
 {
@@ -35,11 +35,11 @@ pub(crate) fn find(alloc: Global, state: &SymState, base: Option<&Base>) -> Resu
     let condition = state.condition();
     condition.formulas_are_typed();
     match decide_after(alloc, condition, state.domains(), base)? {
-        Decided::Sat { values } => Ok(Found::Open {
+        Decided::Sat { values } => Ok(Judged::Open {
             verdict: Verdict::Sat { values },
         }),
-        Decided::Unsat { refutation } => Ok(Found::Refuted { refutation }),
-        Decided::Undecided { cause } => Ok(Found::Open {
+        Decided::Unsat { refutation } => Ok(Judged::Refuted { refutation }),
+        Decided::Undecided { cause } => Ok(Judged::Open {
             verdict: Verdict::Undecided { cause },
         }),
     }

@@ -1,25 +1,33 @@
 //! The runs of a net on symbolic states, and the decision of their conditions.
 
-ghost use Rattle.std.specs.Prelude.{◌≡◌};
+ghost use Rattle.std.specs.Prelude.{◌≡◌, ℕ, List, Some, length, reverse};
 ghost use Rattle.net_check.specs.Network.{network};
+ghost use Rattle.sefl_meaning.specs.declared.walk.Decision.{Decision as ADecision};
+ghost use Rattle.exact_records.specs.Records.{pruned};
+ghost use Rattle.exact_records.specs.Spots.{filled_verdict};
+ghost use Rattle.path_exec.specs.Handing.{IsListed, handed};
+ghost use Rattle.path_exec.specs.Here.{spot_at};
+ghost use Rattle.path_exec.specs.Trials.{IsPathOf};
+ghost use Rattle.path_exec.specs.Views.{IsMade};
 ghost use Rattle.symbolic_engine.specs.Origins.{IsFirstState};
+ghost use Rattle.symbolic_engine.specs.Seeing.{finished_at, views_of};
 
-use crate::deciding::{Found, base_of, find};
+use crate::deciding::{Judged, base_of, find};
+use crate::found::{Before, Found};
 use crate::moving::onward;
 use crate::origin::{Origin, Run};
 use crate::spots::{Finished, Standing, Waiting};
 use crate::stage::{Stage, same_stage};
 use crate::turning::{noted, stage_behind};
-use crate::writing;
 use net_check::Net;
 use path_exec::engine::{Engine, Moved, Tried};
-use path_records::Record;
 use path_solver::laws::a_base_stays_one;
 use refutation_check::{Refutation, Verdict};
 use sefl_meaning::{Decision, Place};
 use sn_width::{NoMemory, NodeId, Steps};
 use std::alloc::Global;
 use std::marker::Model;
+use std::rc::Rc;
 use std::sync::ledger::Ledger;
 use sym_state::SymState;
 
@@ -78,8 +86,6 @@ impl<'a, B: Origin> Explorer<'a, B> {
 }
 
 impl<'a, B: Origin> Engine for Explorer<'a, B> {
-    ghost use Rattle.symbolic_engine.specs.Seeing.{views_of};
-
     type Place = Standing<'a, B>;
 
     type Over = Finished<B>;
@@ -88,7 +94,7 @@ impl<'a, B: Origin> Engine for Explorer<'a, B> {
 
     type Finding = Verdict;
 
-    type Record = Record;
+    type Found = Found;
 
     ghost views = { λ e. views_of B.start B.net };
 
@@ -105,8 +111,8 @@ impl<'a, B: Origin> Engine for Explorer<'a, B> {
     fn try_begin(&self, alloc: Global) -> Result<Tried<Standing<'a, B>, Verdict>, NoMemory> {
         let run = self.first.fork()?;
         match find(alloc, run.state(), None)? {
-            Found::Refuted { refutation } => Ok(Tried::Refuted { refutation }),
-            Found::Open { verdict } => {
+            Judged::Refuted { refutation } => Ok(Tried::Refuted { refutation }),
+            Judged::Open { verdict } => {
                 let stage = Stage::Entering {
                     node: self.node,
                     port: self.port,
@@ -165,8 +171,8 @@ impl<'a, B: Origin> Engine for Explorer<'a, B> {
         let base = base_of(alloc, node.run.state().condition(), before)?;
         let run = noted(alloc, node, decision)?;
         match find(alloc, run.state(), base.as_ref())? {
-            Found::Refuted { refutation } => Ok(Tried::Refuted { refutation }),
-            Found::Open { verdict } => {
+            Judged::Refuted { refutation } => Ok(Tried::Refuted { refutation }),
+            Judged::Open { verdict } => {
                 let stage = stage_behind(alloc, self.net, &node.wait, decision)?;
                 let place = Standing { run, stage };
                 let finding = verdict;
@@ -175,43 +181,36 @@ impl<'a, B: Origin> Engine for Explorer<'a, B> {
         }
     }
 
-    fn path(
-        &self,
-        alloc: Global,
-        over: Finished<B>,
-        finding: &Verdict,
-    ) -> Result<Record, NoMemory> {
+    fn path(&self, over: Finished<B>, finding: Rc<Verdict>) -> Found
+        ensures { IsListed (reverse over.run.decisions) → (begun : ℕ)
+            → IsPathOf (views_of {origin = B.Origin} B.start B.net) (spot_at begun (finished_at B.start over.run over.how)) finding.value
+            (handed (reverse over.run.decisions) result) }
+    {
         let Finished { run, how } = over;
-        writing::path(alloc, run.state(), how, finding)
+        Found::Path {
+            state: run.into_state(),
+            end: how,
+            verdict: finding,
+        }
     }
 
-    fn refuted(&self, alloc: Global, refutation: Refutation) -> Result<Record, NoMemory> {
-        let decisions = Vec::new(alloc);
+    fn refuted(&self, refutation: Refutation) -> Found {
         let before = None;
-        Ok(Record::Pruned {
-            decisions,
-            before,
-            refutation,
-        })
+        Found::Pruned { before, refutation }
     }
 
-    fn pruned(
-        &self,
-        alloc: Global,
-        node: &Waiting<'a, B>,
-        decision: Decision,
-        before: &Verdict,
-        refutation: Refutation,
-    ) -> Result<Record, NoMemory> {
-        writing::pruned(alloc, node.run.state(), decision, before, refutation)
+    fn pruned(&self, node: &Waiting<'a, B>, before: Rc<Verdict>, refutation: Refutation) -> Found
+        ensures { (ds : List ADecision) → IsListed ds → IsMade (views_of {origin = B.Origin} B.start B.net)
+            (pruned ds (Some (filled_verdict (length node.now.run.condition.widths) before.value)) refutation) (handed ds result) }
+    {
+        let before = Some(Before {
+            verdict: before,
+            symbols: node.run.state().condition().symbols(),
+        });
+        Found::Pruned { before, refutation }
     }
 
-    fn unexplored(
-        &self,
-        alloc: Global,
-        node: &Waiting<'a, B>,
-        decision: Decision,
-    ) -> Result<Record, NoMemory> {
-        writing::unexplored(alloc, node.run.state(), decision)
+    fn unexplored(&self) -> Found {
+        Found::Unexplored
     }
 }

@@ -1,11 +1,13 @@
 //! Records, as they are written out.
 
-ghost use Rattle.std.specs.Prelude.{◌≡◌, ◌++◌, ◌∷◌, [], Some, length, reverse, IfOk};
+ghost use Rattle.std.specs.Prelude.{◌≡◌, length, option_map, reverse, IfOk};
 ghost use Rattle.sefl_meaning.specs.Fields.{fields_of};
 ghost use Rattle.exact_records.specs.Records.{path, pruned, unexplored};
 ghost use Rattle.exact_records.specs.Spots.{filled, filled_cause, filled_verdict};
 ghost use Rattle.exact_records.specs.View.{record_tree};
+ghost use Rattle.symbolic_engine.specs.Finds.{filled_before};
 
+use crate::found::Before;
 use path_records::Record;
 use refutation_check::{Cause, Listed, Refutation, Verdict};
 use sefl_meaning::{Decision, End};
@@ -57,17 +59,31 @@ fn filled_verdict(alloc: Global, verdict: &Verdict, count: u64) -> Result<Verdic
     }
 }
 
+/// The verdict before a refuted side, where there is one.
+fn filled_before(alloc: Global, before: &Option<Before>) -> Result<Option<Verdict>, NoMemory>
+    ensures { IfOk result (λ written. written ≡ option_map filled_before before.now) }
+{
+    match before {
+        None => Ok(None),
+        Some(before) => {
+            let verdict = filled_verdict(alloc, &before.verdict, before.symbols)?;
+            Ok(Some(verdict))
+        }
+    }
+}
+
 /// The path of a state whose run is over.
 pub(crate) fn path(
     alloc: Global,
+    decisions: &[Decision],
     state: &SymState,
     how: End,
     verdict: &Verdict,
 ) -> Result<Record, NoMemory>
-    ensures { IfOk result (λ made. record_tree made ≡ path (reverse state.now.decisions) (reverse state.now.places) how (fields_of state.now.carried)
+    ensures { IfOk result (λ made. record_tree made ≡ path decisions.now (reverse state.now.places) how (fields_of state.now.carried)
         (filled_verdict (length state.now.condition.widths) verdict.now)) }
 {
-    let decisions = state.decisions(alloc)?;
+    let decisions = Vec::from_slice(alloc, decisions)?;
     let places = state.places(alloc)?;
     let fields = state.fields(alloc)?;
     let verdict = filled_verdict(alloc, verdict, state.condition().symbols())?;
@@ -80,33 +96,17 @@ pub(crate) fn path(
     })
 }
 
-/// The decisions of a state, and one more.
-fn decisions_with(
-    alloc: Global,
-    state: &SymState,
-    decision: Decision,
-) -> Result<Vec<Decision>, NoMemory>
-    ensures { IfOk result (λ decisions. decisions.items ≡ reverse state.now.decisions ++ decision ∷ []) }
-{
-    let mut decisions = state.decisions(alloc)?;
-    decisions.push(decision)?;
-    Ok(decisions)
-}
-
-/// A refuted side behind a state, where this was found of the state's condition.
+/// A refuted side, where this was found before its decision.
 pub(crate) fn pruned(
     alloc: Global,
-    state: &SymState,
-    decision: Decision,
-    before: &Verdict,
+    decisions: &[Decision],
+    before: &Option<Before>,
     refutation: Refutation,
 ) -> Result<Record, NoMemory>
-    ensures { IfOk result (λ made. record_tree made ≡ pruned (reverse state.now.decisions ++ decision ∷ [])
-        (Some (filled_verdict (length state.now.condition.widths) before.now)) refutation) }
+    ensures { IfOk result (λ made. record_tree made ≡ pruned decisions.now (option_map filled_before before.now) refutation) }
 {
-    let decisions = decisions_with(alloc, state, decision)?;
-    let before = filled_verdict(alloc, before, state.condition().symbols())?;
-    let before = Some(before);
+    let decisions = Vec::from_slice(alloc, decisions)?;
+    let before = filled_before(alloc, before)?;
     Ok(Record::Pruned {
         decisions,
         before,
@@ -114,14 +114,10 @@ pub(crate) fn pruned(
     })
 }
 
-/// A decision behind a state that is not tried.
-pub(crate) fn unexplored(
-    alloc: Global,
-    state: &SymState,
-    decision: Decision,
-) -> Result<Record, NoMemory>
-    ensures { IfOk result (λ made. record_tree made ≡ unexplored (reverse state.now.decisions ++ decision ∷ [])) }
+/// Decisions that are not tried.
+pub(crate) fn unexplored(alloc: Global, decisions: &[Decision]) -> Result<Record, NoMemory>
+    ensures { IfOk result (λ made. record_tree made ≡ unexplored decisions.now) }
 {
-    let decisions = decisions_with(alloc, state, decision)?;
+    let decisions = Vec::from_slice(alloc, decisions)?;
     Ok(Record::Unexplored { decisions })
 }

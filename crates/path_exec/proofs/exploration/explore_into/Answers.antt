@@ -1,7 +1,8 @@
-use Rattle.std.proofs.Common.{rules, arith, subst, ap, ◌≡◌, [], Ok}
+use Rattle.std.proofs.Common.{rules, arith, subst, sym, ap, ◌≡◌, [], Ok}
 use Rattle.std.proofs.lemmas.List.{nil_from_length}
 use Rattle.std.proofs.lemmas.Bool.Decides.{nat_tests}
 use Rattle.sn_width.specs.declared.memory.NoMemory.{NoMemory}
+use Rattle.path_exec.specs.Coursing.{AreOnCourse, MetOnCourse}
 use Rattle.path_exec.specs.Works.{all_tasks}
 use Rattle.path_exec.specs.Ending.{BegunAs, RanAs}
 use Rattle.path_exec.proofs.Endings.{left_explored, runs_whole, same_then, stopped_since, takes_still}
@@ -11,37 +12,37 @@ use Rattle.path_exec.proofs.exploration.explore_into.Goals as goal
 pub returns-in_default-clause-explored : goal.returns-in_default-clause-explored
 returns-in_default-clause-explored g c =
     let x = g.E.Engine.views c.args.engine.now in
-    let seen = g.K.Receiver.seen in
+    let seen = g.K.Observer.seen in
     subst (λ o. BegunAs x {E = NoMemory} c.args.limit (seen c.args.out.now).stops (seen c.start.new.out) c.start.new.works.items c.args.steps.now c.start.new.steps (Ok o)) c.in_default.is c.in_ok-count.ensures.begun
 
 pub run-requires-clause-within : goal.run-requires-clause-within
 run-requires-clause-within g c =
     let x = g.E.Engine.views c.args.engine.now in
-    let seen = g.K.Receiver.seen in
+    let seen = g.K.Observer.seen in
     (subst (λ o. BegunAs x {E = NoMemory} c.args.limit (seen c.args.out.now).stops (seen c.start.new.out) c.start.new.works.items c.args.steps.now c.start.new.steps (Ok o)) c.in-Some.is c.in_ok-count.ensures.begun).0
 
 pub run-requires-clause-works : goal.run-requires-clause-works
 run-requires-clause-works g c =
     let x = g.E.Engine.views c.args.engine.now in
-    let seen = g.K.Receiver.seen in
+    let seen = g.K.Observer.seen in
     (subst (λ o. BegunAs x {E = NoMemory} c.args.limit (seen c.args.out.now).stops (seen c.start.new.out) c.start.new.works.items c.args.steps.now c.start.new.steps (Ok o)) c.in-Some.is c.in_ok-count.ensures.begun).2
 
 pub run-requires-clause-takes : goal.run-requires-clause-takes
 run-requires-clause-takes g c =
     let x = g.E.Engine.views c.args.engine.now in
-    let seen = g.K.Receiver.seen in
+    let seen = g.K.Observer.seen in
     takes_still x (seen c.args.out.now) (seen c.start.new.out) c.in_ok-count.ensures.same c.requires.takes
 
 pub run-requires-clause-runs : goal.run-requires-clause-runs
 run-requires-clause-runs g c =
     let x = g.E.Engine.views c.args.engine.now in
-    let seen = g.K.Receiver.seen in
+    let seen = g.K.Observer.seen in
     (c.args.steps.now, (subst (λ o. BegunAs x {E = NoMemory} c.args.limit (seen c.args.out.now).stops (seen c.start.new.out) c.start.new.works.items c.args.steps.now c.start.new.steps (Ok o)) c.in-Some.is c.in_ok-count.ensures.begun).1)
 
 pub returns-in-Over-clause-explored : goal.returns-in-Over-clause-explored
 returns-in-Over-clause-explored g c =
     let x = g.E.Engine.views c.args.engine.now in
-    let seen = g.K.Receiver.seen in
+    let seen = g.K.Observer.seen in
     let below = c.steps_keep_what_stands.ensures x.start in
     let exact = c.records_that_stand_are_exact.ensures x.start c.requires.splits in
     let m0 = seen c.args.out.now in
@@ -54,7 +55,7 @@ returns-in-Over-clause-explored g c =
 pub returns-in-Interrupted-clause-explored : goal.returns-in-Interrupted-clause-explored
 returns-in-Interrupted-clause-explored g c =
     let x = g.E.Engine.views c.args.engine.now in
-    let seen = g.K.Receiver.seen in
+    let seen = g.K.Observer.seen in
     let below = c.steps_keep_what_stands.ensures x.start in
     let exact = c.records_that_stand_are_exact.ensures x.start c.requires.splits in
     let m0 = seen c.args.out.now in
@@ -67,7 +68,7 @@ returns-in-Interrupted-clause-explored g c =
 pub returns-then-is_empty-clause-explored : goal.returns-then-is_empty-clause-explored
 returns-then-is_empty-clause-explored g c =
     let x = g.E.Engine.views c.args.engine.now in
-    let seen = g.K.Receiver.seen in
+    let seen = g.K.Observer.seen in
     let below = c.steps_keep_what_stands.ensures x.start in
     let exact = c.records_that_stand_are_exact.ensures x.start c.requires.splits in
     let m0 = seen c.args.out.now in
@@ -81,7 +82,7 @@ returns-then-is_empty-clause-explored g c =
 pub leave-requires-clause-works : goal.leave-requires-clause-works
 leave-requires-clause-works g c =
     let x = g.E.Engine.views c.args.engine.now in
-    let seen = g.K.Receiver.seen in
+    let seen = g.K.Observer.seen in
     let below = c.steps_keep_what_stands.ensures x.start in
     let exact = c.records_that_stand_are_exact.ensures x.start c.requires.splits in
     let m0 = seen c.args.out.now in
@@ -94,13 +95,13 @@ leave-requires-clause-works g c =
 pub leave-requires-clause-takes : goal.leave-requires-clause-takes
 leave-requires-clause-takes g c =
     let x = g.E.Engine.views c.args.engine.now in
-    let seen = g.K.Receiver.seen in
+    let seen = g.K.Observer.seen in
     takes_still x (seen c.args.out.now) (seen c.run.new.out) (same_then (seen c.args.out.now) (seen c.start.new.out) (seen c.run.new.out) c.in_ok-count.ensures.same c.in_ok-ran.ensures.same) c.requires.takes
 
 pub returns-clause-explored : goal.returns-clause-explored
 returns-clause-explored g c =
     let x = g.E.Engine.views c.args.engine.now in
-    let seen = g.K.Receiver.seen in
+    let seen = g.K.Observer.seen in
     let below = c.steps_keep_what_stands.ensures x.start in
     let exact = c.records_that_stand_are_exact.ensures x.start c.requires.splits in
     let m0 = seen c.args.out.now in
@@ -116,29 +117,39 @@ returns-clause-explored g c =
 
 pub returns-in-Over-clause-same : goal.returns-in-Over-clause-same
 returns-in-Over-clause-same g c =
-    let seen = g.K.Receiver.seen in
+    let seen = g.K.Observer.seen in
     same_then (seen c.args.out.now) (seen c.start.new.out) (seen c.run.new.out) c.in_ok-count.ensures.same c.in_ok-ran.ensures.same
 
 pub returns-in-Interrupted-clause-same : goal.returns-in-Interrupted-clause-same
 returns-in-Interrupted-clause-same g c =
-    let seen = g.K.Receiver.seen in
+    let seen = g.K.Observer.seen in
     same_then (seen c.args.out.now) (seen c.start.new.out) (seen c.run.new.out) c.in_ok-count.ensures.same c.in_ok-ran.ensures.same
 
 pub returns-then-is_empty-clause-same : goal.returns-then-is_empty-clause-same
 returns-then-is_empty-clause-same g c =
-    let seen = g.K.Receiver.seen in
+    let seen = g.K.Observer.seen in
     same_then (seen c.args.out.now) (seen c.start.new.out) (seen c.run.new.out) c.in_ok-count.ensures.same c.in_ok-ran.ensures.same
 
 pub returns-clause-same : goal.returns-clause-same
 returns-clause-same g c =
-    let seen = g.K.Receiver.seen in
+    let seen = g.K.Observer.seen in
     same_then (seen c.args.out.now) (seen c.run.new.out) (seen c.leave.new.out)
     (same_then (seen c.args.out.now) (seen c.start.new.out) (seen c.run.new.out) c.in_ok-count.ensures.same c.in_ok-ran.ensures.same) c.leave.ensures.same
 
 pub returns-in_err-ran-clause-explored : goal.returns-in_err-ran-clause-explored
 returns-in_err-ran-clause-explored g c =
     let x = g.E.Engine.views c.args.engine.now in
-    let seen = g.K.Receiver.seen in
+    let seen = g.K.Observer.seen in
     let begun = subst (λ o. BegunAs x {E = NoMemory} c.args.limit (seen c.args.out.now).stops (seen c.start.new.out) c.start.new.works.items c.args.steps.now c.start.new.steps (Ok o)) c.in-Some.is c.in_ok-count.ensures.begun in
     let k = c.in_err-ran.ensures.ran c.args.steps.now begun.1 in
     search rules
+
+pub run-requires-clause-course : goal.run-requires-clause-course
+run-requires-clause-course g c =
+    let x = g.E.Engine.views c.args.engine.now in
+    subst (λ ds. AreOnCourse x ds c.start.new.works.items) (sym c.new-course.ensures.items) c.in_ok-count.ensures.course
+
+pub leave-requires-clause-course : goal.leave-requires-clause-course
+leave-requires-clause-course g c =
+    let x = g.E.Engine.views c.args.engine.now in
+    subst (λ r. MetOnCourse x {E = NoMemory} c.run.new.course.items c.run.new.works.items (Ok r)) c.in-Met.is c.in_ok-ran.ensures.course

@@ -1,4 +1,5 @@
 use Rattle.std.proofs.Common.{ℕ, length}
+use Rattle.path_exec.specs.Coursing.{AreOnCourse}
 use Rattle.path_exec.specs.Works.{AreWorks, all_tasks}
 use Rattle.path_exec.specs.Receiving.{IsSame, TakesOwn}
 use Rattle.path_exec.specs.Keeping.{Leaves}
@@ -7,9 +8,10 @@ use Rattle.path_exec.proofs.exploration.leave.Given as goal
 abbrev pub invariant-loop-next : goal.invariant-loop-next
 invariant-loop-next g l =
     let x = g.E.Engine.views l.engine in
-    let seen = g.K.Receiver.seen in
+    let seen = g.K.Observer.seen in
     record {
       works : AreWorks x l.works.items;
+      course : AreOnCourse x l.course.items l.works.items;
       takes : TakesOwn x (seen l.out);
       same : IsSame (seen l.fn.out) (seen l.out);
       leaves : (before after : ℕ) → Leaves x l.limit (seen l.fn.out) (all_tasks x l.fn.works.items) before after

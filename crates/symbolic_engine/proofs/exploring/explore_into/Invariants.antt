@@ -1,7 +1,5 @@
-use Rattle.net_check.specs.Network.{entry, network}
-use Rattle.sym_state.specs.Beginning.{start_in}
 use Rattle.symbolic_engine.proofs.exploring.explore_into.Given as goal
 
--- what this call explores
-abbrev pub ghosts-explore_from : goal.ghosts-explore_from
-ghosts-explore_from g a = record { net = network a.net.now; start = start_in (network a.net.now) (entry a.injection.now) a.hops a.first }
+-- what the receiver puts the records into
+abbrev pub ghosts-record_into : goal.ghosts-record_into
+ghosts-record_into g a = record { target = (g.K.Receiver.seen a.out.now).target }
