@@ -147,7 +147,7 @@ def gate(repo, log, progress, lock):
 
 
 def told(text, is_built):
-    """What a reader needs of what the gate printed: its notes, and where the build failed all but what is of crates that were proved."""
+    """What a reader needs of what the gate printed: its notes, and where the build failed all except what is of crates that were proved."""
     if is_built:
         return [it for it in text.splitlines() if it.startswith("rt: note: ")]
     shown, block, name = [], [], None

@@ -8,12 +8,12 @@
 
 import re
 import sys
-from pathlib import Path
 
-TOP = Path(__file__).resolve().parent.parent
+from checkout import TOP
+
 WORDS = TOP / "crates/fault_words/src"
 # The files of sentences that stand in docs/statuses.md between quotation marks.
-SENTENCES = ("sentence.rt", "table.rt", "absent.rt")
+SENTENCES = ("sentence.rt", "partial.rt", "table.rt", "absent.rt")
 
 
 def literals(file):

@@ -1,19 +1,22 @@
 #!/usr/bin/env python3
 """Runs the built program on files with a fault each, and compares what standard error shows: the text of the status, below it the place of
-the fault, and below that what is said of it in words. Where the program is not built, it says so and runs nothing.
+the fault, and below that what is said of it in words. It also names each sentence of the crate `fault_words` that no run showed. Where the
+program is not built, it says so and runs nothing.
 
   tools/faults.py [PROGRAM]       crates/symnet_cli/out/symnet_cli where none is named
 """
 
+import os
 import re
 import subprocess
 import sys
 import tempfile
 from pathlib import Path
 
-TOP = Path(__file__).resolve().parent.parent
-sys.path.insert(0, str(TOP / "tools"))
-import outside_faults  # noqa: E402
+import outside_faults
+import row_tables
+from checkout import built
+from documents import WORDS, literals
 
 JOB = """symnet 2;
 node r 2 -> 1 {
@@ -43,6 +46,8 @@ link sw.0 -> r.0;
 link sw.1 -> r.7;
 inject sw.0 { tag L2 = 0; field head L2+0:48; }
 """
+TWO_TABLES = TABLE.replace("node r", 'node two = mac "two.mac" chain;\nnode r')
+LONG_COMMENT = f"#{'x' * 40_000_000}\n"
 MAC = "ports 2\n# a row\n02:00:00:00:00:01 0\n02:00:00:00:00:02 1\n"
 # What is said in words.
 RULE = ("a rule is `permit` or `deny`, a protocol, two prefixes (source, destination) and two ports: "
@@ -50,11 +55,21 @@ RULE = ("a rule is `permit` or `deny`, a protocol, two prefixes (source, destina
 ROW = "a table is `ports N`, and then rows: an address or a prefix, and a port that is less than N\n"
 OF_WORDS = "a name is looked for from the folder in which the program runs\n"
 OF_JOB = "the file of a table is looked for from the folder in which the program runs, not from that of the job\n"
-PARTIAL = ("what is written is right as far as it goes: for the rest raise `--limit`, or narrow the injection by `where` lines or "
-           "given values\n")
-FORMS = re.search(r'const FORMS: &str = "(.*?)";', (TOP / "crates/fault_words/src/usage.rt").read_text(), re.DOTALL)[1] + "\n"
+NARROW = "narrow the injection by `where` lines or given values"
+NOT_WRITTEN = "what was written is a beginning of the text, and not to be used: make room, or keep the reader open\n"
+UNCONFIRMED = {
+    1: "the decisions of the record lead to no end, its values are no packet that takes them, or a part that was not tried is not open: explore the job again",
+    2: "the refutation of the record is not accepted, or its decisions end at no test: explore the job again",
+    3: "the places, the end or the fields are not those of the decisions: explore the job again",
+    4: "an undecided path may not have this cause: explore the job again",
+}
+FORMS = literals(WORDS / "usage.rt")[0] + "\n"
 LIST = "permit 6 10.0.0.0/8 0.0.0.0/0 any 80\r\n# a rule\r\n\tdeny any 10.0.0.0/8 0.0.0.0/0 any 9-5\r\n"
 LONG = "symnet 2; // " + "x" * 70 + "\n" + "\t" + "noop;" * 30 + "\n"
+# A job with more than 10,000 records: fourteen tests of a field each.
+MANY = ("symnet 2;\nnode r 1 -> 1 { in 0 { " + "".join(f"if head {at}:8 == 0 {{ }} else {{ }} " for at in range(0, 112, 8)) + "forward 0; } }\n"
+        "inject r.0 { " + "".join(f"field head {at}:8; " for at in range(0, 112, 8)) + "}\nask reach out r.0;\n")
+ELEMENTS = "a :: Discard;\n"
 
 
 def changed(old, new, text=JOB):
@@ -126,6 +141,11 @@ CASES = [
      "symnet: bad table sw.mac:2 1\nsw.mac:2:3:\n  02:00:00:00:00:01\n  ^\n" + ROW),
     ("model mac sw.mac", {"sw.mac": MAC + "02:00:00:00:00:01 1\n"},
      "symnet: bad table sw.mac:5 2\nsw.mac:5:1:\n02:00:00:00:00:01 1\n^\nan earlier row has this address or prefix, and another port: take one of them out\n"),
+    # past 64 MiB of files a copy is kept of the job and of the last file: the line of that is shown, and no item is found behind the other
+    ("explore job", job(TWO_TABLES, **{"sw.mac": MAC + LONG_COMMENT, "two.mac": LONG_COMMENT + "ports\n"}),
+     "symnet: bad table two.mac:2 1\ntwo.mac:2:1:\nports\n^\n" + ROW),
+    ("explore job", job(TWO_TABLES, **{"sw.mac": MAC + LONG_COMMENT, "two.mac": "ports 1\n" + LONG_COMMENT}),
+     "symnet: refused at 12 3\nthe node has no such port; ports are numbered from 0\n"),
     ("model click c", {"c": "a :: Tee;\nb :: Tree;\n"},
      "symnet: bad table c:2 4\nc:2:1:\nb :: Tree;\n^\nthere is no class of this name\n"),
     ("rules list", {"list": LIST},
@@ -158,6 +178,7 @@ USAGES = [
     ("ask job --limit 5", "`--limit`: the command has no such option"),
     ("replay job report --hops=5", "`--hops`: the command has no such option"),
     ("explore job --pruned some", "`some`: --pruned takes all or count"),
+    ("loops job --open all", "`all`: --open takes numbers or visits"),
     ("model", "`model`: behind it stands mac, fib, click or acl"),
     ("model tree file", "`tree`: behind `model` stands mac, fib, click or acl"),
     ("model fib file --style x", "`x`: --style takes chain, grouped or egress"),
@@ -170,7 +191,8 @@ USAGES = [
 # Texts that leave the grammar behind their last word, and what may stand there.
 EXPECTED = [
     ("", "`symnet`"), ("symnet", "`1` or `2`"), ("symnet 2; node a", "a number of at most 4,294,967,295 or `=`"),
-    ("symnet 2; node a = mac \"f\"", "`chain`, `grouped` or `egress`"),
+    ("symnet 2; node a =", "`mac` or `fib`"), ("symnet 2; node a = mac \"f\"", "`chain`, `grouped` or `egress`"),
+    ("symnet 2; node a 1", "`->`"), ("symnet 2; node a 1 -> 1 { in 0", "`{`"),
     ("symnet 2; node a 1 -> 1 { in 0 {", "an instruction or `}`"),
     ("symnet 2; node a 1 -> 1 { in 0 { if true { }", "`else`"),
     ("symnet 2; node a 1 -> 1 { in 0 { if", "a condition"),
@@ -178,6 +200,8 @@ EXPECTED = [
     ("symnet 2; node a 1 -> 1 { in 0 { if $v:8 ==", "a value"),
     ("symnet 2; node a 1 -> 1 { in 0 { set", "a field"),
     ("symnet 2; node a 1 -> 1 { in 0 { set $v:8 =", "a value"),
+    ("symnet 2; node a 1 -> 1 { in 0 { if [", "a condition"), ("symnet 2; node a 1 -> 1 { in 0 { if [ true", "`and`, `or` or `]`"),
+    ("symnet 2; node a 1 -> 1 { in 0 { set $v:8 = ( 1", "`+`, `-` or `)`"), ("symnet 2; node a 1 -> 1 { in 0 { set $v", "`:`"),
     ("symnet 2; node a 1 -> 1 { in 0 { set $v:", "a number from 1 to 128"),
     ("symnet 2; node a 1 -> 1 { in 0 { set head L3 +", "a number of at most 1,048,576"),
     ("symnet 2; node a 1 -> 1 { in 0 { set head", "a name, a number of at most 1,048,576 or `-`"),
@@ -186,7 +210,9 @@ EXPECTED = [
     ("symnet 2; node a 1 -> 1 { } link a.0 ->", "a name"),
     ("symnet 2; node a 1 -> 1 { } inject a.0 {", "`tag`, `field`, `where` or `}`"),
     ("symnet 2; node a 1 -> 1 { } inject a.0 { } ask", "`reach`, `invariant` or `visible`"),
+    ("symnet 2; node a 1 -> 1 { } inject a", "`.`"), ("symnet 2; node a 1 -> 1 { } inject a.0 { } ;", "`ask`"),
     ("symnet 2; node a 1 -> 1 { } inject a.0 { } ask reach in a.0", "`with` or `;`"),
+    ("symnet 2; node a 1 -> 1 { } inject a.0 { } ask visible head L3+72:8", "`at`"),
 ]
 RECORDS = '{"hops":16,"limit":10000,"records":[],"refuted":0,"state":"done","symnet":1}\n'
 # The words, the files, the first line, and the last.
@@ -224,7 +250,12 @@ LAST = [
     ("walk job packet", job(JOB, packet="256"), "symnet: bad packet 2", "a number exceeds the width of its field: a field of 8 bits holds at most 255"),
     ("walk job packet", job(JOB, packet="10"), "symnet: bad packet 3",
      "a `where` of the injection is not true of this packet: change the packet, or the `where`"),
-    ("explore job --limit 1", job(JOB), "symnet: partial", PARTIAL.strip()),
+    ("explore job", job(changed("r.7", "r.0", changed("sw.1", "sw.5", TABLE)), **{"sw.mac": MAC}), "symnet: refused at 9 3",
+     "port 5: box sw has 2 output ports, numbered from 0"),
+    ("explore job --limit 1", job(JOB), "symnet: partial", f"what is written is right as far as it goes: for the rest raise `--limit`, or {NARROW}"),
+    ("ask job", job(MANY), "symnet: partial", f"the exploration ended at 10,000 records; yes and no are right: for the rest {NARROW}"),
+    ("loops job", job(MANY), "symnet: partial", f"the exploration ended at 10,000 records, and more paths may be cut: {NARROW}"),
+    ("compare job job", job(MANY), "symnet: partial", f"an exploration ended at 10,000 records, so nothing is known: {NARROW}, or compare smaller parts"),
     ("walk job packet --limit 1", job(changed("forward 0;", "fork 0, 0;"), packet="6"), "symnet: too many walks 2",
      "raise `--limit`, or lower `--hops` where the net has a loop with a `fork`"),
     ("replay job report", job(JOB, report="{"), "symnet: bad report 1 ",
@@ -236,16 +267,32 @@ LAST = [
     ("explore folder/", {"folder/x": ""}, "symnet: cannot read folder/", "it is a folder, or its rights do not let it be read"),
     ("explore big", {"big": b"x" * 67_108_865}, "symnet: too big big",
      "a file has at most 67,108,864 bytes, and that of a report 268,435,456: split it, or explore with `--pruned count`"),
+    ("model mac m", {"m": "ports 1\n" + "02:00:00:00:00:01 0\n" * 32_769}, "symnet: bad table m:32770 3",
+     "a MAC table has at most 32,768 rows, a forwarding table 200,000: use fewer, or two boxes"),
+    ("model click c", {"c": ELEMENTS + "b :: Tee c;\n"}, "symnet: bad table c:2 1", "a statement does not go on so, or is not ended by `;`"),
+    ("model click c", {"c": ELEMENTS + "a :: Tee;\n"}, "symnet: bad table c:2 2", "an earlier statement declares this name"),
+    ("model click c", {"c": "".join(f"a{number} :: Discard;\n" for number in range(10_001))}, "symnet: bad table c:10001 3",
+     "a configuration has at most 10,000 elements"),
+    ("model click c", {"c": ELEMENTS + "b :: Strip(x);\n"}, "symnet: bad table c:2 5", "the class does not take these arguments"),
+    ("model click c", {"c": ELEMENTS + "b :: Tee; b -> [1] a;\n"}, "symnet: bad table c:2 6",
+     "elements are entered by input 0, and each of their outputs is connected once"),
+    ("model click c", {"c": ELEMENTS + "b -> a;\n"}, "symnet: bad table c:2 7", "no statement declares this name"),
+]
+# Rows of the tables of rows, and what is said below their status.
+ROWS = [
+    ("compare", "choices of other widths at one port",
+     "two paths that leave by one port chose values of other widths: let both jobs choose the same fields in the same order"),
+    *(("forged", name, UNCONFIRMED[kind]) for name, kind in (("one pick of two", 2), ("no side", 2), ("a path is called undecided by cases", 4))),
 ]
 
 
-def shown(program, words, files):
-    with tempfile.TemporaryDirectory() as folder:
+def shown(program, words, files, output=os.devnull):
+    with tempfile.TemporaryDirectory() as folder, open(output, "wb") as out:
         for name, text in files.items():
             file = Path(folder) / name
             file.parent.mkdir(exist_ok=True)
             file.write_bytes(text if isinstance(text, bytes) else text.encode())
-        run = subprocess.run([program, *words.split()], cwd=folder, stdout=subprocess.DEVNULL, stderr=subprocess.PIPE, check=False)
+        run = subprocess.run([program, *words.split()], cwd=folder, stdout=out, stderr=subprocess.PIPE, check=False)
         return run.stderr.decode()
 
 
@@ -258,39 +305,68 @@ def changed_reports(program):
     yield report.replace('"places":["in r.0"', '"places":["in r.1"', 1), 3
 
 
+def last(said):
+    return said.splitlines()[-1] if said else ""
+
+
+def ends(said):
+    """The first line and the last."""
+    return said.split("\n")[0], last(said)
+
+
 def cases(program):
-    """The words, the files, what is taken of standard error, and what that has to be."""
+    """The words, the files, what is taken of standard error, and what that has to be; for the last one also the output."""
     for words, files, wanted in CASES:
         yield words, files, str, wanted
     for words, why in USAGES:
         yield words, {}, str, f"symnet: usage\n{why}{chr(10) if why else ''}{FORMS}"
     for text, wanted in EXPECTED:
-        yield "explore job", job(text), lambda said: said.splitlines()[-1], f"expected {wanted}"
-    for words, files, first, last in LAST:
-        yield words, files, lambda said: (said.splitlines()[0], said.splitlines()[-1]), (first, last)
+        yield "explore job", job(text), last, f"expected {wanted}"
+    for words, files, *wanted in LAST:
+        yield words, files, ends, tuple(wanted)
+    for table, name, wanted in ROWS:
+        row = row_tables.read(table)[name]
+        yield " ".join(row.words), row.files, ends, (row.error, wanted)
     for report, kind in changed_reports(program):
-        yield "replay job report", job(JOB, report=report), lambda said: (said.split()[3:5], said.endswith(": explore the job again\n")), (["0", str(kind)], True)
+        yield "replay job report", job(JOB, report=report), ends, (f"symnet: not confirmed 0 {kind}", UNCONFIRMED[kind])
+    yield "explore job", job(JOB), str, "symnet: cannot write\n" + NOT_WRITTEN, "/dev/full"
+
+
+def sentences():
+    """Patterns of all that `fault_words` says: its texts of more than one word, and what may stand at a place of a job."""
+    for file in sorted(WORDS.glob("*.rt")):
+        if file.name == "probe.rt":
+            continue
+        for text in literals(file):
+            if re.search(r"\w \w", text):
+                yield re.sub(r"\\{\w*\\}", ".+", re.escape(text.replace("\\n", "\n")))
+    # a word, what is said of it if that is not the word itself, and two sets of kinds
+    for word, says in re.findall(r'\(\s*"((?:[^"\\]|\\.)*)",\s*"([^"]*)",\s*\w+,\s*\w+,?\s*\)', (WORDS / "probe.rt").read_text()):
+        yield r"expected (?:.*, |.* or )?" + re.escape(says or f"`{word}`")
 
 
 def main(words):
-    program = Path(words[0] if words else TOP / "crates/symnet_cli/out/symnet_cli").resolve()
-    if not program.is_file():
-        print(f"faults: nothing was run, since {program} is not built")
+    program = built(words, "faults")
+    if program is None:
         return 0
-    wrong = count = 0
-    for given, files, take, wanted in cases(program):
-        count += 1
-        said = shown(program, given, files)
+    wrong, all_said = 0, []
+    for given, files, take, wanted, *output in cases(program):
+        said = shown(program, given, files, *output)
+        all_said.append(said)
         if take(said) != wanted:
             wrong += 1
             print(f"faults: {given}: wanted\n{wanted}\ncame\n{said}")
-    print(f"faults: {count - wrong} of {count} are shown as they should be")
+    print(f"faults: {len(all_said) - wrong} of {len(all_said)} are shown as they should be")
+    text = "\n".join(all_said)
+    unseen = [it for it in sentences() if not re.search(it, text)]
+    for it in unseen:
+        print(f"faults: no case shows: {it}")
     others = list(outside_faults.wrong_cases(str(program)))
     for told in others:
         print(f"faults: {told}")
     count = len(outside_faults.CASES)
     print(f"faults: {count - len(others)} of {count} of files, outputs and limits end as they should")
-    return 1 if wrong or others else 0
+    return 1 if wrong or unseen or others else 0
 
 
 if __name__ == "__main__":

@@ -1,18 +1,13 @@
-#!/usr/bin/env python3
-"""Makes the tables of rows in which one thing of the outside fails, or a job's text ends early.
+"""Tables of rows in which one thing of the outside fails, or a job's text ends early; tools/rows.py writes them.
 
 outside.rows: of one run of each command, as it stands in another table, each load fails in turn, each file is absent, each put fails and
 keeps five bytes, and two files are one byte longer than their limit. prefixes.rows: each beginning of a job's text.
-
-  tools/hostile_rows.py rows      writes both tables
-  tools/hostile_rows.py check     says whether they are what `rows` would write
 """
 
 import re
-import sys
-from pathlib import Path
 
-DATA = Path(__file__).resolve().parent.parent / "crates/symnet_rows/data"
+import row_tables
+
 # A table of rows holds all its files at once, so few of them are long; files.rows has a job and a packet, and tools/faults.py the others.
 LIMIT = 67_108_864
 LONG = {("explore job", "sw.mac"), ("model fib f", "f")}
@@ -34,51 +29,6 @@ RUNS = [
     ("grow", "one box", [], "grown"),
 ]
 
-# ---- tables, as docs/formats.md has them
-
-
-def piece(text, texts):
-    """The bytes of a line of a text, a file or an output."""
-    if text == "|":
-        return b"\n"
-    key, rest = text.split(" ", 1)
-    if key == "times":
-        number, inner = rest.split(" ", 1)
-        return int(number) * piece(inner, texts)
-    made = {"|": lambda: rest.encode() + b"\n", ":": rest.encode, "=": lambda: texts[rest], "bytes": lambda: bytes.fromhex(rest)}
-    return made[key]()
-
-
-def rows_of(table):
-    """The rows of a table by name: words, files in the order of the row, and what is written."""
-    texts, rows, row, place = {}, {}, None, None
-    for line in (DATA / f"{table}.rows").read_text().splitlines():
-        key, _, rest = line.partition(" ")
-        if not line or line.startswith("#"):
-            continue
-        if key == "text":
-            place = (texts, rest)
-        elif key == "row":
-            row = rows[rest] = {"files": {}, "output": b""}
-        elif key == "words":
-            row["words"] = rest
-        elif key == "file":
-            place = (row["files"], rest)
-        elif key == "output":
-            place = (row, "output")
-        elif key in {"|", ":", "=", "times", "bytes"}:
-            place[0][place[1]] = place[0].get(place[1], b"") + piece(line, texts)
-            continue
-        if key in {"text", "file"}:
-            place[0][place[1]] = b""
-    return rows
-
-
-def lines(text):
-    """The text as lines of a table: `|` where a line feed ends it, `:` where nothing does."""
-    *whole, last = text.decode().split("\n")
-    return [f"| {line}" if line else "|" for line in whole] + ([f": {last}"] if last else [])
-
 
 def row(name, words, files, status, error, output):
     """A row; files are pairs of a name and lines, and the output is lines."""
@@ -91,8 +41,8 @@ def row(name, words, files, status, error, output):
 # ---- the outside
 
 
-def pieces_of(words, output):
-    """What is put, piece by piece: a report's head, each record, its tail; every other text at once."""
+def puts_of(words, output):
+    """What is put, one after another: a report's head, each record, its tail; every other text at once."""
     if not words.startswith("explore"):
         return [output]
     text = output.decode()
@@ -122,7 +72,7 @@ def long_files(words, files):
 
 def failing_puts(words, files, texts, names):
     for number, text in enumerate(texts):
-        kept = [f"= {name}" for name in names[:number]] + lines(text[:5])
+        kept = [f"= {name}" for name in names[:number]] + row_tables.pieces(text[:5])
         fails = [(f"failing put {number} keeps 5", [])]
         yield row(f"{words}: put {number} fails", words, files + fails, 5, "symnet: cannot write", kept)
     past = [(f"failing put {len(texts)} keeps 5", [])]
@@ -131,28 +81,28 @@ def failing_puts(words, files, texts, names):
 
 def outside():
     out = ["# One thing of the outside fails: each load, each file, each put of a run of each command. What was written is a beginning of the",
-           "# text. Made by tools/hostile_rows.py."]
+           "# text. Made by tools/rows.py."]
     known = {}
 
     def text(name, value):
         if known.setdefault(name, value) != value:
-            sys.exit(f"hostile_rows: two texts are named {name}")
-        return ["", f"text {name}", *lines(value)]
+            raise ValueError(f"two texts are named {name}")
+        return ["", f"text {name}", *row_tables.pieces(value)]
 
     for table, name, files, written in RUNS:
-        found = rows_of(table)[name]
-        words = found["words"]
-        for (_, value), short in zip(found["files"].items(), files, strict=True):
+        found = row_tables.read(table)[name]
+        words = " ".join(found.words)
+        for (_, value), short in zip(found.files.items(), files, strict=True):
             if short not in known:
                 out += text(short, value)
-        puts = pieces_of(words, found["output"])
+        puts = puts_of(words, found.output)
         names = [written] if len(puts) == 1 else [f"piece {number}" for number in range(len(puts))]
         for short, value in zip(names, puts):
             out += text(short, value)
         if len(puts) > 1:
-            known[written] = found["output"]
+            known[written] = found.output
             out += ["", f"text {written}", *(f"= {short}" for short in names)]
-        given = [(file, [f"= {short}"]) for file, short in zip(found["files"], files)]
+        given = [(file, [f"= {short}"]) for file, short in zip(found.files, files)]
         made = [failing_loads(words, given), absent_files(words, given), long_files(words, given), failing_puts(words, given, puts, names)]
         out += [line for rows in made for it in rows for line in it]
     return "\n".join(out) + "\n"
@@ -164,7 +114,6 @@ def outside():
 WORD = re.compile(r'"[^"]*"|->|<=|[A-Za-z_][A-Za-z_0-9]*|[0-9]+|[^ \n]')
 OPEN = re.compile(r"L3|r|[0-9]+")
 ALSO = {"<=": ["<"], "forward": ["for"]}
-VERSION = "2"
 
 
 def place(text):
@@ -185,35 +134,16 @@ def fault_of(text, cut):
 
 
 def prefixes():
-    found = rows_of("explore")["the other version"]
-    text = found["files"]["job"].decode()
-    out = ["# Each beginning of a job's text: the text, and the text without its last line end, are the job. Made by tools/hostile_rows.py.", "",
-           "text report", *lines(found["output"])]
+    found = row_tables.read("explore")["the other version"]
+    text = found.files["job"].decode()
+    out = ["# Each beginning of a job's text: the text, and the text without its last line end, are the job. Made by tools/rows.py.", "",
+           "text report", *row_tables.pieces(found.output)]
     for cut in range(len(text) + 1):
         fault = fault_of(text, cut)
-        job = [("job", lines(text[:cut].encode()))]
+        job = [("job", row_tables.pieces(text[:cut].encode()))]
         if fault is None:
             out += row(f"the first {cut} bytes", "explore job", job, 0, "", ["= report"])
         else:
             out += row(f"the first {cut} bytes", "explore job", job, 7, f"symnet: syntax {fault[0]} {fault[1]}", [])
     return "\n".join(out) + "\n"
 
-
-TABLES = {"outside.rows": outside, "prefixes.rows": prefixes}
-
-
-def main(words):
-    if words == ["rows"]:
-        for name, made in TABLES.items():
-            (DATA / name).write_text(made())
-        return 0
-    if words == ["check"]:
-        other = [name for name, made in TABLES.items() if not (DATA / name).exists() or (DATA / name).read_text() != made()]
-        print("hostile_rows:", f"not what tools/hostile_rows.py makes: {', '.join(other)}" if other else "the tables are up to date")
-        return 1 if other else 0
-    print(__doc__, file=sys.stderr)
-    return 2
-
-
-if __name__ == "__main__":
-    sys.exit(main(sys.argv[1:]))

@@ -14,7 +14,9 @@ import threading
 import time
 from pathlib import Path
 
-TTL = Path(__file__).resolve().parent.parent / "examples/ttl.sefl"
+from checkout import TOP
+
+TTL = TOP / "examples/ttl.sefl"
 BAD = b"symnet 2;\nnode a 1 -> 0 { in 0 { forward; } }\n"
 BAD_SHOWN = b"symnet: syntax 2:31 5\njob:2:31:\nnode a 1 -> 0 { in 0 { forward; } }\n" + b" " * 30 + b"^\n"
 NO_OUTPUT = b"symnet: cannot write\n"

@@ -20,10 +20,8 @@ from collections import Counter
 from concurrent.futures import ThreadPoolExecutor
 from pathlib import Path
 
-TOP = Path(__file__).resolve().parent.parent
-DATA = TOP / "crates/symnet_rows/data"
-sys.path.insert(0, str(TOP / "tools"))
-import hostile_rows  # noqa: E402
+import row_tables
+from checkout import built
 
 # At most this many allocations of a run are refused one by one, and as many from one on.
 MOST = 500
@@ -144,9 +142,9 @@ class Run:
     """A run of the program in a folder of its own, as it is where nothing is refused."""
 
     def __init__(self, program, library, folder, row):
-        self.program, self.library, self.folder, self.words = program, library, folder, row["words"].split()
+        self.program, self.library, self.folder, self.words = program, library, folder, row.words
         folder.mkdir()
-        for name, text in row["files"].items():
+        for name, text in row.files.items():
             (folder / name).write_bytes(text)
         counts = folder / ".counts"
         self.normal = self.ended(REFUSED_COUNTS=str(counts))
@@ -202,7 +200,7 @@ def tried(program, folder, library):
     started, statuses, wrong = time.time(), Counter(), []
     with ThreadPoolExecutor(os.cpu_count()) as pool:
         for number, (table, name) in enumerate(RUNS):
-            run = Run(program, library, folder / str(number), hostile_rows.rows_of(table)[name])
+            run = Run(program, library, folder / str(number), row_tables.read(table)[name])
             if run.normal[0] != 0 or run.memory == 0 or run.outside == 0:
                 wrong.append(f"{table}: {name}: status {run.normal[0]} with {run.memory} allocations and {run.outside} calls of the outside")
             for status, fault in pool.map(run.tried, run.refusals()):
@@ -218,9 +216,8 @@ def tried(program, folder, library):
 
 
 def main(words):
-    program = Path(words[0] if words else TOP / "crates/symnet_cli/out/symnet_cli").resolve()
-    if not program.is_file():
-        print(f"refused: nothing was run, since {program} is not built")
+    program = built(words, "refused")
+    if program is None:
         return 0
     if not shutil.which("cc"):
         print("refused: nothing was run, since there is no cc")

@@ -5,7 +5,7 @@ The positions are those of docs/language.md, "Where the headers are". A referenc
 
 import ipaddress
 import re
-from typing import Dict, Iterable, Optional, Tuple
+from typing import Dict, Optional, Tuple
 
 # By tag, offset and width: the field's name, and the kind of its values.
 POSITIONS: Dict[Tuple[str, int, int], Tuple[str, str]] = {
@@ -52,14 +52,6 @@ def name_of(target: str) -> str:
 def kind_of(target: str) -> Optional[str]:
     position = position_of(target)
     return position[1] if position else None
-
-
-def reference_at(tags: Iterable[Tuple[str, int]], address: int, width: int) -> Optional[str]:
-    """The reference of the cell of this width at a bit address, by a tag with which it is a position of the table."""
-    for tag, base in tags:
-        if (tag, address - base, width) in POSITIONS:
-            return f"head {tag}+{address - base}:{width}"
-    return None
 
 
 def value_text(kind: Optional[str], value: int) -> str:

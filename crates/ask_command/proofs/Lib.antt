@@ -1,2 +1,3 @@
 mod AnswerLemmas
 pub mod OnceLemmas
+pub mod Further

@@ -1,3 +1,4 @@
 pub mod Answering
 pub mod Asks
 pub mod Texts
+pub mod Beyond

@@ -1,11 +1,16 @@
 //! Laws of answers. Each is the contract of a function that does nothing.
 
-ghost use Rattle.std.specs.Prelude.{◌≡◌, ℕ, List};
+ghost use Rattle.std.specs.Prelude.{◌≡◌, ◌≤◌, ℕ, List};
 ghost use Rattle.sefl_syntax.specs.Trees.{AskTree};
 ghost use Rattle.net_check.specs.Network.{Entry, Network};
 ghost use Rattle.command_edge.specs.Puts.{Outcome, refused};
 ghost use Rattle.command_edge.specs.declared.fault.OwnFault.{OwnFault};
-ghost use Rattle.ask_command.specs.Asks.{AnswersOf};
+ghost use Rattle.hop_bounds.specs.Beyond.{AllUncut, HasSameWalks};
+ghost use Rattle.command_edge.specs.declared.ending.Ending.{Ending as EndingOf};
+ghost use Rattle.ask_command.specs.Asks.{AnswersOf, IsAnswersText};
+ghost use Rattle.ask_command.specs.Beyond.{AreTrueReplies};
+
+use hop_bounds::laws::{right_answers_go_beyond, truth_goes_beyond, uncut_records_go_beyond};
 
 /// Where a question is refused, `ask` comes to that refusal alone: to no text, and to no refusal of another question.
 #[tactic(auto, using(crate::proofs::OnceLemmas::refused_alone))]
@@ -13,3 +18,23 @@ pub fn refused_questions_are_told_alone()
     ensures { (hops limit : ℕ) (net : Network) (i : Entry) (asks : List AskTree) (fault : OwnFault) (other : Outcome)
         → AnswersOf hops limit net i asks (refused fault) → AnswersOf hops limit net i asks other → other ≡ refused fault }
 {}
+
+/// Where no record was cut by the bound of hops, and nothing was left untried, the text is one of right answers under every
+/// larger bound.
+pub fn answers_over_uncut_records_hold_beyond()
+    ensures { (hops limit : ℕ) (net : Network) (i : Entry) (asks : List AskTree) (ending : EndingOf) (whole : List ℕ)
+        → (answers : IsAnswersText hops limit net i asks ending whole) → AllUncut answers.records → (more : ℕ) → hops ≤ more
+        → IsAnswersText more limit net i asks ending whole }
+{
+    uncut_records_go_beyond();
+    right_answers_go_beyond();
+}
+
+/// Where each packet has the same walks under another bound of hops, the answers are true under that bound.
+pub fn answers_stay_true_where_walks_are_the_same()
+    ensures { (hops limit : ℕ) (net : Network) (i : Entry) (asks : List AskTree) (ending : EndingOf) (whole : List ℕ)
+        → (answers : IsAnswersText hops limit net i asks ending whole) → (more : ℕ) → HasSameWalks net i hops more
+        → AreTrueReplies net i more answers.records answers.questions answers.replies }
+{
+    truth_goes_beyond();
+}

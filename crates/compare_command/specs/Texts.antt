@@ -24,7 +24,7 @@ other_data left number values =
     (member (codes "symnet") (count 1)
     (member (codes "values") (values_data values) no_members)))))
 
--- the numbers of the paths of which it is not known
+-- the numbers of the paths for which it is not known
 abbrev pub unknown_data : List ℕ → List ℕ → Data
 unknown_data lefts rights =
     object (member (codes "answer") (string (codes "unknown"))

@@ -9,7 +9,7 @@ use command_runs::OnePiece;
 use explore_command::RecordLimit;
 use std::alloc::Global;
 
-/// Whether two jobs of one injection deliver the same, from one exploration of each with so many hops and so many records.
+/// Whether two jobs of one injection deliver the same, from one exploration of each, with this bound of hops and this limit of records.
 #[derive(Clone, Copy)]
 pub struct Compare<'a> {
     pub source: BothJobs<'a>,

@@ -74,7 +74,7 @@ fn write_numbers(out: &mut JsonText, numbers: &[u64]) -> Result<(), NoMemory>
     Ok(())
 }
 
-/// The numbers of the paths of each side of which it is not known.
+/// For each side the numbers of the paths for which it is not known.
 fn write_unknown(out: &mut JsonText, left: &[u64], right: &[u64]) -> Result<(), NoMemory>
     ensures { Gains (unknown_data left.now right.now) result out.old out.new }
 {

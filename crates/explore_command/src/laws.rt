@@ -1,16 +1,19 @@
 //! Laws of what `explore` writes. Each is the contract of a function that does nothing.
 
-ghost use Rattle.std.specs.Prelude.{◌⊎◌, ℕ, List};
+ghost use Rattle.std.specs.Prelude.{◌⊎◌, ◌≤◌, ℕ, List};
 ghost use Rattle.sn_edge.specs.Pieces.{IsPrefix};
 ghost use Rattle.net_check.specs.Network.{Entry, Network};
 ghost use Rattle.record_lines.specs.declared.lines.RefutedSides.{RefutedSides as SidesOf};
 ghost use Rattle.record_lines.specs.declared.lines.RefutedSides.TheVariants.{Written};
 ghost use Rattle.command_edge.specs.declared.ending.Ending.{Ending as EndingOf};
 ghost use Rattle.command_edge.specs.declared.ending.Ending.TheVariants.{Done};
+ghost use Rattle.exact_records.specs.View.{record_trees};
+ghost use Rattle.hop_bounds.specs.Beyond.{AllUncut, GoBeyond};
 ghost use Rattle.explore_command.specs.Explores.{BehindHead, IsCut, IsReport, IsSoFar};
 ghost use Rattle.explore_command.specs.Headline.{IsHeadline, IsReadBack, MayBeShown};
 
 use exact_records::laws::whole_records_have_one_path_a_walk;
+use hop_bounds::laws::uncut_records_go_beyond;
 use path_report::laws::lines_are_read_back;
 use record_lines::laws::a_record_comes_behind_the_others;
 use record_text::laws::lines_join;
@@ -43,4 +46,14 @@ pub fn cuts_are_beginnings()
 {
     lines_join();
     a_record_comes_behind_the_others();
+}
+
+/// Where no path of a report was cut by the bound of hops, and nothing was left untried, each packet has the same walks under
+/// every larger bound, and the report's records are exact for it.
+pub fn uncut_reports_hold_beyond()
+    ensures { (hops limit : ℕ) (sides : SidesOf) (net : Network) (i : Entry) (ending : EndingOf) (whole : List ℕ)
+        → (report : IsReport hops limit sides net i ending whole) → AllUncut (record_trees report.records) → (more : ℕ) → hops ≤ more
+        → GoBeyond net i hops limit (record_trees report.records) more }
+{
+    uncut_records_go_beyond();
 }

@@ -75,7 +75,7 @@ fn all_expected(alloc: Global, bytes: &[u8], place: usize) -> Result<Vec<String>
     Ok(out)
 }
 
-/// What stands before the word of this number, of so many.
+/// What stands before the word of this index, of `count` words.
 fn before_word(index: usize, count: usize) -> &'static str {
     if index == 0 {
         "expected "

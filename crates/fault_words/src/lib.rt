@@ -5,6 +5,7 @@
 mod absent;
 mod expected;
 mod form;
+mod partial;
 mod port;
 mod probe;
 mod reason;

@@ -2,6 +2,7 @@
 
 use crate::absent::{absent_text, absent_word_text};
 use crate::expected::expected_text;
+use crate::partial::of_partial;
 use crate::port::port_text;
 use crate::sentence::{of_refusal, of_syntax, sentence_of};
 use crate::statement::words_from;
@@ -95,6 +96,7 @@ pub fn reason_text<F: Folder, P: Patterns>(
         },
         Status::Refused { kind, .. } => fixed(alloc, of_refusal(*kind)),
         Status::BadTable { kind, .. } => fixed(alloc, of_line(alloc, words, *kind)),
+        Status::Partial => fixed(alloc, of_partial(alloc, words)),
         _ => fixed(alloc, sentence_of(status)),
     }
 }

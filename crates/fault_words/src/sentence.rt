@@ -140,9 +140,6 @@ pub(crate) fn sentence_of(status: &Status) -> Option<&'static str> {
             "the pattern is no regular expression, or grows too large",
         ),
         Status::BadPacket { kind } => of_packet(*kind),
-        Status::Partial => Some(
-            "what is written is right as far as it goes: for the rest raise `--limit`, or narrow the injection by `where` lines or given values",
-        ),
         Status::TooMany { .. } => Some(
             "raise `--limit`, or lower `--hops` where the net has a loop with a `fork`",
         ),

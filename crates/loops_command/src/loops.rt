@@ -11,7 +11,7 @@ use job_files::JobFile;
 use net_check::Accepted;
 use std::alloc::Global;
 
-/// What the paths of a job that are cut tell of loops, from one exploration with so many hops and so many records.
+/// What the paths of a job that are cut tell of loops, from one exploration with this bound of hops and this limit of records.
 #[derive(Clone, Copy)]
 pub struct Loops<'a> {
     pub source: JobFile<'a>,

@@ -84,7 +84,8 @@ pub(crate) fn text_of_loops(
 ) -> Result<(Ending, String), OwnFault>
     requires job { AreOfOneJob (network job.now.net) (entry job.now.injection) }
     requires limit { 0 < limit }
-    ensures text { IfOk result (λ t. IsLoopsText hops limit (network job.now.net) (entry job.now.injection) detail t.0 (string_bytes t.1)) }
+    ensures text { IfOk result (λ t. IsLoopsText hops limit (network job.now.net) (entry job.now.injection) detail t.0
+        (string_bytes t.1)) }
     ensures refused { IfErr result (λ fault. fault ≡ NoMemoryFault) }
 {
     let subject = Subject {

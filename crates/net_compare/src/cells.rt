@@ -22,7 +22,8 @@ pub(crate) fn add_equalities(
     others: &[(i32, Vec<Cell<Term>>)],
     formulas: &mut Vec<Formula>,
 ) -> Result<(), NoMemory>
-    ensures { IfOk result (λ done. Adds (AreEqualities (map held_head heads.now) (map held_head others.now)) formulas.old.items formulas.new.items) }
+    ensures { IfOk result (λ done. Adds (AreEqualities (map held_head heads.now) (map held_head others.now))
+        formulas.old.items formulas.new.items) }
 {
     let count = heads.len().min(others.len());
     for at in 0..count {

@@ -1,11 +1,10 @@
 //! The formulas of a path that another path does not have.
 
 ghost use Rattle.std.specs.Prelude.{◌≡◌, ◌↔◌, ◌<◌, Some, IfOk, IsTrue, length, map, slice_get};
-ghost use Rattle.path_cond.specs.Seen.{entry_seen};
 ghost use Rattle.path_formula.specs.View.{view};
 ghost use Rattle.sefl_meaning.specs.Order.{Has};
 ghost use Rattle.compare_meaning.specs.Facing.{AreMissing, must_be};
-ghost use Rattle.net_compare.specs.Adding.{AddsMissing};
+ghost use Rattle.net_compare.specs.Adding.{AddsMissing, formulas_in};
 
 use path_cond::PathCond;
 use path_formula::Formula;
@@ -13,14 +12,14 @@ use same_formulas::same_formula;
 use sn_width::NoMemory;
 use std::alloc::Global;
 
-/// The formulas of a condition as they must be, but for those that another one has with the same truth.
+/// The formulas of a condition as they must be, except those that another one has with the same truth.
 #[tactic(auto, using(crate::proofs::Lacking::missing_first, crate::proofs::Lacking::missing_next, crate::proofs::Lacking::missing_end))]
 pub(crate) fn missing(
     alloc: Global,
     had: &PathCond,
     of: &PathCond,
 ) -> Result<Vec<Formula>, NoMemory>
-    ensures { IfOk result (λ formulas. AreMissing (map (entry_seen view) had.now.entries) (map (entry_seen view) of.now.entries) (map view formulas.items)) }
+    ensures { IfOk result (λ formulas. AreMissing (formulas_in had.now) (formulas_in of.now) (map view formulas.items)) }
 {
     let mut formulas = Vec::new(alloc);
     for pick in 0..of.len() {
@@ -44,7 +43,8 @@ fn add_missing(
     holds: bool,
     formulas: &mut Vec<Formula>,
 ) -> Result<(), NoMemory>
-    ensures { IfOk result (λ done. AddsMissing (map (entry_seen view) had.now.entries) (view formula.now, holds) (map view formulas.old.items) (map view formulas.new.items)) }
+    ensures { IfOk result (λ done. AddsMissing (formulas_in had.now) (view formula.now, holds)
+        (map view formulas.old.items) (map view formulas.new.items)) }
 {
     if has_entry(had, pick, formula, holds)? {
         return Ok(());
@@ -72,7 +72,7 @@ fn has_entry(
     formula: &Formula,
     holds: bool,
 ) -> Result<bool, NoMemory>
-    ensures { IfOk result (λ found. IsTrue found ↔ Has (map (entry_seen view) condition.now.entries) (view formula.now, holds)) }
+    ensures { IfOk result (λ found. IsTrue found ↔ Has (formulas_in condition.now) (view formula.now, holds)) }
 {
     if is_entry(condition, first, formula, holds) {
         return Ok(true);
@@ -91,7 +91,7 @@ fn has_entry(
 /// Whether the formula of this pick is this one, with this truth.
 #[tactic(auto, using(crate::proofs::Lacking::got_seen))]
 fn is_entry(condition: &PathCond, pick: u32, formula: &Formula, holds: bool) -> bool
-    ensures { IsTrue result ↔ (slice_get (map (entry_seen view) condition.now.entries) pick ≡ Some (view formula.now, holds)) }
+    ensures { IsTrue result ↔ (slice_get (formulas_in condition.now) pick ≡ Some (view formula.now, holds)) }
 {
     match condition.entry(pick) {
         None => false,

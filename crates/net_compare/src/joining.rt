@@ -1,12 +1,12 @@
 //! Conditions with more symbols and more formulas, and their domains.
 
-ghost use Rattle.std.specs.Prelude.{◌≡◌, ◌++◌, ◌∷◌, [], IfOk, map};
+ghost use Rattle.std.specs.Prelude.{◌≡◌, IfOk, map};
 ghost use Rattle.std.specs.List.{AllByRecursion};
 ghost use Rattle.interval_solver.specs.Domains.{AreDomainsOf};
 ghost use Rattle.path_cond.specs.Seen.{AllTyped, seen};
 ghost use Rattle.path_formula.specs.Typed.{IsTyped};
 ghost use Rattle.path_formula.specs.View.{view};
-ghost use Rattle.net_compare.specs.Joining.{IsReady, denied_by, with_all_of};
+ghost use Rattle.net_compare.specs.Joining.{IsReady, denied_by, one_more, with_all_of};
 
 use interval_solver::Domains;
 use interval_solver::laws::one_formula_more_may_be_met;
@@ -32,7 +32,7 @@ pub fn with_formula(
     requires ready { IsReady start.now }
     requires typed { IsTyped start.now.condition.widths (view formula) }
     ensures ready { IfOk result IsReady }
-    ensures longer { IfOk result (λ next. next.condition ≡ record { widths = start.now.condition.widths; entries = start.now.condition.entries ++ (formula, holds) ∷ [] }) }
+    ensures longer { IfOk result (λ next. next.condition ≡ one_more start.now.condition (formula, holds)) }
 {
     one_formula_more_may_be_met();
     let condition = start.condition.with(alloc, formula, holds)?;

@@ -119,7 +119,8 @@ fn numbered<'d>(
     rights: &'d [Delivery<'d>],
     shift: u64,
 ) -> Result<Vec<(u64, &'d Delivery<'d>)>, NoMemory>
-    ensures { IfOk result (λ both. map numbered_path both.items ≡ map seen_path lefts.now ++ map (shifted shift) (map seen_path rights.now)) }
+    ensures { IfOk result (λ both. map numbered_path both.items
+        ≡ map seen_path lefts.now ++ map (shifted shift) (map seen_path rights.now)) }
 {
     let mut both = Vec::new(alloc);
     for path in lefts {

@@ -1,9 +1,10 @@
 //! Symbols of two conditions.
 
-ghost use Rattle.std.specs.Prelude.{◌≡◌, ◌↔◌, ◌⊎◌, ◌++◌, ◌∷◌, [], IfOk, IsTrue};
+ghost use Rattle.std.specs.Prelude.{◌≡◌, ◌↔◌, ◌⊎◌, IfOk, IsTrue};
 ghost use Rattle.compare_meaning.specs.Clashes.{Begins};
 ghost use Rattle.compare_meaning.specs.Facing.{longer};
-ghost use Rattle.net_compare.specs.Joining.{IsReady};
+ghost use Rattle.interval_solver.specs.Domains.{with_width};
+ghost use Rattle.net_compare.specs.Joining.{IsReady, with_widths};
 ghost use Rattle.net_compare.specs.Matching.{Match};
 
 use crate::joining::Decidable;
@@ -50,7 +51,8 @@ pub(crate) fn with_symbols_of(
     requires ready { IsReady start }
     requires agree { Begins start.condition.widths other.now.widths ⊎ Begins other.now.widths start.condition.widths }
     ensures ready { IfOk result IsReady }
-    ensures longer { IfOk result (λ next. next.condition ≡ record { widths = longer start.condition.widths other.now.widths; entries = start.condition.entries }) }
+    ensures longer { IfOk result (λ next. next.condition
+        ≡ with_widths start.condition (longer start.condition.widths other.now.widths)) }
 {
     let first = start.condition.symbols();
     let mut now = start;
@@ -67,7 +69,7 @@ pub(crate) fn with_symbols_of(
 fn with_symbol(alloc: Global, start: &Decidable, width: Width) -> Result<Decidable, NoMemory>
     requires { IsReady start.now }
     ensures ready { IfOk result IsReady }
-    ensures wider { IfOk result (λ next. next.condition ≡ record { widths = start.now.condition.widths ++ width ∷ []; entries = start.now.condition.entries }) }
+    ensures wider { IfOk result (λ next. next.condition ≡ with_width start.now.condition width) }
 {
     start.condition.formulas_are_typed();
     let condition = start.condition.with_symbol(alloc, width)?;

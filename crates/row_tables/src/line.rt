@@ -42,7 +42,7 @@ pub fn line_of(line: &str) -> Result<Line<'_>, Flaw> {
         "row" => Ok(Line::Row {
             name: name_of(rest)?,
         }),
-        "|" | ":" | "=" | "bytes" | "times" => Ok(Line::Piece(piece_of(key, rest)?)),
+        "|" | ":" | "=" | "bytes" | "from" | "times" => Ok(Line::Piece(piece_of(key, rest)?)),
         _ => Ok(Line::Item(item_of(key, rest)?)),
     }
 }

@@ -1,15 +1,17 @@
-//! The pieces of which the texts of a table are made.
+//! The pieces that make the texts of a table.
 
 ghost use Rattle.std.specs.Prelude.{◌<◌, IfSome};
 
 use crate::flaw::Flaw;
 use crate::line::{cut, number_of};
 use std::alloc::{AllocError, Global};
+use std::fs;
+use std::rt::Files;
 
 /// The most bytes that a text, a file or an output of a table may have.
 const TEXT_LIMIT: u64 = 268_435_456;
 
-/// A piece of a text, put so many times.
+/// A piece of a text, put a number of times.
 #[derive(Clone, Copy)]
 pub struct Piece<'a> {
     times: u64,
@@ -26,6 +28,8 @@ enum Part<'a> {
     Bytes(&'a str),
     /// The text with this name.
     Named(&'a str),
+    /// The file at this path.
+    File(&'a str),
 }
 
 /// A text, or a file, under its name.
@@ -52,20 +56,27 @@ fn part_of<'a>(key: &'a str, rest: &'a str) -> Result<Part<'a>, Flaw> {
         ":" => Ok(Part::Open(rest)),
         "bytes" => Ok(Part::Bytes(rest)),
         "=" => Ok(Part::Named(rest)),
+        "from" => Ok(Part::File(rest)),
         _ => Err(Flaw::Unknown),
     }
 }
 
 impl Piece<'_> {
     /// Puts the piece behind the text.
-    pub fn put(&self, alloc: Global, texts: &[Named], text: &mut Vec<u8>) -> Result<(), Flaw> {
-        let once = self.part.bytes(alloc, texts)?;
+    pub fn put<R: Files + AllocGlobal>(
+        &self,
+        rt: &R,
+        texts: &[Named],
+        text: &mut Vec<u8>,
+    ) -> Result<(), Flaw> {
+        let once = self.part.bytes(rt, texts)?;
         put_times(&once, self.times, text)
     }
 }
 
 impl Part<'_> {
-    fn bytes(&self, alloc: Global, texts: &[Named]) -> Result<Vec<u8>, Flaw> {
+    fn bytes<R: Files + AllocGlobal>(&self, rt: &R, texts: &[Named]) -> Result<Vec<u8>, Flaw> {
+        let alloc = rt.alloc();
         match self {
             Part::Line(line) => {
                 let mut bytes = line.as_bytes().to_vec(alloc)?;
@@ -78,7 +89,16 @@ impl Part<'_> {
                 Some(bytes) => Ok(bytes.to_vec(alloc)?),
                 None => Err(Flaw::NoSuchText),
             },
+            Part::File(path) => file_bytes(rt, path),
         }
+    }
+}
+
+/// The bytes of the file at this path.
+fn file_bytes<R: Files + AllocGlobal>(rt: &R, path: &str) -> Result<Vec<u8>, Flaw> {
+    match fs::read(rt, path) {
+        Ok(bytes) => Ok(bytes),
+        Err(_) => Err(Flaw::NoSuchFile),
     }
 }
 

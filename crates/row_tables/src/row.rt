@@ -4,6 +4,7 @@ use crate::flaw::{Fault, Flaw};
 use crate::line::Item;
 use crate::piece::{Named, Piece, empty_text, find_text};
 use std::alloc::Global;
+use std::rt::Files;
 
 /// What a run is given.
 #[derive(Drop)]
@@ -65,7 +66,7 @@ enum Place {
     Output,
 }
 
-/// A row of which some lines have been read.
+/// What the lines of a row that were read have told.
 #[derive(Drop)]
 pub struct Draft {
     name: String,
@@ -189,15 +190,20 @@ impl Draft {
     }
 
     /// Puts a piece behind the file or the output that is being read.
-    pub fn put(&mut self, alloc: Global, texts: &[Named], piece: &Piece<'_>) -> Result<(), Flaw> {
+    pub fn put<R: Files + AllocGlobal>(
+        &mut self,
+        rt: &R,
+        texts: &[Named],
+        piece: &Piece<'_>,
+    ) -> Result<(), Flaw> {
         match self.place {
             Place::Nothing => Err(Flaw::NoPlace),
             Place::File => match self.given.files.last_mut() {
-                Some((_, bytes)) => piece.put(alloc, texts, bytes),
+                Some((_, bytes)) => piece.put(rt, texts, bytes),
                 None => Err(Flaw::NoPlace),
             },
             Place::Output => match &mut self.output {
-                Some(output) => piece.put(alloc, texts, output),
+                Some(output) => piece.put(rt, texts, output),
                 None => Err(Flaw::NoPlace),
             },
         }

@@ -1,36 +1,6 @@
 //! Tables of worked rows: UTF-8 texts, each line with one meaning. A row is a run of the program `symnet` with all that it is
-//! given and all that is to come of it. Anything else is an error, told with its line.
-//!
-//! An empty line, and one that begins with `#`, says nothing. Each other line is a key, and behind the first blank what it
-//! tells, to the end of the line as it stands.
-//!
-//! | Line | What it says |
-//! |---|---|
-//! | `text NAME` | a text that the lines below it may name begins, and the row above ends |
-//! | `row NAME` | a row begins; its lines come in any order |
-//! | `words WORD WORD ..` | the program's words, one blank between two of them; `words` alone is none |
-//! | `word WORD` | one more word, which may be empty or have blanks, behind those of the line `words` |
-//! | `file NAME` | a file begins |
-//! | `failing load N` | the load number N fails, counted from 0 |
-//! | `failing put N keeps COUNT` | the put number N fails and takes so many bytes; COUNT is the same in all such lines of a row |
-//! | `bad PATTERN` | the pattern is bad |
-//! | `finds NAME PATTERN` | the pattern finds the metadata name; no other pair of a pattern and a name does |
-//! | `status N` | the process ends with this number |
-//! | `error TEXT` | standard error shows this line; `error` alone is nothing |
-//! | `output` | what is written begins |
-//!
-//! A text, a file and an output are made of the pieces on the lines that follow them; without any they are empty.
-//!
-//! | Line | The piece |
-//! |---|---|
-//! | `| LINE` | the line, with a line feed; `|` alone is an empty line |
-//! | `: PART` | the part of a line, with no line feed |
-//! | `bytes HH HH ..` | bytes, two small hexadecimal digits each |
-//! | `= NAME` | the text of this name, which stands above |
-//! | `times N PIECE` | the piece N times |
-//!
-//! A table has a row at least. No two rows of it have one name, nor two texts, nor two files of a row. A row has one line
-//! `words`, one `status`, one `error` and one `output`.
+//! given and all that is to come of it. Anything else is an error, told with its line. `crates/symnet_rows/data/README.md` has
+//! the lines.
 
 ghost use Rattle.std.specs.Prelude.{◌≢◌, [], IfOk};
 
@@ -39,9 +9,10 @@ use crate::line::{Item, Line, line_of};
 use crate::piece::{Named, Piece, empty_text, find_text};
 use crate::row::{Draft, Row};
 use std::alloc::Global;
+use std::rt::Files;
 use std::str;
 
-/// A table of which some lines have been read.
+/// What the lines of a table that were read have told.
 #[derive(Drop)]
 struct Reader {
     texts: Vec<Named>,
@@ -50,10 +21,11 @@ struct Reader {
     draft: Option<Draft>,
 }
 
-/// The rows of a table.
-pub fn read_table(alloc: Global, bytes: &[u8]) -> Result<Vec<Row>, Fault>
+/// The rows of a table. Files that it takes texts from are read.
+pub fn read_table<R: Files + AllocGlobal>(rt: &R, bytes: &[u8]) -> Result<Vec<Row>, Fault>
     ensures { IfOk result (λ rows. rows.items ≢ []) }
 {
+    let alloc = rt.alloc();
     let mut reader = Reader {
         texts: Vec::new(alloc),
         rows: Vec::new(alloc),
@@ -62,7 +34,7 @@ pub fn read_table(alloc: Global, bytes: &[u8]) -> Result<Vec<Row>, Fault>
     let mut number = 0usize;
     for line in bytes.split(|byte| *byte == b'\n') {
         number = number.saturating_add(1);
-        reader.read_line(alloc, line, number)?;
+        reader.read_line(rt, line, number)?;
     }
     reader.end_row()?;
     if reader.rows.is_empty() {
@@ -75,22 +47,33 @@ pub fn read_table(alloc: Global, bytes: &[u8]) -> Result<Vec<Row>, Fault>
 }
 
 impl Reader {
-    fn read_line(&mut self, alloc: Global, line: &[u8], number: usize) -> Result<(), Fault> {
+    fn read_line<R: Files + AllocGlobal>(
+        &mut self,
+        rt: &R,
+        line: &[u8],
+        number: usize,
+    ) -> Result<(), Fault> {
         let says = says(line).map_err(|flaw| Fault { line: number, flaw })?;
         if let Line::Row { .. } | Line::Text { .. } = says {
             self.end_row()?;
         }
-        self.take(alloc, says, number)
+        self.take(rt, says, number)
             .map_err(|flaw| Fault { line: number, flaw })
     }
 
-    fn take(&mut self, alloc: Global, says: Line<'_>, number: usize) -> Result<(), Flaw> {
+    fn take<R: Files + AllocGlobal>(
+        &mut self,
+        rt: &R,
+        says: Line<'_>,
+        number: usize,
+    ) -> Result<(), Flaw> {
+        let alloc = rt.alloc();
         match says {
             Line::Nothing => Ok(()),
             Line::Text { name } => self.begin_text(alloc, name),
             Line::Row { name } => self.begin_row(alloc, name, number),
             Line::Item(item) => self.take_item(alloc, item),
-            Line::Piece(piece) => self.put(alloc, &piece),
+            Line::Piece(piece) => self.put(rt, &piece),
         }
     }
 
@@ -116,18 +99,22 @@ impl Reader {
         }
     }
 
-    fn put(&mut self, alloc: Global, piece: &Piece<'_>) -> Result<(), Flaw> {
+    fn put<R: Files + AllocGlobal>(&mut self, rt: &R, piece: &Piece<'_>) -> Result<(), Flaw> {
         match &mut self.draft {
-            Some(draft) => draft.put(alloc, &self.texts, piece),
-            None => self.put_to_text(alloc, piece),
+            Some(draft) => draft.put(rt, &self.texts, piece),
+            None => self.put_to_text(rt, piece),
         }
     }
 
-    fn put_to_text(&mut self, alloc: Global, piece: &Piece<'_>) -> Result<(), Flaw> {
+    fn put_to_text<R: Files + AllocGlobal>(
+        &mut self,
+        rt: &R,
+        piece: &Piece<'_>,
+    ) -> Result<(), Flaw> {
         let Some((name, mut bytes)) = self.texts.pop() else {
             return Err(Flaw::NoPlace);
         };
-        piece.put(alloc, &self.texts, &mut bytes)?;
+        piece.put(rt, &self.texts, &mut bytes)?;
         Ok(self.texts.push((name, bytes))?)
     }
 

@@ -40,24 +40,31 @@ fn run_row<R: Print + AllocGlobal>(rt: &R, table: &str, row: Row) -> io::Result<
     Ok(agrees)
 }
 
-/// Runs all rows of a table, and prints how many there are. Whether each ended as wanted.
-fn run_rows<R: Print + AllocGlobal>(rt: &R, table: &str, rows: Vec<Row>) -> io::Result<bool> {
+/// Runs all rows of a table, and prints whether each ended as wanted; how many there are goes to standard error.
+fn run_rows<R: Print + Eprint + AllocGlobal>(
+    rt: &R,
+    table: &str,
+    rows: Vec<Row>,
+) -> io::Result<bool> {
     let count = rows.len();
     let mut agrees = true;
     for row in rows {
         agrees &= run_row(rt, table, row)?;
     }
-    println!(rt; "{table}: {count} rows")?;
+    if agrees {
+        println!(rt; "{table}: each row ended as wanted")?;
+    }
+    eprintln!(rt; "{table}: {count} rows")?;
     Ok(agrees)
 }
 
 /// Runs the table in a file.
-fn run_table<R: Files + Print + AllocGlobal>(rt: &R, table: &str) -> io::Result<bool> {
+fn run_table<R: Files + Print + Eprint + AllocGlobal>(rt: &R, table: &str) -> io::Result<bool> {
     let Ok(bytes) = fs::read(rt, table) else {
         println!(rt; "{table}: the file cannot be read")?;
         return Ok(false);
     };
-    match read_table(rt.alloc(), &bytes) {
+    match read_table(rt, &bytes) {
         Ok(rows) => run_rows(rt, table, rows),
         Err(fault) => {
             println!(rt; "{table}:{}: {}", fault.line, fault.flaw.text())?;
@@ -66,8 +73,11 @@ fn run_table<R: Files + Print + AllocGlobal>(rt: &R, table: &str) -> io::Result<
     }
 }
 
-/// Runs the tables in files of these names, of which there is one at least.
-fn run_tables<R: Files + Print + AllocGlobal>(rt: &R, tables: &[String]) -> io::Result<bool> {
+/// Runs the tables in files of these names. Where no name is given, that is an error.
+fn run_tables<R: Files + Print + Eprint + AllocGlobal>(
+    rt: &R,
+    tables: &[String],
+) -> io::Result<bool> {
     if tables.is_empty() {
         println!(rt; "no table is named")?;
         return Ok(false);

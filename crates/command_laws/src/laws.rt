@@ -1,0 +1,39 @@
+//! Laws of what commands say of one job. Each is the contract of a function that does nothing.
+
+ghost use Rattle.std.specs.Prelude.{◌≡◌, ℕ, List};
+ghost use Rattle.net_check.specs.Network.{Entry, Network};
+ghost use Rattle.exact_records.specs.View.{record_trees};
+ghost use Rattle.record_lines.specs.declared.lines.RefutedSides.TheVariants.{Written};
+ghost use Rattle.record_checks.specs.Counts.{counts_of};
+ghost use Rattle.command_edge.specs.Puts.{Outcome, text};
+ghost use Rattle.command_edge.specs.declared.ending.Ending.{Ending as EndingOf};
+ghost use Rattle.command_edge.specs.declared.ending.Ending.TheVariants.{Done};
+ghost use Rattle.explore_command.specs.Explores.{IsReport};
+ghost use Rattle.explore_command.specs.Headline.{MayBeShown};
+ghost use Rattle.replay_command.specs.Counted.{confirmed_text};
+ghost use Rattle.replay_command.specs.Replays.{ReplayOf};
+ghost use Rattle.command_laws.specs.Following.{HitsAreFollowed, PathsAreFollowed};
+
+use explore_command::laws::reports_are_read_back;
+use path_replay::laws::one_answer_for_a_net;
+
+/// What `explore` wrote of a job with its refuted sides, whole or partial, `replay` of that job confirms: it comes to the counts
+/// of these records, and to nothing else.
+pub fn replays_confirm_what_explore_wrote()
+    ensures { (hops limit : ℕ) (net : Network) (i : Entry) (ending : EndingOf) (whole : List ℕ) (outcome : Outcome) → MayBeShown hops limit
+        → (report : IsReport hops limit Written net i ending whole) → ReplayOf net i whole outcome
+        → outcome ≡ text Done (confirmed_text (counts_of (record_trees report.records))) }
+{
+    reports_are_read_back();
+    one_answer_for_a_net();
+}
+
+/// What `walk` writes of the packet that a path carries has a walk along that path, with the same hops.
+pub fn walks_follow_paths()
+    ensures { (net : Network) (i : Entry) (hops : ℕ) → PathsAreFollowed net i hops }
+{}
+
+/// What `walk` writes of the packet that answers a question of `ask` has a walk along the path that showed the answer.
+pub fn walks_follow_hits()
+    ensures { (net : Network) (i : Entry) (hops : ℕ) → HitsAreFollowed net i hops }
+{}

@@ -1,0 +1,4 @@
+//! Laws: where an exploration cut no path, its records and its answers hold for every larger bound of hops.
+#![tactic(auto)]
+
+pub mod laws;
