@@ -61,6 +61,52 @@ fn is_done(ending: Ending) -> bool
     }
 }
 
+/// Puts the records as they are found, by these pieces.
+fn explore_records<N: OfNet, M: Mark, K: Sink, L: Ledger>(
+    alloc: Global,
+    job: &Accepted,
+    hops: u32,
+    limit: u32,
+    sides: RefutedSides,
+    pieces: &mut Pieces<'_, N>,
+    out: &mut K,
+    blank: Blank,
+) -> Result<Tail, Stop>
+    requires job { AreOfOneJob (network job.now.net) (entry job.now.injection) }
+    requires limit { 0 < limit }
+    requires net { network job.now.net ≡ N.net }
+    requires sides { sides ≡ M.sides }
+    requires known { (K.told out.old).taken ≡ M.known }
+    requires name { blank.name ≡ L.name }
+    requires parts { blank.parts ≡ L.parts }
+    requires some { 0 < blank.parts }
+    ensures out_kept { SinkKept (K.told out.old) (K.told out.new) }
+    ensures puts { PutsRecords hops limit sides (network job.now.net) (entry job.now.injection) M.known (K.told out.new).taken result }
+    ensures shows { IfErr result (StopShows (K.told out.old) (K.told out.new)) }
+{
+    exact_records_fit();
+    names_are_spelled(&job.net);
+    let mut steps = Steps::<L>::new(blank);
+    let mut lines: Lines<'_, '_, '_, N, M, K> = Lines {
+        pieces,
+        out,
+        sides,
+        some: false,
+        refuted: 0,
+        of: PhantomData,
+    };
+    let ended = explore_into(
+        alloc,
+        &job.net,
+        &job.injection,
+        hops,
+        limit,
+        &mut lines,
+        &mut steps,
+    );
+    tail_of(ended, lines.refuted)
+}
+
 /// Puts the records as they are found.
 fn put_records<N: OfNet, M: Mark, K: Sink, L: Ledger>(
     alloc: Global,
@@ -83,33 +129,8 @@ fn put_records<N: OfNet, M: Mark, K: Sink, L: Ledger>(
     ensures puts { PutsRecords hops limit sides (network job.now.net) (entry job.now.injection) M.known (K.told out.new).taken result }
     ensures shows { IfErr result (StopShows (K.told out.old) (K.told out.new)) }
 {
-    exact_records_fit();
-    names_are_spelled(&job.net);
-    let mut steps = Steps::<L>::new(blank);
-    let mut lines: Lines<'_, N, M, K> = Lines {
-        pieces: Pieces::new(alloc, &job.net),
-        out,
-        sides,
-        some: false,
-        refuted: 0,
-        of: PhantomData,
-    };
-    let ended = explore_into(
-        alloc,
-        &job.net,
-        &job.injection,
-        hops,
-        limit,
-        &mut lines,
-        &mut steps,
-    );
-    let Lines {
-        pieces,
-        refuted,
-        ..
-    } = lines;
-    drop(pieces);
-    tail_of(ended, refuted)
+    let mut pieces: Pieces<'_, N> = Pieces::new(alloc, &job.net);
+    explore_records::<N, M, K, L>(alloc, job, hops, limit, sides, &mut pieces, out, blank)
 }
 
 /// Puts the tail.

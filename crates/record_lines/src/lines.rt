@@ -43,8 +43,8 @@ impl Mark for Brand {
 /// Puts each record of a net that is written into a sink, behind a comma where another one was put before it. It keeps none of
 /// them.
 #[derive(Drop)]
-pub struct Lines<'a, N: OfNet, M: Mark, K: Sink> {
-    pub pieces: Pieces<'a, N>,
+pub struct Lines<'a, 'p, 'n, N: OfNet, M: Mark, K: Sink> {
+    pub pieces: &'p mut Pieces<'n, N>,
     pub out: &'a mut K,
     pub sides: RefutedSides,
     /// Whether a record was put.
@@ -137,7 +137,7 @@ fn last_task_of<N: OfNet>(
     task_of(pieces, sides, later, refuted, &item)
 }
 
-impl<N: OfNet, M: Mark, K: Sink> Receiver for Lines<'_, N, M, K> {
+impl<N: OfNet, M: Mark, K: Sink> Receiver for Lines<'_, '_, '_, N, M, K> {
     type Item = Record;
 
     ghost seen = { λ lines. record {
@@ -149,7 +149,7 @@ impl<N: OfNet, M: Mark, K: Sink> Receiver for Lines<'_, N, M, K> {
     } };
 
     fn take(&mut self, item: Record) -> Took {
-        match last_task_of(&mut self.pieces, self.sides, self.some, self.refuted, item) {
+        match last_task_of(self.pieces, self.sides, self.some, self.refuted, item) {
             Task::Write { refuted } => match put_piece(self.pieces.text(), self.out) {
                 Put::All => {
                     self.some = true;

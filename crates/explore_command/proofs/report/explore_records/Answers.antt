@@ -3,7 +3,7 @@ use Rattle.net_check.specs.Network.{entry, network}
 use Rattle.record_lines.specs.Lines.{HasLines, StopsInLine}
 use Rattle.explore_command.specs.Putting.{PutsRecords}
 use Rattle.explore_command.proofs.PutLemmas.{records_put}
-use Rattle.explore_command.proofs.report.put_records.Goals as goal
+use Rattle.explore_command.proofs.report.explore_records.Goals as goal
 
 -- what holds of the mark's net holds of that of the job
 pub returns-clause-puts : goal.returns-clause-puts
