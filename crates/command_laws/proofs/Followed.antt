@@ -1,5 +1,5 @@
 -- Walks along the records that show a packet.
-use Rattle.std.proofs.Common.{◌≡◌, ℕ, inl, inr, List, [], ◌∷◌, ◌++◌, map, refl, sym, ap, subst, ◌∙◌, Some, Result, Ok, Err, append_nil}
+use Rattle.std.proofs.Common.{◌≡◌, ℕ, inl, inr, List, [], ◌∷◌, ◌++◌, map, refl, sym, ap, subst, ◌∙◌, Some, Result, Ok, Err, append-nil}
 use Rattle.std.specs.List.{AllByRecursion}
 use Rattle.sn_width.specs.declared.faults.LayoutFault.{LayoutFault}
 use Rattle.net_check.specs.Network.{Network, Entry}
@@ -48,7 +48,7 @@ module _ (net : Network) (i : Entry) (hops most limit : ℕ) (rs : List RecordTr
       let all = written.1 in
       let same : s ≡ all.carried = ok_same s all.carried _ starts.carries all.starts.carries in
       let shows = exact.walks v w (s, starts, among) in
-      let begins : BeginsWith (decisions_of x) w.decisions = ([], append_nil (decisions_of x) ∙ sym is) in
+      let begins : BeginsWith (decisions_of x) w.decisions = ([], append-nil (decisions_of x) ∙ sym is) in
       record {
         walks = walks_from net i v hops all.carried;
         line = all.walks.1;
