@@ -1,5 +1,5 @@
 -- A report that was written is confirmed.
-use Rattle.std.proofs.Common.{◌≡◌, ℕ, inl, inr, List, [], ◌∷◌, map, refl, sym, ap, subst, ◌∙◌, Option, Some, None, Result, Ok, Err}
+use Rattle.std.proofs.Common.{◌≡◌, ℕ, inl, inr, List, [], ◌∷◌, map, refl, sym, ap, subst, ◌∙◌, Some, None, Result, Ok, Err}
 use Rattle.std.specs.List.{AllByRecursion}
 use Rattle.net_check.specs.Network.{Network, Entry}
 use Rattle.path_records.specs.declared.records.Record.{Record}
@@ -12,13 +12,12 @@ use Rattle.record_lines.specs.Lines.{refuted_count}
 use Rattle.record_lines.specs.declared.lines.RefutedSides.TheVariants.{Written}
 use Rattle.record_text.specs.declared.report.Report.{Report}
 use Rattle.report_forms.specs.Seen as seen
-use Rattle.path_report.specs.Reading.{ReadsReport, Shows}
+use Rattle.path_report.specs.Reading.{ReadsReport}
 use Rattle.path_report.specs.declared.report.ReportFault.{ReportFault}
 use Rattle.path_report.specs.declared.report.ReportFault.TheVariants.{NotJson, NotReport, NoMemory as NoReading}
 use Rattle.record_checks.specs.Counts.{counts_of}
 use Rattle.record_checks.specs.declared.counts.Confirmed.{Confirmed}
 use Rattle.record_checks.specs.declared.fault.ReplayFault.{ReplayFault}
-use Rattle.record_checks.specs.declared.fault.ReplayFault.TheVariants.{NotConfirmed as IsBroken, NoMemory as NoReplay}
 use Rattle.path_replay.specs.Replaying.{ConfirmsFor, IsConfirmedBackFor}
 use Rattle.command_edge.specs.Puts.{Outcome, text, refused}
 use Rattle.command_edge.specs.declared.ending.Ending.{Ending}
@@ -27,7 +26,7 @@ use Rattle.command_edge.specs.declared.fault.OwnFault.TheVariants.{BadReport, No
 use Rattle.explore_command.specs.Explores.{IsReport, is_done}
 use Rattle.explore_command.specs.Headline.{IsReadBack}
 use Rattle.replay_command.specs.Counted.{confirmed_text}
-use Rattle.replay_command.specs.Replays.{IsBadReport, IsCountsText, IsFirstOther, OfReport, ReplayOf, report_kind}
+use Rattle.replay_command.specs.Replays.{IsCountsText, IsFirstOther, OfReport, ReplayOf, report_kind}
 
 -- ---- records by what is seen of them
 

@@ -3,13 +3,12 @@ use Rattle.std.proofs.Common.{◌≡◌, ℕ, inl, inr, List, [], ◌∷◌, ◌
 use Rattle.std.specs.List.{AllByRecursion}
 use Rattle.sn_width.specs.declared.faults.LayoutFault.{LayoutFault}
 use Rattle.net_check.specs.Network.{Network, Entry}
-use Rattle.sefl_meaning.specs.declared.walk.Decision.{Decision}
 use Rattle.sefl_meaning.specs.Carried.{Carried}
-use Rattle.sefl_meaning.specs.Injected.{Starts, walks_from}
+use Rattle.sefl_meaning.specs.Injected.{walks_from}
 use Rattle.sefl_meaning.specs.Order.{BeginsWith, Has}
-use Rattle.sefl_meaning.specs.Walks.{Passage, Trail, shown}
+use Rattle.sefl_meaning.specs.Walks.{Passage, shown}
 use Rattle.refutation_check.specs.declared.outcome.Verdict.TheVariants.{Sat, Undecided}
-use Rattle.exact_records.specs.Packets.{AreExactFor, HasPacket, HasWalk, IsShown, Shows}
+use Rattle.exact_records.specs.Packets.{AreExactFor, HasPacket, HasWalk, Shows}
 use Rattle.exact_records.specs.Records.{RecordTree, decisions_of, path, pruned, unexplored}
 use Rattle.question_meaning.specs.Answers.{IsTrueHit}
 use Rattle.question_meaning.specs.Questions.{Question}

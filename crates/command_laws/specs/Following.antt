@@ -1,5 +1,5 @@
 -- What `walk` writes of packets that other commands show.
-use Rattle.std.specs.Prelude.{ℕ, ◌≡◌, List, Option, Some}
+use Rattle.std.specs.Prelude.{ℕ, ◌≡◌, List, Some}
 use Rattle.net_check.specs.Network.{Network, Entry}
 use Rattle.sefl_meaning.specs.Order.{Has}
 use Rattle.sefl_meaning.specs.Walks.{Trail}
