@@ -182,8 +182,8 @@ def little_stack(program, folder):
     return ends(0, b"", whole)(ran), ran
 
 
-# The least stack with which every read finds room for its buffer; less is to suffice when buffers stand on the heap.
-STACK = 128 << 10
+# A stack that serves every job whose code and conditions are nested little.
+STACK = 64 << 10
 
 JOB, LONG_REPORT = 67_108_864, 268_435_456
 
