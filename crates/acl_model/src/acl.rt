@@ -43,7 +43,7 @@ impl Acl {
     }
 
     /// A packet that the rule of this number decides, or a cover of it by earlier rules, which shows that it decides none. Nothing
-    /// is promised of which packet or cover it is, or of time.
+    /// is promised about the choice of the packet or cover, or about time.
     pub fn fate(&self, alloc: Global, rule: u32) -> Result<Fate, NoMemory>
         requires { rule < length self.now }
         ensures { IfOk result (λ fate. IsFate self.now rule (fate_seen fate)) }

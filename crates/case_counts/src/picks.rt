@@ -64,7 +64,7 @@ fn values_of_width(
     Ok(set)
 }
 
-/// The values of the symbol's width that meet the formulas of these picks, each of which is simple on the symbol.
+/// The values of the symbol's width that meet the formulas of these picks; each formula is simple on the symbol.
 pub fn values_meeting(
     alloc: Global,
     cond: &PathCond,

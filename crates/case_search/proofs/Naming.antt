@@ -75,7 +75,7 @@ first_by : (test : ℕ → Bool) (first : ℕ) (names : List ℕ) (b : Bool) →
 first_by test first names true is = (omega arith, refl)
 first_by test first names false is = absurd (cc)
 
--- the names of the unknowns from 0 to count that pass, of which 0 is one
+-- the names of the unknowns from 0 to count that pass; 0 is one of them
 pub record AreNames (count : ℕ) (test : ℕ → Bool) (names : List ℕ) : Type 0 where
   pub some : 0 < length names
   pub first : slice_index names 0 ≡ 0

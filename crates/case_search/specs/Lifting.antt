@@ -20,11 +20,11 @@ abbrev pub all_avoid : ℕ → ℕ → List Step → Bool
 all_avoid first limit [] = true
 all_avoid first limit (step ∷ steps) = if avoids first limit step then all_avoid first limit steps else false
 
--- the index of a bound, where so many from the first on are taken away
+-- the index of a bound, where this many from the first on are taken away
 abbrev pub lowered : ℕ → ℕ → ℕ → ℕ
 lowered first width i = if nat_lt i first then i else i - width
 
--- a step, with indices where so many bounds are taken away
+-- a step, with indices where this many bounds are taken away
 abbrev pub IsLowered : ℕ → ℕ → Step → Step → Type 0
 IsLowered first width (Split choice) (Split other) = choice ≡ other
 IsLowered first width (Split choice) (Cycle around) = ⊥

@@ -19,7 +19,7 @@ abbrev pub choice_passes : (ℕ → Bool) → List Case → Bool
 choice_passes test [] = true
 choice_passes test (case ∷ cases) = if case_passes test case then choice_passes test cases else false
 
--- the choices all of whose unknowns pass the test
+-- the choices whose unknowns all pass the test
 abbrev pub part_of : (ℕ → Bool) → List (List Case) → List (List Case)
 part_of test [] = []
 part_of test (cases ∷ choices) = if choice_passes test cases then cases ∷ part_of test choices else part_of test choices

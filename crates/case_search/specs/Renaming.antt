@@ -8,7 +8,7 @@ use Rattle.case_search.specs.Choices.{Case}
 abbrev pub one_name : (ℕ → Bool) → ℕ → List ℕ
 one_name test u = if test u then u ∷ [] else []
 
--- the numbers that pass, of so many from the first on
+-- the numbers that pass, among this many from the first on
 abbrev pub passing : (ℕ → Bool) → ℕ → ℕ → List ℕ
 passing test first zero = []
 passing test first (suc n) = if test first then first ∷ passing test (suc first) n else passing test (suc first) n
@@ -38,7 +38,7 @@ renamed_choices names choices = map (renamed_cases names) choices
 abbrev pub spread_at : (ℕ → Bool) → List ℕ → List ℤ → ℕ → ℤ
 spread_at test names v u = if test u then number v (place_of names u) else pos 0
 
--- the integers of unknowns from the first on, so many
+-- the integers of this many unknowns from the first on
 abbrev pub spread : (ℕ → Bool) → List ℕ → List ℤ → ℕ → ℕ → List ℤ
 spread test names v first zero = []
 spread test names v first (suc n) = spread_at test names v first ∷ spread test names v (suc first) n

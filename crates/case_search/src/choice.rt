@@ -2,7 +2,7 @@
 
 use difference_solver::Bound;
 
-/// Cases of which one is to hold: each is a list of bounds that are to be met together.
+/// Cases such that one is to hold: each is a list of bounds that are to be met together.
 #[derive(Drop)]
 pub struct Choice {
     pub cases: Vec<Vec<Bound>>,

@@ -84,7 +84,7 @@ fn lowered_step(alloc: Global, step: Step, first: usize, width: usize) -> Result
     }
 }
 
-/// The steps where so many bounds, from the first on, are taken away from those that are gathered.
+/// The steps where `width` bounds, from `first` on, are taken away from those that are gathered.
 pub(crate) fn lower(
     alloc: Global,
     mut steps: Vec<Step>,

@@ -48,7 +48,7 @@ fn is_one_met(values: &[i128], cases: &[Vec<Bound>]) -> bool
     false
 }
 
-/// The first choice none of whose cases the integers meet.
+/// The first choice without a case that the integers meet.
 pub(crate) fn first_broken(choices: &[Choice], values: &[i128]) -> Option<usize>
     ensures { MatchOption result (MeetsEach values.now (lists_of choices.now)) (λ choice. choice < length choices.now) }
 {

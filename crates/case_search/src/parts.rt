@@ -90,7 +90,7 @@ pub struct Part {
 }
 
 impl Part {
-    /// The choices all of whose unknowns have the label, by new numbers: the places of the unknowns among the names.
+    /// The choices whose unknowns all have the label, by new numbers: the places of the unknowns among the names.
     pub(crate) fn of(
         alloc: Global,
         choices: &[Choice],

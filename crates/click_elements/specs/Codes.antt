@@ -57,7 +57,7 @@ second_field FrameAddresses = FrameSource
 second_field Addresses = DestinationAddress
 second_field Ports = DestinationPort
 
--- the local by way of which the fields are exchanged
+-- the local through which the fields are exchanged
 abbrev pub between : Swap → Target
 between FrameAddresses = Meta Local (codes "m48") 48
 between Addresses = Meta Local (codes "m32") 32

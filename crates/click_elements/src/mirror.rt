@@ -54,7 +54,7 @@ fn local(alloc: Global, text: &str, bits: u8) -> Result<Target, NoMemory>
     })
 }
 
-/// The local by way of which the fields are exchanged.
+/// The local through which the fields are exchanged.
 fn between(alloc: Global, swap: Swap) -> Result<Target, NoMemory>
     ensures { IfOk result (λ target. target ≡ between swap) }
 {

@@ -26,13 +26,13 @@ closes Line c = false
 closes Block c = false
 closes Star c = false
 
--- how many bytes there are up to the end of a comment, behind so many of it; one that is not closed takes them all
+-- how many bytes there are up to the end of a comment, behind this many bytes of it; one that is not closed takes them all
 abbrev pub comment_end : Mode → ℕ → List ℕ → ℕ
 comment_end mode count [] = count
 comment_end mode count (c ∷ rest) =
     if is_plain (mode_behind mode c) then count + 1 else comment_end (mode_behind mode c) (count + 1) rest
 
--- how many bytes there are up to the parenthesis that closes arguments, behind so many of them
+-- how many bytes there are up to the parenthesis that closes arguments, behind this many bytes of them
 abbrev pub arguments_end : Mode → ℕ → List ℕ → Option ℕ
 arguments_end mode count [] = None
 arguments_end mode count (c ∷ rest) =

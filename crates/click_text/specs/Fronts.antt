@@ -8,7 +8,7 @@ use Rattle.click_text.specs.declared.token.TokenKind.TheVariants.{Name, Number, 
 use Rattle.click_text.specs.declared.front.Front.{Front}
 use Rattle.click_text.specs.Comments.{comment_end, arguments_end}
 
--- a blank or a comment, with so many bytes behind its first one
+-- a blank or a comment, with this many bytes behind its first one
 abbrev pub gap : ℕ → Front
 gap more = record { token = None; more = more }
 

@@ -19,7 +19,7 @@ abbrev pub with_token : Option TokenKind → ℕ → List ℕ → List TokenSeen
 with_token None line word tokens = tokens
 with_token (Some kind) line word tokens = record { kind = kind; line = line; word = word } ∷ tokens
 
--- of so many bytes at most, which begin in the line; the last token is the end of the text
+-- the tokens of at most this many bytes, which begin in the line; the last token is the end of the text
 abbrev pub tokens_in : ℕ → ℕ → List ℕ → List TokenSeen
 tokens_in zero line bytes = record { kind = End; line = line; word = [] } ∷ []
 tokens_in (suc n) line [] = record { kind = End; line = line; word = [] } ∷ []

@@ -30,7 +30,7 @@ abbrev pub asking_of : Question → Asking
 asking_of (If turns site first other) = at_if
 asking_of (Constrain site) = at_constrain
 
--- what is carried, behind these choices and so many instructions
+-- what is carried, behind these choices and this many instructions
 abbrev pub progress_at : {V : Type 0} → Carried V → List ℕ → ℕ → Progress V
 progress_at s choices begun = record { state = s; choices = choices; begun = begun }
 
@@ -43,7 +43,7 @@ abbrev pub Part : Type 0 → Type 0 → Type 0
 Part V F = Progress V → Course V F
 
 module _ {V F : Type 0} (o : Values V F) (net : Network) (node : NodeId) where
-  -- code in these turns, the first instruction of which has the site
+  -- code in these turns; its first instruction has the site
   abbrev pub of_code : List Turn → ℕ → CodeTree → Part V F
   of_code turns site code p = course_code o (scene_in net node turns) site code p
 
@@ -89,11 +89,11 @@ abbrev pub WaitsFor : {T : Type 0} → (T → Type 0) → Move T → Type 0
 WaitsFor Fit (Ended exit) = Unit {0}
 WaitsFor Fit (Asked question test) = Fit test
 
--- from what is carried on, where so many instructions have begun
+-- from what is carried on, where this many instructions have begun
 abbrev pub from : {V F : Type 0} → Part V F → Carried V → List ℕ → ℕ → Course V F
 from part s choices begun = part (progress_at s choices begun)
 
--- The counter has risen, and whatever had begun before, the course of the whole is that of what is left, with so many more.
+-- The counter has risen, and whatever had begun before, the course of the whole is that of what is left, with as many more as it rose.
 pub record GoesOn {C : Type 0} (old new : ℕ) (whole left : ℕ → C) : Type 0 where
   pub taken : ℕ
   pub counted : new ≡ old + taken

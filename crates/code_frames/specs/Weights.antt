@@ -10,7 +10,7 @@ use Rattle.code_frames.specs.declared.frame.Question.TheVariants.{If, Constrain}
 use Rattle.code_frames.specs.declared.frame.Move.{Move}
 use Rattle.code_frames.specs.declared.frame.Move.TheVariants.{Ended, Asked}
 
--- of so many turns, where the body has this weight
+-- of this many turns, where the body has this weight
 abbrev pub turns_weight : ℕ → ℕ → ℕ
 turns_weight turns body = 1 + turns * (1 + body)
 

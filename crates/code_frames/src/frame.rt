@@ -13,7 +13,7 @@ use std::alloc::Global;
 /// Code that is still to run, in the turns of the Fors round it.
 #[derive(Drop)]
 pub enum Frame<'a> {
-    /// Instructions, the first of which has the site.
+    /// Instructions; the first one has the site.
     Code {
         turns: Shared<Turn>,
         site: u32,

@@ -33,7 +33,7 @@ record Bare : Type 0 where
 abbrev bare : Ran → Bare
 bare r = record { decisions = r.decisions; state = r.progress.state; choices = r.progress.choices; exit = r.exit }
 
--- with so many instructions
+-- with this many instructions
 abbrev counted : Bare → ℕ → Ran
 counted x begun = record { decisions = x.decisions; progress = progress_at x.state x.choices begun; exit = x.exit }
 

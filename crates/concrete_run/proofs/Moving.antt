@@ -171,7 +171,7 @@ module _ (net : Network) where
       ∙ ap suc (crossed_steps net g hops link exit p)
       ∙ ap (λ (x : Ran). suc (steps_crossed net g.0 g.1 (onward_steps net g hops) link x.exit x.progress)) runs.1
 
-  -- over a port, with so many hops left behind its code
+  -- over a port, with this many hops left behind its code
   pub went : (side : Side) (hops rest : ℕ) (ps qs : List Place) (old new : Packet) (node : NodeId) (port : ℕ) (exit : Exit)
       → AreLeft side hops (Some rest) → qs ≡ ps ++ place_at node side port ∷ [] → given_of new ≡ given_of old
       → Runs old new node side port exit

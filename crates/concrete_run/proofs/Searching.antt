@@ -36,7 +36,7 @@ led_begins ds ps (u ∷ us) t (inl e) = (u.decisions, ap (λ (x : Trail). x.deci
 led_begins ds ps (u ∷ us) t (inr h) = led_begins ds ps us t h
 
 module _ (net : Network) (ds : List Decision) where
-  -- without a packet of which no walk has the decisions
+  -- without a packet that has no walk with the decisions
   pub sought_less : (p : Pending) (work : List Pending) (all : List Trail)
       → ((t : Trail) → Has (walks_of net p) t → t.decisions ≡ ds → ⊥) → Sought net ds (p ∷ work) all → Sought net ds work all
   sought_less p work all none before = record {

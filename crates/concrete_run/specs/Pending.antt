@@ -90,7 +90,7 @@ module _ (net : Network) (v : List ℕ) (unknowns : ℕ) where
   steps_passed onward node (forked ports) p = steps_copied onward node ports p
   steps_passed onward node (failed failure site) p = 1
 
-  -- with so many hops left
+  -- with this many hops left
   abbrev pub steps_entered : ℕ → Steps
   steps_entered zero node port p = 2
   steps_entered (suc hops) node port p =
@@ -98,7 +98,7 @@ module _ (net : Network) (v : List ℕ) (unknowns : ℕ) where
       suc (steps_passed (steps_entered hops) node r.exit r.progress)
 
 module _ (net : Network) where
-  -- with so many hops left
+  -- with this many hops left
   abbrev pub walks_at : Given → Stage → ℕ → Progress ℕ → List Passage
   walks_at g (Arriving node port) hops p = enter net g.0 g.1 hops node port p
   walks_at g (Leaving node port) hops p = leave net g.0 g.1 (enter net g.0 g.1 hops) node port p

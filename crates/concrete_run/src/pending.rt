@@ -32,7 +32,7 @@ pub(crate) enum Stage<'a> {
         node: NodeId,
         port: u32,
     },
-    /// Before a copy for each of these output ports, of which the first has the number.
+    /// Before a copy for each of these output ports; the first has the number.
     Copying {
         node: NodeId,
         number: u32,

@@ -51,7 +51,7 @@ impl<T: Drop> From<AllocFailed<T>> for WalkFault {
     }
 }
 
-/// All walks of a packet, ascending by decisions, with so many hops; or that there are more than the limit.
+/// All walks of a packet, ascending by decisions, with `hops` hops; or that there are more than the limit.
 pub fn walk_all(
     alloc: Global,
     net: &Net,

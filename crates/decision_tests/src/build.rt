@@ -30,7 +30,7 @@ pub(crate) enum Atom {
     Compare(Side, Rel, Side),
 }
 
-/// The width of so many bits.
+/// The width of `count` bits.
 pub(crate) fn bits(count: u8) -> Width
     requires least { 1 ≤ count }
     requires most { count ≤ 128 }
@@ -95,7 +95,7 @@ pub(crate) fn formula(rt: &impl Abort, alloc: Global, width: Width, atom: Atom) 
     }
 }
 
-/// Whether each symbol of the term, of which there are at most two, is one of the condition's, of the term's width.
+/// Whether each symbol of the term, which has at most two, is one of the condition's, of the term's width.
 fn is_term_of(cond: &PathCond, term: &Term) -> bool
     ensures { IsTrue result → TermIsTyped cond.now.widths term.now }
 {
@@ -196,13 +196,13 @@ pub(crate) fn with(
     next
 }
 
-/// So many symbols of this width.
+/// `symbols` symbols of this width.
 pub(crate) fn free(rt: &impl Abort, alloc: Global, width: Width, symbols: usize) -> PathCond {
     let widths = vec![in alloc; width; symbols].expect(rt, "memory");
     PathCond::new(alloc, widths).expect(rt, "memory")
 }
 
-/// So many symbols of this width, and the atoms.
+/// `symbols` symbols of this width, and the atoms.
 pub(crate) fn condition(
     rt: &impl Abort,
     alloc: Global,

@@ -29,7 +29,7 @@ fn in_two_ranges(id: u64) -> Atom {
     Compare(Symbol(id), Rel::Ne, Number(5))
 }
 
-/// With two formulas on the symbol, of which one couples it with symbol 999.
+/// With two formulas on the symbol; one couples it with symbol 999.
 fn with_two(rt: &impl Abort, alloc: Global, cond: PathCond, id: u64) -> PathCond {
     let less = Compare(Symbol(id), Rel::Lt, Symbol(999));
     let next = with(rt, alloc, cond, bits(8), less, true);

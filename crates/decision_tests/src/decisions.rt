@@ -27,9 +27,9 @@ pub(crate) enum Wanted<'a> {
     Refuted,
     /// Left undecided by the formula of the pick, at these values.
     Outside(u32, &'a [Num]),
-    /// Left undecided by so many coupled symbols.
+    /// Left undecided by this many coupled symbols.
     Coupled(u64),
-    /// Left undecided by so many choices.
+    /// Left undecided by this many choices.
     Cases(u64),
 }
 
@@ -255,7 +255,7 @@ fn with_next(rt: &impl Abort, alloc: Global, cond: PathCond, step: u64, symbols:
     with(rt, alloc, cond, bits(8), atom, true)
 }
 
-/// Twelve formulas that two of so many symbols of 8 bits are unequal, the first of them in a circle.
+/// Twelve formulas that two of `symbols` symbols of 8 bits are unequal, the first of them in a circle.
 fn circles(rt: &impl Abort, alloc: Global, symbols: u64) -> PathCond
     requires { 0 < symbols }
 {

@@ -103,7 +103,7 @@ fn is_wanted(verdict: &SimpleVerdict, wanted: &Wanted) -> bool {
     }
 }
 
-/// Atoms with the truths that they must have, over so many symbols; the decision, and the domains of the first symbols.
+/// Atoms with the truths that they must have, over `symbols` symbols; the decision, and the domains of the first symbols.
 struct Row {
     bits: u8,
     symbols: usize,

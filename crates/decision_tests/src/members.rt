@@ -102,7 +102,7 @@ fn push_step(rt: &impl Abort, steps: &mut Vec<Refute>, step: Refute) {
     steps.push(step).expect(rt, "memory");
 }
 
-/// So many splits of the first formula.
+/// `count` splits of the first formula.
 fn splits(rt: &impl Abort, alloc: Global, count: u32) -> Refutation {
     let mut steps = Vec::new(alloc);
     for _ in 0..count {
@@ -111,7 +111,7 @@ fn splits(rt: &impl Abort, alloc: Global, count: u32) -> Refutation {
     Listed::from_vec(steps)
 }
 
-/// So many times the ranges of the first symbol's domain.
+/// `count` times the ranges of the first symbol's domain.
 fn divisions(rt: &impl Abort, alloc: Global, count: u32) -> Refutation {
     let mut steps = Vec::new(alloc);
     for _ in 0..count {
@@ -126,7 +126,7 @@ fn condition_of(rt: &impl Abort, alloc: Global, parts: Vec<Formula>, holds: bool
     with_all(rt, alloc, cond, parts, holds)
 }
 
-/// Whether so many splits are accepted.
+/// Whether `count` splits are accepted.
 fn accepts_splits(rt: &impl Abort, alloc: Global, cond: &PathCond, count: u32) -> bool {
     let steps = splits(rt, alloc, count);
     is_accepted(rt, alloc, &steps, cond)
@@ -172,7 +172,7 @@ fn a_split_of_the_other_truth_is_refused(rt: HostRuntime) {
     check_splits(&rt, rt.alloc(), parts, false, &[(1, false)]);
 }
 
-/// A set of so many ranges of one number each.
+/// A set of `count` ranges of one number each.
 fn scattered(rt: &impl Abort, alloc: Global, count: u32) -> Ranges {
     let mut pairs = Vec::new(alloc);
     for place in 0..count {
@@ -196,7 +196,7 @@ fn in_many_ranges(rt: &impl Abort, alloc: Global) -> PathCond {
     with_all(rt, alloc, cond, parts, true)
 }
 
-/// Asserts that so many divisions are refused.
+/// Asserts that `count` divisions are refused.
 fn check_divisions(rt: &impl Abort, alloc: Global, cond: &PathCond, count: u32) {
     let steps = divisions(rt, alloc, count);
     assert!(rt; !is_accepted(rt, alloc, &steps, cond));

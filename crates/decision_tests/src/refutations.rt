@@ -245,7 +245,7 @@ fn with_atom(rt: &impl Abort, alloc: Global, cond: PathCond, atom: Atom) -> Path
     with(rt, alloc, cond, bits(32), atom, true)
 }
 
-/// So many times `s < d`.
+/// `count` times `s < d`.
 fn often_less(rt: &impl Abort, alloc: Global, count: u32) -> PathCond {
     let mut cond = free(rt, alloc, bits(32), 2);
     for _ in 0..count {
@@ -254,7 +254,7 @@ fn often_less(rt: &impl Abort, alloc: Global, count: u32) -> PathCond {
     cond
 }
 
-/// So many times `s < d`, then `d < s`.
+/// `count` times `s < d`, then `d < s`.
 fn long_circle(rt: &impl Abort, alloc: Global, count: u32) -> PathCond {
     let cond = often_less(rt, alloc, count);
     with_atom(rt, alloc, cond, GREATER)

@@ -7,7 +7,7 @@ use Rattle.difference_solver.specs.declared.table.Table.{Table}
 use Rattle.difference_solver.specs.declared.table.Kept.{Kept}
 use Rattle.difference_solver.proofs.Sums.{Derives, NoneBelow, fewer, through}
 
--- A set of numbers below a limit is a list of tests, of which the last is that of 0.
+-- A set of numbers below a limit is a list of tests; the last is that of 0.
 
 unfoldable pub size : List Bool → ℕ
 size [] = 0

@@ -27,7 +27,7 @@ pairs_total t [] = pos 0
 pairs_total t (p ∷ pairs) = kept_at_most (entry t p.plus p.minus) +ℤ pairs_total t pairs
 
 -- how many steps it takes at most to come from a sum through an unknown to bounds that were given,
--- where so many unknowns are above it
+-- where this many unknowns are above it
 unfoldable pub steps_of : ℕ → ℕ
 steps_of zero = 1
 steps_of (suc n) = 1 + (steps_of n + steps_of n)

@@ -51,7 +51,7 @@ fn check_bytes<F: Folder>(
     }
 }
 
-/// What a load answers, with so many bytes where all of them are the byte 7.
+/// What a load answers, with the number of bytes where all of them are the byte 7.
 #[derive(Clone, Copy, PartialEq, Eq)]
 enum Answer {
     Sevens(usize),
@@ -200,7 +200,7 @@ fn check_found(
     assert!(rt; found == want, "{pattern} in {name}");
 }
 
-/// Takes patterns of which two were refused: a call is proved only of those.
+/// Takes patterns such that two were refused: a call is proved only of those.
 fn refused_two(_patterns: &RegexPatterns)
     requires { _patterns.now ≡ 2 }
 {}

@@ -58,7 +58,7 @@ fn other_words_are_no_numbers(rt: HostRuntime) {
     }
 }
 
-/// The number 7 on so many lines.
+/// The number 7 on `count` lines.
 fn sevens(rt: &impl Abort, alloc: Global, count: u32) -> Vec<u8> {
     let mut bytes = Vec::new(alloc);
     for _ in 0..count {

@@ -32,7 +32,7 @@ pub fn same_text(rt: &impl Abort, found: &str, wanted: &str) {
     assert_eq!(rt; found, wanted);
 }
 
-/// Puts so many of these texts behind it.
+/// Puts the piece behind the text `count` times.
 pub fn put(rt: &impl Abort, text: &mut String, piece: &str, count: u32) {
     for _ in 0..count {
         text.push_str(piece).expect(rt, "memory");

@@ -77,7 +77,7 @@ const OUTER: &[&str] = &[
     "if global x:2 < 2 { } else { fail \"g\"; }",
 ];
 
-/// Links, of which each output has one or none.
+/// Links, with one or none for each output.
 const LINKS: &[&str] = &[
     "link a.0 -> b.0; link b.0 -> a.0;",
     "link a.0 -> b.0; link a.1 -> b.0; link b.1 -> a.0;",
@@ -94,7 +94,7 @@ const INJECTED: &[&str] = &[
     "field global z:2 = 3; where global x:2 > 1; where global x:2 < global y:2 or global x:2 == 2;",
 ];
 
-/// So many picked statements; the number behind the last that was used.
+/// `count` picked statements; the number behind the last that was used.
 fn put_picked(rt: &impl Abort, text: &mut String, texts: &[&str], count: u32, number: u64) -> u64 {
     let mut number = number;
     for _ in 0..count {

@@ -29,7 +29,7 @@ pub fn led(rt: &impl Abort, alloc: Global, job: &Accepted, hops: u32, decisions:
 /// What comes next, and its number: the site of a failure, how many copies there are, or the first decision that is not offered.
 type Coming = (&'static str, u64);
 
-/// A job, run with so many hops, and where decisions lead: so many formulas are met, and this comes next.
+/// A job, the number of hops it is run with, and where decisions lead: how many formulas are met, and what comes next.
 type Row = (&'static str, u32, &'static [Decision], u64, Coming);
 
 const ROWS: &[Row] = &[

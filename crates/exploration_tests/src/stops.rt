@@ -167,7 +167,7 @@ fn a_receiver_stops_an_exploration(rt: HostRuntime) {
     }
 }
 
-/// A job with so many instructions that do nothing, and then as many copies as the product of both numbers.
+/// A job with `count` instructions that do nothing, and then as many copies as the product of `first` and `second`.
 fn wide_job(rt: &impl Abort, alloc: Global, count: u32, first: u32, second: u32) -> String {
     let mut text = String::new(alloc);
     put(rt, &mut text, "symnet 2; node a 1 -> 1 { in 0 { ", 1);

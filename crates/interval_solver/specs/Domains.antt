@@ -9,7 +9,7 @@ use Rattle.path_cond.specs.Conditions.{Condition, Entry, is_possible}
 abbrev pub IsDomainOf : Condition → SymId → RangeSet → Type 0
 IsDomainOf cond s set = IsSetOf (slice_index cond.widths s.0) (is_possible cond s) set
 
--- one set for each of the first symbols, so many, each the domain of its symbol
+-- one set for each of the first N symbols; each is the domain of its symbol
 pub record AreDomainsOfFirst (cond : Condition) (number : ℕ) (sets : List RangeSet) : Type 0 where
   pub count : length sets ≡ number
   pub domains : (s : SymId) (set : RangeSet) → slice_get sets s.0 ≡ Some set → IsDomainOf cond s set

@@ -14,7 +14,7 @@ pub record IsLeastPossible (cond : Condition) (s : SymId) (value : ℕ) : Type 0
   pub possible : is_possible cond s value ≡ true
   pub least : (other : ℕ) → is_possible cond s other ≡ true → value ≤ other
 
--- one number for each of the first symbols, so many, each the least possible value of its symbol
+-- one number for each of the first N symbols; each is the least possible value of its symbol
 pub record AreLeastOfFirst (cond : Condition) (count : ℕ) (values : List ℕ) : Type 0 where
   pub count_is : length values ≡ count
   pub each : (s : SymId) → s.0 < count → IsLeastPossible cond s (slice_index values s.0)
@@ -58,7 +58,7 @@ is_empty_verdict (Values values) = false
 is_empty_verdict (False pick) = false
 is_empty_verdict (Empty s picks) = true
 
--- the kind is constant, or simple on one of so many symbols
+-- the kind is constant, or simple on one of the first N symbols
 abbrev pub is_settled : ℕ → Kind → Bool
 is_settled count (Constant truth) = true
 is_settled count (Simple s) = nat_lt s.0 count

@@ -39,7 +39,7 @@ next_is seed (suc j) some =
     let e : j ≡ suc j - 1 = omega arith in
     span_next seed j ∙ ap (λ m. part (suc j) (split_of seed (m / 2))) e
 
--- so many splits
+-- the first N splits
 abbrev pub AreFirst : ℕ → ℕ → List Split → Type 0
 AreFirst seed n splits = splits ≡ map (split_of seed) (numbers_from 0 n)
 

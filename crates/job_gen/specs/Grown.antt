@@ -59,12 +59,12 @@ box_name box = codes "n" ++ decimal box
 abbrev pub box_of : ℕ → ℕ → DeclTree
 box_of seed box = record { name = box_name box; body = code (router (split_of seed box).cut) }
 
--- so many numbers from this one on
+-- this many numbers from this one on
 abbrev pub numbers_from : ℕ → ℕ → List ℕ
 numbers_from first zero = []
 numbers_from first (suc n) = first ∷ numbers_from (suc first) n
 
--- a link to the box, where there is one of so many
+-- a link to the box, where it is one of this many
 abbrev pub link_to : ℕ → ℕ → ℕ → ℕ → List Link
 link_to boxes box port child =
     if nat_lt child boxes
@@ -87,7 +87,7 @@ injection = record {
   tests = [];
 }
 
--- the job of so many boxes
+-- the job of this many boxes
 abbrev pub grown : ℕ → ℕ → JobTree
 grown seed boxes = record {
   net = record {

@@ -7,7 +7,7 @@ use Rattle.job_gen.specs.declared.split.Split.{Split}
 abbrev pub next : ℕ → ℕ
 next x = (x * 6364136223846793005 + 1442695040888963407) % 2 ^ 64
 
--- the number of the sequence after so many steps
+-- the number of the sequence after this many steps
 abbrev pub state : ℕ → ℕ → ℕ
 state seed zero = seed
 state seed (suc n) = next (state seed n)

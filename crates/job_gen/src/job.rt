@@ -37,7 +37,7 @@ fn boxes_of(alloc: Global, seed: u64, boxes: u32) -> Result<Vec<NodeDecl>, NoMem
     Ok(decls)
 }
 
-/// Adds a link to the box, where there is one of so many.
+/// Adds a link to the box, where it is one of `boxes` boxes.
 fn add_link(
     links: &mut Vec<Link>,
     alloc: Global,
@@ -102,7 +102,7 @@ fn injection(alloc: Global) -> Result<RawInjection, NoMemory>
     })
 }
 
-/// The job of so many boxes that grows from the seed, as a tree: box i is linked to the boxes 2i + 1 and 2i + 2, and cuts the
+/// The job of `boxes` boxes that grows from the seed, as a tree: box i is linked to the boxes 2i + 1 and 2i + 2, and cuts the
 /// addresses that come to it in two, at a place that the seed draws. Each box counts the packet's time to live down, and fails
 /// where it is at most 1.
 pub fn grow(alloc: Global, seed: u64, boxes: u32) -> Result<Job, NoMemory>

@@ -79,7 +79,7 @@ fn next_span(splits: &[Split], seed: u64) -> Span
     part(number, &splits[((number - 1) / 2) as usize])
 }
 
-/// The splits of so many boxes.
+/// The splits of `boxes` boxes.
 pub(crate) fn splits(alloc: Global, seed: u64, boxes: u32) -> Result<Vec<Split>, NoMemory>
     ensures { IfOk result (λ splits. splits.items ≡ map (split_of seed) (numbers_from 0 boxes)) }
 {

@@ -71,7 +71,7 @@ fn check_net(rt: &impl Abort, alloc: Global, net: &Net) {
     check_site(rt, net, Side::Outward, None);
 }
 
-/// Whether the packet comes in at the node's port 0, with so many fields, some of them unknown.
+/// Whether the packet comes in at the node's port 0, with `fields` fields, some of them unknown.
 fn has_fields(injection: &Injection, node: NodeId, fields: usize, unknowns: usize) -> bool {
     injection.place() == (node, 0)
         && injection.unknowns() == unknowns

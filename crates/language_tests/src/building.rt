@@ -97,7 +97,7 @@ fn jobs_are_made_of_their_texts(rt: HostRuntime) {
     }
 }
 
-/// A job with a test within so many parentheses.
+/// A job with a test within `count` parentheses.
 fn nested(rt: &impl Abort, alloc: Global, count: u32) -> String {
     let (open, close) = (
         repeated(rt, alloc, "(", count),

@@ -61,7 +61,7 @@ fn the_first_token_of_no_job_is_found(rt: HostRuntime) {
     }
 }
 
-/// A job with a test within so many constructs.
+/// A job with a test within `count` constructs.
 fn nested(rt: &impl Abort, alloc: Global, open: &str, close: &str, count: u32) -> String {
     let (open, close) = (
         repeated(rt, alloc, open, count),

@@ -11,7 +11,7 @@ pub(crate) fn check(rt: &impl Abort, holds: bool, case: &str) {
     assert!(rt; holds, "{case}");
 }
 
-/// Asserts that there are so many.
+/// Asserts that as many are found as are wanted.
 pub(crate) fn same_count(rt: &impl Abort, found: u64, wanted: u64) {
     assert_eq!(rt; found, wanted);
 }
@@ -36,7 +36,7 @@ pub(crate) fn joined(rt: &impl Abort, alloc: Global, pieces: &[&str]) -> String 
     text
 }
 
-/// The text so many times.
+/// The text `count` times.
 pub(crate) fn repeated(rt: &impl Abort, alloc: Global, text: &str, count: u32) -> String {
     let mut all = String::new(alloc);
     for _ in 0..count {
@@ -108,7 +108,7 @@ fn found_rows(
     rows
 }
 
-/// Patterns of which each finds the name beside it, and these are bad.
+/// Patterns such that each finds the name beside it, and these are bad.
 pub(crate) fn patterns_of(
     rt: &impl Abort,
     alloc: Global,

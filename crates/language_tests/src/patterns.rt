@@ -23,7 +23,7 @@ fn names_with(rt: &impl Abort, alloc: Global, fields: &str) -> JobNames {
     names
 }
 
-/// Patterns of which `^y` finds y, `.` finds both names, and these are bad.
+/// Patterns such that `^y` finds y, `.` finds both names, and these are bad.
 fn table(rt: &impl Abort, alloc: Global, bad: &[&str]) -> MemPatterns {
     patterns_of(rt, alloc, &[("^y", "y"), (".", "x"), (".", "y")], bad)
 }

@@ -27,7 +27,7 @@ fn width_of(rt: &impl Abort, bits: u8) -> Width {
     Width::new(bits).expect(rt, "a width has 1 to 128 bits")
 }
 
-/// The ranges of a membership of so many bits.
+/// The ranges of a membership of `bits` bits.
 fn list_of(rt: &impl Abort, alloc: Global, bits: u8, listed: &[(Num, Num)]) -> RangeList {
     let listed = Vec::from_slice(alloc, listed).expect(rt, "memory");
     RangeList::new(alloc, width_of(rt, bits), listed).expect(rt, "memory")
@@ -54,7 +54,7 @@ const AT_16_BITS: &[(Num, Num)] = &[(3, 7), (40, 60), (100, 103), (200, 300), (6
 
 const AT_64_BITS: &[(Num, Num)] = &[(3, 7), (40, 60), (100, 103), (200, 300), (65_000, 70_000)];
 
-/// The sets of lists of so many bits.
+/// The sets of lists of `bits` bits.
 fn assert_sets(rt: &impl Abort, alloc: Global, bits: u8) {
     let long = list_of(rt, alloc, bits, LONG);
     assert_set(rt, alloc, &long, 8, AT_8_BITS);
@@ -121,7 +121,7 @@ fn numbers_lie_in_a_listed_range(rt: HostRuntime) {
     }
 }
 
-/// So many ranges, the last one first.
+/// `count` ranges, the last one first.
 fn many(rt: &impl Abort, alloc: Global, count: u32) -> RangeList {
     let mut listed = Vec::new(alloc);
     for index in 0..count {
@@ -131,7 +131,7 @@ fn many(rt: &impl Abort, alloc: Global, count: u32) -> RangeList {
     RangeList::new(alloc, width_of(rt, 32), listed).expect(rt, "memory")
 }
 
-/// The set has so many ranges.
+/// The set has `wanted` ranges.
 fn assert_length(rt: &impl Abort, alloc: Global, ranges: &RangeList, width: Width, wanted: u64) {
     let set = ranges.set(alloc, width).expect(rt, "memory");
     same_count(rt, set.len() as u64, wanted);

@@ -83,7 +83,7 @@ fn other_faults_are_told(rt: HostRuntime) {
     check_fault(&rt, rt.alloc(), b"\xff", not_text);
 }
 
-/// A job whose code has so many nested blocks, each opened on a line of its own.
+/// A job whose code has `depth` nested blocks, each opened on a line of its own.
 fn nested(rt: &impl Abort, alloc: Global, depth: u32) -> String {
     let (open, close) = (
         repeated(rt, alloc, "{\n", depth),

@@ -14,7 +14,7 @@ use std::process::Abort;
 type Row = (u32, Side, u32, Option<(u32, usize)>);
 
 /// A node whose codes are items 1 to 16: the first has items 2 to 7, with blocks in blocks, and the
-/// third items 10 to 14; two tables, one of which has the name of the first node, and a node with
+/// third items 10 to 14; two tables, one with the name of the first node, and a node with
 /// codes of one instruction and of none.
 const NODES: &str = "node a 2 -> 2 { \
     in 0 { noop; { noop; { fail \"dead\"; } } noop; } \

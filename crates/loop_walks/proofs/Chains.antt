@@ -26,7 +26,7 @@ is_inward : (place : Place) (node : NodeId) (port : ℕ) → place.side ≡ Inwa
 is_inward place node port inward e = let bad : Outward ≡ Inward = ap (λ (p : Place). p.side) e ∙ inward in cc
 
 module _ (net : Network) (v : List ℕ) (unknowns : ℕ) where
-  -- some passage with so many hops is cut
+  -- some passage with this many hops is cut
   pub record IsCut (hops : ℕ) (node : NodeId) (port : ℕ) (p : Progress ℕ) : Type 0 where
     pub passage : Passage
     pub is : Has (enter net v unknowns hops node port p) passage

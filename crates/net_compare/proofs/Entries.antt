@@ -1,4 +1,4 @@
--- The formulas of a condition, one after another, with all of which another is joined.
+-- The formulas of a condition, one after another; another condition is joined with all of them.
 use Rattle.std.proofs.Common.{◌≡◌, ◌∙◌, ℕ, zero, suc, ◌+◌, Bool, List, [], ◌∷◌, ◌++◌, arith, drop, map, sym, ap, subst, Some, slice_get}
 use Rattle.std.proofs.lemmas.List.{append_assoc, map-append}
 use Rattle.path_cond.specs.Conditions.{Condition}

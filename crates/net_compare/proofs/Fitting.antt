@@ -1,4 +1,4 @@
--- Paths of which no two clash fit together.
+-- Paths fit together where no two clash.
 use Rattle.std.proofs.Common.{◌≡◌, ◌<◌, inl, inr, ℕ, zero, suc, List, [], ◌∷◌, ◌++◌, arith, get_or, length, map, sym, subst}
 use Rattle.std.specs.List.{AllByRecursion}
 use Rattle.compare_meaning.specs.Clashes.{Agree, FitsAll, NoneClash}

@@ -12,7 +12,7 @@ use Rattle.net_compare.specs.declared.nets.CompareFault.TheVariants.{OtherInject
 use Rattle.net_compare.specs.declared.comparing.Compared.{Compared}
 use Rattle.net_compare.specs.Saying.{compared_seen}
 
--- a net with its injection and the records of an exploration with so many hops
+-- a net with its injection and the records of an exploration with this many hops
 abbrev pub half_of : ℕ → Network → Entry → List RecordTree → Half
 half_of hops net i rs = record { net = net; entry = i; start = explored net i hops; records = rs }
 

@@ -40,7 +40,7 @@ pub fn with_formula(
     Ok(Decidable { condition, domains })
 }
 
-/// With these formulas, each of which must be false.
+/// With these formulas, which must all be false.
 pub fn denied(alloc: Global, start: Decidable, formulas: &[Formula]) -> Result<Decidable, NoMemory>
     requires ready { IsReady start }
     requires typed { AllByRecursion (λ f. IsTyped start.condition.widths (view f)) formulas.now }

@@ -43,7 +43,7 @@ impl From<NoMemory> for CompareFault {
     }
 }
 
-/// Whether two nets deliver the same, from the records of one exploration of each with so many hops. The records are exact, and none
+/// Whether two nets deliver the same, from the records of one exploration of each with `hops` hops. The records are exact, and none
 /// is left out.
 pub fn compare(
     alloc: Global,

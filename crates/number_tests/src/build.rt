@@ -30,7 +30,7 @@ pub(crate) enum Atom {
 
 pub(crate) const RELS: [Rel; 6] = [Rel::Eq, Rel::Ne, Rel::Lt, Rel::Le, Rel::Gt, Rel::Ge];
 
-/// The width of so many bits.
+/// The width of `count` bits.
 pub(crate) fn bits(count: u8) -> Width
     requires least { 1 ≤ count }
     requires most { count ≤ 128 }

@@ -35,7 +35,7 @@ fn are_bounds(found: &[SymBound], plain: &[Plain]) -> bool {
     found.len() == plain.len()
 }
 
-/// Cases of which one is met where a formula has a truth.
+/// Cases such that one is met where a formula has a truth.
 type Cases = Vec<Vec<SymBound>>;
 
 fn are_cases(found: &Cases, plain: &[&[Plain]]) -> bool {
@@ -58,7 +58,7 @@ fn check_number(rt: &impl Abort, alloc: Global, formula: &Formula, holds: bool, 
     assert_eq!(rt; count, wanted);
 }
 
-/// The cases of a formula, of which the count says how many there are.
+/// The cases of a formula; the count says how many there are.
 fn found(rt: &impl Abort, alloc: Global, formula: &Formula, holds: bool) -> Cases {
     assert!(rt; can_split(formula));
     let found = cases(alloc, formula, holds).expect(rt, "memory");
@@ -186,7 +186,7 @@ fn push_differ(rt: &impl Abort, alloc: Global, parts: &mut Vec<Formula>) {
     push(rt, parts, formula(rt, alloc, bits(8), differ));
 }
 
-/// So many times that two symbols differ.
+/// That two symbols differ, `times` times.
 fn all_differ(rt: &impl Abort, alloc: Global, times: u32) -> Formula {
     let mut parts = Vec::new(alloc);
     for _ in 0..times {

@@ -149,7 +149,7 @@ fn choices_of(rt: &impl Abort, alloc: Global, all: &[Plain<'_>]) -> Vec<Choice> 
 /// Drops the choices, which is proved once here and not in each caller.
 fn let_go(_choices: Vec<Choice>) {}
 
-/// A step of a refutation: a split of a choice, or a cycle of so many bounds.
+/// A step of a refutation: a split of a choice, or a cycle of this many bounds.
 enum Seen {
     Split(u32),
     Cycle(usize),
@@ -171,7 +171,7 @@ fn are_seen(steps: &[Step], seen: &[Seen]) -> bool {
             .all(|(step, wanted)| is_seen(step, wanted))
 }
 
-/// Choices, and what is found: values or steps, the other of which is empty.
+/// Choices, and what is found: values or steps; the other list is empty.
 struct Row {
     choices: &'static [Plain<'static>],
     unknowns: u32,
@@ -303,7 +303,7 @@ fn choices_that_none_meets_are_refuted(rt: HostRuntime) {
     }
 }
 
-/// So many unknowns from 0 to `last`.
+/// A list of `count` unknowns from 0 to `last`.
 fn unknowns(rt: &impl Abort, alloc: Global, count: u32, last: i128) -> Vec<Choice>
     requires { count < 100 }
 {
@@ -325,7 +325,7 @@ fn push_differ(rt: &impl Abort, alloc: Global, choices: &mut Vec<Choice>, left: 
     push(rt, choices, choice_of(rt, alloc, OneOf(&rows)));
 }
 
-/// Ten unknowns from 0 to 9,999, and so many choices of which unknown is less than the next one.
+/// Ten unknowns from 0 to 9,999, and `choices` choices; each says which of an unknown and the next one is less.
 fn coupled(rt: &impl Abort, alloc: Global, choices: u32) -> Vec<Choice> {
     let mut all = unknowns(rt, alloc, 10, 9999);
     for step in 0..choices {
@@ -419,7 +419,7 @@ fn many_choices_of_one_case(rt: HostRuntime) {
     let_go(choices);
 }
 
-/// 64 unknowns from 0 to 9, of which each two in a row differ.
+/// 64 unknowns from 0 to 9, where each two in a row differ.
 fn pairs(rt: &impl Abort, alloc: Global) -> Vec<Choice> {
     let mut all = unknowns(rt, alloc, 64, 9);
     for pair in 0..32 {

@@ -133,7 +133,7 @@ fn closed_chain(rt: &impl Abort, alloc: Global) -> Vec<Bound> {
     bounds
 }
 
-/// Asserts that the cycle is one of so many bounds, and below zero.
+/// Asserts that the cycle is one of `length` bounds, and below zero.
 fn check_cycle(rt: &impl Abort, bounds: &[Bound], cycle: &[u32], length: usize) {
     assert_eq!(rt; cycle.len(), length);
     assert!(rt; is_negative_cycle(bounds, cycle));
@@ -190,7 +190,7 @@ impl Generator {
     }
 }
 
-/// A bound of so many unknowns, with a number from -2 to 2.
+/// A bound of `count` unknowns, with a number from -2 to 2.
 fn small_row(generator: &mut Generator, count: u32) -> Row
     requires { count < 4 }
 {
@@ -328,7 +328,7 @@ fn compare(rt: &impl Abort, alloc: Global, bounds: &[Bound], count: u32, tally: 
     compare_verdict(rt, bounds, count, &verdict, tally);
 }
 
-/// Compares the answer of the next system of so many unknowns.
+/// Compares the answer of the next system of `count` unknowns.
 fn compare_next(
     rt: &impl Abort,
     alloc: Global,

@@ -51,7 +51,7 @@ capped_product x n = cap_product (2 ^ 64 - 1) x n
 pub capped_product_right : (n x : ℕ) → capped (n * capped x) ≡ capped (n * x)
 capped_product_right n x = ap capped (mul_comm n (capped x)) ∙ capped_product x n ∙ ap capped (mul_comm x n)
 
--- a product, of which one factor more is known
+-- a product with one more factor known
 pub next_product : (count more a b next : ℕ) → more ≡ capped a → next ≡ capped (count * more) → capped (count * (a * b)) ≡ capped (next * b)
 next_product count more a b next is_more is_next =
     ap capped (sym (mul_assoc count a b)) ∙ sym (capped_product (count * a) b)

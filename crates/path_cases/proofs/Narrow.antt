@@ -29,7 +29,7 @@ atom_splits Outside left right h same = cc
 both_easy : (xs ys : List Atom) → list_any is_hard (xs ++ ys) ≡ false → (list_any is_hard xs ≡ false) × (list_any is_hard ys ≡ false)
 both_easy xs ys h = neither (list_any is_hard xs) (list_any is_hard ys) (sym (list_any-append is_hard xs ys) ∙ h)
 
--- a typed formula of which no atom is hard has cases
+-- a typed formula without a hard atom has cases
 mutual
   pub easy_splits : (widths : List ℕ) (f : FormulaTree) → list_any is_hard (atoms_of f) ≡ false → IsTyped widths f → CanSplit f
   easy_splits widths (always truth) h typed = tt

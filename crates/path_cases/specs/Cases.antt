@@ -79,7 +79,7 @@ abbrev mutual
   cases_of_all no_formulas holds = [] ∷ []
   cases_of_all (formula f fs) holds = joined (cases_of f holds) (cases_of_all fs holds)
 
-  -- the cases of formulas of which one is to have the truth, in their order
+  -- the cases of formulas where one is to have the truth, in their order
   pub cases_of_any : Formulas → Bool → List Case
   cases_of_any no_formulas holds = []
   cases_of_any (formula f fs) holds = cases_of f holds ++ cases_of_any fs holds

@@ -35,7 +35,7 @@ low_region symbol width constant = record {
   offset = pos constant;
 }
 
--- the other values, from the sum of which with the constant 2 to the width is taken
+-- the other values: 2 to the width is taken from their sum with the constant
 abbrev pub high_region : SymId → ℕ → ℕ → Option Region
 high_region symbol width constant =
     if constant == 0 then None

@@ -1,4 +1,4 @@
-//! The cases of a formula: lists of bounds between symbols, of which one holds exactly where the formula has
+//! The cases of a formula: lists of bounds between symbols, such that one holds exactly where the formula has
 //! its truth.
 #![tactic(auto)]
 

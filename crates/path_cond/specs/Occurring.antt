@@ -34,7 +34,7 @@ abbrev mutual
 abbrev pub symbol_at : ℕ → SymId
 symbol_at place = record { 0 = place }
 
--- the symbols that pass the test, among so many from a place on, ascending
+-- the symbols that pass the test, among this many from a place on, ascending
 abbrev pub symbols_from : (SymId → Bool) → ℕ → ℕ → List SymId
 symbols_from test place zero = []
 symbols_from test place (suc count) =

@@ -1,4 +1,4 @@
--- Path conditions over any formulas, each of which is seen as a tree.
+-- Path conditions over any formulas; each formula is seen as a tree.
 use Rattle.std.specs.Prelude.{ℕ, Bool, true, false, not, ◌&&◌, ◌==◌, List, [], ◌∷◌, map, Option, if◌then◌else◌, slice_index, suc}
 use Rattle.std.specs.List.{list_all, position_from}
 use Rattle.sn_width.specs.declared.ids.SymId.{SymId}

@@ -15,7 +15,7 @@ use sn_tree::Shared;
 use sn_width::NoMemory;
 use std::alloc::Global;
 
-/// What is kept of the formulas, each of which costs its own size once.
+/// What is kept of the formulas; each costs its own size once.
 #[derive(Drop)]
 pub(crate) struct Summary {
     /// The picks of the inside formulas, the newest first.

@@ -42,7 +42,7 @@ module _ {V F : Type 0} where
   begun_node (splits p branches) = refl
 
 module _ (s : SymStart) where
-  -- at the next node of a spot so many have begun as the tree says
+  -- at the next node of a spot as many have begun as the tree says
   pub begun_there : (a : Spot) → IsAt s a → begun_at s.tree a.decisions ≡ (progress_of (node_of a.tree)).begun
   begun_there a at =
       ap (begun_at s.tree) (sym (append_nil a.decisions))

@@ -14,7 +14,7 @@ use Rattle.path_exec.specs.Receiving.{Receiving}
 use Rattle.path_exec.specs.Keeping.{Runs}
 
 module _ {P O N D T : Type 0} (x : Views P O N D T) where
-  -- the receiver stands for exact records, of which none is left out
+  -- the receiver stands for exact records, and none is left out
   pub record EndsWhole (limit : ℕ) (m : Receiving T) (before after : ℕ) : Type 0 where
     pub items : List T
     pub stands : m.StandsFor items
@@ -22,7 +22,7 @@ module _ {P O N D T : Type 0} (x : Views P O N D T) where
     pub tried : AllByRecursion IsTried (map x.record_of items)
     pub spent : after ≤ before + work_of x.start (map x.record_of items)
 
-  -- it stands for exact records, of which some is left out
+  -- it stands for exact records, and at least one is left out
   pub record EndsPartial (limit : ℕ) (m : Receiving T) (before after : ℕ) : Type 0 where
     pub items : List T
     pub stands : m.StandsFor items
@@ -52,7 +52,7 @@ module _ {P O N D T : Type 0} (x : Views P O N D T) where
   Explored limit stops m before after (Ok Stopped) = EndsStopped stops m before after
   Explored limit stops m before after (Err e) = EndsEarly m
 
-  -- how its first step ends: so many records were handed over, or the receiver stopped
+  -- how its first step ends: this many records were handed over, or the receiver stopped
   abbrev pub BegunAs : {E : Type 0} → ℕ → ℕ → Receiving T → List (Work N D) → ℕ → ℕ → Result (Option ℕ) E → Type 0
   BegunAs limit stops m works before after (Ok (Some count)) =
       (count ≤ limit) × Runs x limit count m (all_tasks x works) before after × AreWorks x works

@@ -15,7 +15,7 @@ pub record Here : Type 0 where
   pub widths : List ℕ
   pub tree : ℕ → SymTree
 
--- the spot where so many have begun
+-- the spot where this many have begun
 abbrev pub spot_at : ℕ → Here → Spot
 spot_at begun h = record {
   decisions = h.decisions;

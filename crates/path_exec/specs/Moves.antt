@@ -33,7 +33,7 @@ pub record Reaches (s : SymStart) (a c : Spot) (carried : Carried LinearTerm) : 
   pub places : c.places ≡ a.places ++ port ∷ []
   pub widths : c.widths ≡ s.unknowns ++ progress.choices
 
--- no port was arrived at, and then so many instructions have begun
+-- no port was arrived at, and then `count` instructions have begun
 pub record StopsAt (s : SymStart) (count : ℕ) (a c : Spot) : Type 0 where
   pub goes : GoesOn a c
   pub tree : c.tree ≡ a.tree
@@ -41,7 +41,7 @@ pub record StopsAt (s : SymStart) (count : ℕ) (a c : Spot) : Type 0 where
   pub widths : c.widths ≡ s.unknowns ++ (progress_of c.tree).choices
   pub begun : (progress_of c.tree).begun ≡ count
 
--- it is at the next node, or over, and then so many instructions have begun
+-- it is at the next node, or over, and then `count` instructions have begun
 pub record ComesTo (s : SymStart) (count : ℕ) (a c : Spot) : Type 0 where
   pub arrives : Arrives s a c
   pub begun : (progress_of c.tree).begun ≡ count
@@ -53,7 +53,7 @@ module _ {P O N D T : Type 0} (x : Views P O N D T) where
   IsStop a count (AtNode node offer) =
       StopsAt x.start count a (spot_at count (x.node_at node)) × IsNode offer ((x.node_at node).tree count)
 
-  -- the run came so far, and then so many instructions have begun
+  -- the run came so far, and then this many instructions have begun
   abbrev pub IsMove : Spot → ℕ → Moved P O N → Type 0
   IsMove a count (Arrived place) = Reaches x.start a (spot_at count (x.place_at place)) (x.carried_at place)
   IsMove a count (Stopped next) = IsStop a count next

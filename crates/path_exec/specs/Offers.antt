@@ -27,7 +27,7 @@ pub record IsAsking (asking : Asking) (t : SymTree) : Type 0 where
   pub broken : SymTree
   pub is : t ≡ tests asking progress test held broken
 
--- it splits into so many copies
+-- it splits into `count` copies
 pub record IsSplit (count : ℕ) (t : SymTree) : Type 0 where
   pub progress : Progress LinearTerm
   pub branches : Copies LinearTerm FormulaTree
@@ -96,7 +96,7 @@ skip zero xs = xs
 skip (suc n) [] = []
 skip (suc n) (x ∷ xs) = skip n xs
 
--- a task for each decision of a node with this verdict, but for so many that were taken
+-- a task for each decision of a node with this verdict, except the first `taken`, which were taken
 abbrev pub tasks_left : Spot → Verdict → ℕ → List Task
 tasks_left b verdict taken = skip taken (tasks_by b.tree b verdict)
 

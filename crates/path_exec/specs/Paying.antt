@@ -26,7 +26,7 @@ module _ (s : SymStart) where
   PaidBy done [] raised = raised ≤ work_of s done
   PaidBy done (task ∷ tasks) raised = Paid (begun_at s.tree) done task.0.decisions (begun_before task) raised
 
-  -- the records and the tasks stand for the whole, and so many steps were taken for the records
+  -- the records and the tasks stand for the whole, and `raised` steps were taken for the records
   pub record Holds (limit : ℕ) (done : List RecordTree) (tasks : List Task) (raised : ℕ) : Type 0 where
     pub stands : Stands s limit done tasks
     pub paid : PaidBy done tasks raised

@@ -41,12 +41,12 @@ module _ {P : Type 0} (carried : P → Carried LinearTerm) (Stands : List Arriva
       IsVisit before arrival (λ rest. AreVisits (before ++ arrival ∷ []) arrivals rest) places
       ⊎ ((arrival.0 ≡ port → ⊥) × AreVisits (before ++ arrival ∷ []) arrivals places)
 
--- without the last of these decisions a run makes so many arrivals at most
+-- without the last of these decisions a run makes at most this many arrivals
 abbrev pub MakesAtMost : SymTree → ℕ → List Decision → Type 0
 MakesAtMost t count ds =
     (parent : List Decision) (last : Decision) (way : SymRoute) → ds ≡ parent ++ last ∷ [] → route t parent ≡ Some way → length way.arrivals ≤ count
 
--- the first of these decisions, on whose way this arrival comes behind those before it, and without the last of which it does
+-- the first of these decisions: on their way this arrival comes behind those before it, and without the last of them it does
 -- not come
 pub record LeadsFirst (t : SymTree) (ds : List Decision) (before : List Arrival) (arrival : Arrival) (first : List Decision) (way : SymRoute) : Type 0 where
   pub begins : BeginsWith first ds

@@ -101,7 +101,7 @@ pub(crate) fn put_back<N: Drop, D: Drop>(
     put(next, works)
 }
 
-/// Goes on from a place of whose condition this was found, behind these decisions: to the end of its path, or to the next node.
+/// Goes on from a place, with what was found of its condition, behind these decisions: to the end of its path, or to the next node.
 pub(crate) fn go_on<E: Engine, L: Ledger>(
     alloc: Global,
     engine: &E,

@@ -43,7 +43,7 @@ abbrev pub FoundOutput : Network → RawPlace → Option Place → Type 0
 FoundOutput net raw None = HasNoPlace net raw ⊎ (raw.side ≡ Inward)
 FoundOutput net raw (Some place) = IsPlaceOf net raw place × (raw.side ≡ Outward)
 
--- behind fields with so many unknown ones: the first field with the words of the target, or there is none
+-- behind fields with this many unknown ones: the first field with the words of the target, or there is none
 abbrev pub FoundField : ℕ → Target → List RawField → Option InjectedField → Type 0
 FoundField number target fs None = HasNoField target fs
 FoundField number target fs (Some field) = IsFieldFrom number target fs (field_seen field)

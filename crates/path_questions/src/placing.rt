@@ -64,7 +64,7 @@ fn output_of(net: &Net, raw: &RawPlace) -> Option<Place>
     }
 }
 
-/// The number of unknown fields behind a field, where there are so many before it; None where it is no number.
+/// The number of unknown fields behind a field, where there are `number` before it; None where it is no number.
 fn number_behind(number: u64, field: &RawField) -> Option<u64>
     ensures { IfSome result (λ next. next ≡ number + length (unknown_width field.now)) }
 {

@@ -2,7 +2,7 @@
 
 use net_check::{Injection, Net};
 
-/// The walks of the injected packets through a net, with so many hops.
+/// The walks of the injected packets through a net, with `hops` hops.
 #[derive(Clone, Copy)]
 pub struct Subject<'a> {
     pub net: &'a Net,

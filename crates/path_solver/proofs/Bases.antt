@@ -23,7 +23,7 @@ test_step p (x ∷ xs) (suc i) r lt h =
     let next : suc (i + 1) ≡ suc i + 1 = omega arith in
     test_step p xs i r (omega arith) h ∙ ap (λ k. r && list_all p (drop k (x ∷ xs))) next
 
--- so many zeros
+-- this many zeros
 abbrev pub nils : ℕ → List ℕ
 nils zero = []
 nils (suc n) = 0 ∷ nils n

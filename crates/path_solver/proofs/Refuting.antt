@@ -179,7 +179,7 @@ pub accepted : Facts → (cond : Condition) (steps : List Step) → AllTyped con
     → IsAccepted cond (map (refute_from (origins_of cond)) steps)
 accepted facts cond steps typed h = refutes_back facts cond ([] ∷ []) steps typed (tt, tt) h
 
--- each choice that is split is one of so many
+-- each choice that is split is one of the first `count`
 abbrev pub SplitsWithin : ℕ → List Step → Type 0
 SplitsWithin count [] = Unit {0}
 SplitsWithin count (SplitStep choice ∷ steps) = (choice < count) × SplitsWithin count steps

@@ -50,7 +50,7 @@ module _ {X : Type 0} (tree : X → FormulaTree) where
             ])
       ]
 
-  -- each of the first symbols, so many, has a possible value
+  -- each of the first `n` symbols has a possible value
   abbrev FirstArePossible : ConditionOf X → ℕ → Type 0
   FirstArePossible c n = (s : SymId) → s.0 < n → (v : ℕ) × (is_possible tree c s v ≡ true)
 

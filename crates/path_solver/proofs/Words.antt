@@ -23,7 +23,7 @@ first_cases a b rest h =
 cons_same : (x y : ℕ) (xs ys : List ℕ) → x ≡ y → xs ≡ ys → x ∷ xs ≡ y ∷ ys
 cons_same x y xs ys h g = cc
 
--- two lists of which each is at most the other are the same
+-- two lists are the same where each is at most the other
 pub at_most_both : (xs ys : List ℕ) → is_at_most xs ys ≡ true → is_at_most ys xs ≡ true → xs ≡ ys
 at_most_both [] [] h g = refl
 at_most_both [] (y ∷ ys) h g = absurd (cc)

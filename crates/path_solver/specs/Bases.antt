@@ -9,7 +9,7 @@ use Rattle.path_solver.specs.declared.base.Base.{Base}
 use Rattle.path_solver.specs.declared.decision.Decided.{Decided}
 use Rattle.path_solver.specs.declared.decision.Decided.TheVariants.{Sat, Unsat, Undecided}
 
--- the condition with its first symbols and its first formulas alone, so many of each
+-- the condition with its first symbols and its first formulas alone, this many of each
 abbrev pub front_of : ℕ → ℕ → Condition → Condition
 front_of symbols formulas cond = record { widths = take symbols cond.widths; entries = take formulas cond.entries }
 

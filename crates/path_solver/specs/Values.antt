@@ -1,4 +1,4 @@
--- Values of symbols, of which some are given by integers.
+-- Values of symbols; some are given by integers.
 use Rattle.std.specs.Prelude.{ℕ, ℤ, pos, negsuc, List, [], ◌∷◌, map, slice_set, slice_index}
 use Rattle.sn_width.specs.declared.ids.SymId.{SymId}
 

@@ -1,4 +1,4 @@
-//! Values of symbols, of which some are given by integers.
+//! Values of symbols; some are given by integers.
 
 ghost use Rattle.std.specs.Prelude.{◌≡◌, drop, slice_set};
 ghost use Rattle.path_solver.specs.Values.{value_of, with_integers};

@@ -8,7 +8,7 @@ use Rattle.sefl_meaning.specs.Network.{Network, link_of}
 use Rattle.sefl_meaning.specs.Runs.{Exit, Progress}
 use Rattle.sefl_meaning.specs.Walks.{Onward, Passage, crossed, decided, ended, enter, leave, passed, run_port}
 
--- of so many hops these are left behind the code of a port: one less at an input port, whose code does not run where there is none,
+-- of this many hops these are left behind the code of a port: one less at an input port, whose code does not run where there is none,
 -- and all at an output port
 abbrev pub AreLeft : Side → ℕ → Option ℕ → Type 0
 AreLeft Inward hops (Some left) = hops ≡ suc left
@@ -17,17 +17,17 @@ AreLeft Outward hops (Some left) = left ≡ hops
 AreLeft Outward hops None = ⊥
 
 module _ (net : Network) (v : List ℕ) (unknowns : ℕ) where
-  -- the walks from a port, with so many hops left; at an output port those behind its link
+  -- the walks from a port, with this many hops left; at an output port those behind its link
   abbrev pub from_port : Side → ℕ → Onward
   from_port Inward hops = enter net v unknowns hops
   from_port Outward hops = leave net v unknowns (enter net v unknowns hops)
 
-  -- behind the code of a port, with so many hops left
+  -- behind the code of a port, with this many hops left
   abbrev pub behind_code : Side → NodeId → ℕ → ℕ → Exit → Progress ℕ → List Passage
   behind_code Inward node port hops = passed net v unknowns (enter net v unknowns hops) node
   behind_code Outward node port hops = crossed net v unknowns (enter net v unknowns hops) (link_of net node port)
 
-  -- behind the arrival at a port: its code, and what is behind it with so many hops left; or the walk is cut
+  -- behind the arrival at a port: its code, and what is behind it with this many hops left; or the walk is cut
   abbrev pub behind_arrival : Side → NodeId → ℕ → Option ℕ → Progress ℕ → List Passage
   behind_arrival side node port None p = ended Cut p
   behind_arrival side node port (Some hops) p =

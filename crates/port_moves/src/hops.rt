@@ -9,7 +9,7 @@ ghost use Rattle.port_moves.specs.Hops.{AreLeft, behind_arrival, from_port};
 
 use sefl_syntax::Side;
 
-/// How many hops are left behind the code of a port that is arrived at with so many; None at an input port with no hop left, whose
+/// How many hops are left behind the code of a port that is arrived at with `hops`; None at an input port with no hop left, whose
 /// code does not run.
 #[tactic(auto, using(crate::proofs::Arriving::less_inward, crate::proofs::Arriving::goes_inward))]
 pub fn hops_behind(side: Side, hops: u32) -> Option<u32>

@@ -15,7 +15,7 @@ test_step p (x ∷ xs) (suc i) r lt h =
 up_to : (m n : ℕ) → m < n + 1 → (m < n) ⊎ (n ≡ m)
 up_to m n h = search arith
 
--- what holds of each of so many symbols, and of the next one
+-- what holds of each of the first `n` symbols, and of the next one
 pub next_symbol : (P : SymId → Type 0) (n : ℕ) → ((s : SymId) → s.0 < n → P s) → P record { 0 = n } → (s : SymId) → s.0 < n + 1 → P s
 next_symbol P n all here s lt =
     elim (up_to s.0 n lt) [

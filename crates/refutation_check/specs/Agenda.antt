@@ -23,6 +23,6 @@ pending agenda = starts agenda.gathered.items (reverse agenda.alternatives.items
 abbrev pub IsNested : Agenda → Type 0
 IsNested agenda = AreNested (length agenda.gathered.items) (reverse agenda.alternatives.items)
 
--- an alternative that keeps so many bounds
+-- an alternative that keeps this many bounds
 abbrev pub alternative_with : ℕ → Vec SymBound → Alternative
 alternative_with kept case = record { kept = kept; case = case }

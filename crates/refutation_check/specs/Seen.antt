@@ -18,7 +18,7 @@ use Rattle.refutation_check.specs.declared.outcome.Cause.TheVariants.{Outside as
 use Rattle.refutation_check.specs.declared.steps.Refute.{Refute}
 use Rattle.refutation_check.specs.declared.steps.Refute.TheVariants.{Empty, Domain, Split, Cycle}
 
--- more symbols than so many may not be coupled, and more choices of cases than so many are not tried
+-- more symbols than `most_coupled` may not be coupled, and more choices of cases than `most_choices` are not tried
 abbrev pub most_coupled : ℕ
 most_coupled = 64
 

@@ -12,7 +12,7 @@ use path_cond::PathCond;
 use sn_width::NoMemory;
 use std::alloc::Global;
 
-/// An alternative: the first of the gathered bounds, so many, and then these.
+/// An alternative: the first `kept` of the gathered bounds, and then these.
 #[derive(Drop)]
 pub(crate) struct Alternative {
     kept: usize,

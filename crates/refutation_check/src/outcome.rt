@@ -11,9 +11,9 @@ use std::alloc::Global;
 pub enum Cause {
     /// The least values that satisfy every formula that is not outside break the outside formula of this pick.
     Outside { pick: u32, values: Listed<Num> },
-    /// There are so many choices of cases, which is too many.
+    /// There are `count` choices of cases, which is too many.
     Cases { count: u64 },
-    /// So many symbols are coupled, which is too many.
+    /// There are `count` coupled symbols, which is too many.
     Coupled { count: u64 },
 }
 

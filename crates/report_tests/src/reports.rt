@@ -175,7 +175,7 @@ fn assert_no_json(rt: &impl Abort, alloc: Global, net: &Net, bytes: &[u8]) {
     assert_eq!(rt; found.as_str(), "no JSON");
 }
 
-/// So many of these texts, one after another.
+/// `count` of these texts, one after another.
 fn put_times(rt: &impl Abort, text: &mut String, piece: &str, count: u32) {
     for _ in 0..count {
         text.push_str(piece).expect(rt, "memory");

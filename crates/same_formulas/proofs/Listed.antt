@@ -1,4 +1,4 @@
--- Lists of which the rests are equal, and lists of formulas that are the same.
+-- Lists whose rests are equal, and lists of formulas that are the same.
 use Rattle.std.proofs.Common.{◌≡◌, ℕ, zero, suc, ◌+◌, List, [], ◌∷◌, arith, drop, length, refl, sym, subst, None, slice_get}
 use Rattle.path_formula.specs.View.{views}
 use Rattle.path_formula.specs.declared.formula.Formula.{Formula}

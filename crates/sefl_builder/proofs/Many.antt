@@ -56,7 +56,7 @@ pub many_stop : {A : Type 0} (goes : List Word → Bool) (item : Reader A) (n : 
     → goes ws ≡ false → added xs (many goes item n ws) ≡ Some (xs, ws)
 many_stop goes item n ws xs g = ap (added xs) (many_ends goes item n ws g) ∙ ap (λ l. Some (l, ws)) (append_nil xs)
 
--- so many were read
+-- as many were read as may be
 pub many_full : {A : Type 0} (goes : List Word → Bool) (item : Reader A) (ws : List Word) (xs : List A)
     → added xs (many goes item 0 ws) ≡ Some (xs, ws)
 many_full goes item ws xs = ap (λ l. Some (l, ws)) (append_nil xs)

@@ -102,7 +102,7 @@ neg_by opposite bracket room ws =
     else (if begins_with (codes "[") ws then bracket ws
     else truth ws))
 
--- where so many more constructs may be open
+-- where `room` more constructs may be open
 unfoldable pub neg : ℕ → Reader CondTree
 neg zero ws = neg_by nothing nothing zero ws
 neg (suc room) ws = neg_by (opposite_by (neg room)) (bracket_by (neg room)) (suc room) ws

@@ -145,7 +145,7 @@ instr_by v block' room ws =
 abbrev pub goes_instr : List Word → Bool
 goes_instr ws = not (begins_with (codes "}") ws)
 
--- a block, where so many more constructs may be open
+-- a block, where `room` more constructs may be open
 unfoldable pub blocks : Version → ℕ → Reader CodeTree
 blocks v zero ws = None
 blocks v (suc room) ws =

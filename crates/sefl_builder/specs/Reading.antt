@@ -65,7 +65,7 @@ abbrev pub Answers : {A B : Type 0} → (A → B) → Result A Misread → List 
 Answers view (Ok x) left found = found ≡ Some (view x, left)
 Answers view (Err fault) left found = Refuses fault found
 
--- Values one after another, as long as the test says that there is one more; so many of them at most.
+-- Values one after another, as long as the test says that there is one more; at most this many of them.
 abbrev pub many : {A : Type 0} → (List Word → Bool) → Reader A → ℕ → Reader (List A)
 many goes item zero ws = Some ([], ws)
 many goes item (suc most) ws =

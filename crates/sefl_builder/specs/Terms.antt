@@ -87,7 +87,7 @@ abbrev pub expr_by : Reader ExprTree → Reader ExprTree
 expr_by operand ws =
     then' (operand ws) (λ e ws. then' (all goes_sum (summand_by operand) ws) (λ ms ws. Some (sum_of e (summands_of ms), ws)))
 
--- an expression in parentheses, where so many more constructs may be open
+-- an expression in parentheses, where `room` more constructs may be open
 unfoldable pub group : ℕ → Reader ExprTree
 group zero ws = None
 group (suc room) ws =

@@ -16,7 +16,7 @@ use sefl_syntax::Instr;
 /// The most constructs that may be open at once.
 pub(crate) const MOST_OPEN: u32 = 64;
 
-/// Reads a block, where so many more constructs may be open.
+/// Reads a block, where `room` more constructs may be open.
 #[tactic(auto, using(crate::proofs::Rooms::blocks_within, crate::proofs::Rooms::blocks_full))]
 #[cycle(read_block)]
 pub(crate) fn read_block(

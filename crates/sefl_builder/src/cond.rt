@@ -152,7 +152,7 @@ fn not_of(alloc: Global, member: Cond) -> Result<Cond, AllocError>
     Ok(Cond::Not(member))
 }
 
-/// Reads a condition, where so many more constructs may be open.
+/// Reads a condition, where `room` more constructs may be open.
 #[tactic(auto, unfolding(crate::specs::Conditions::cond))]
 #[cycle(read_cond)]
 pub(crate) fn read_cond(words: &mut Cursor, room: u32) -> Result<Cond, Misread>

@@ -59,7 +59,7 @@ fn sum_of(alloc: Global, first: Expr, rest: Vec<(Sign, Expr)>) -> Result<Expr, A
     Ok(Expr::Sum { first, rest })
 }
 
-/// Reads an expression, where so many more constructs may be open.
+/// Reads an expression, where `room` more constructs may be open.
 #[tactic(auto, unfolding(crate::specs::Terms::expr))]
 #[cycle(read_expr)]
 pub(crate) fn read_expr(words: &mut Cursor, room: u32) -> Result<Expr, Misread>

@@ -111,7 +111,7 @@ pub record Found {V : Type 0} (p : V → Spelling) (depth : ℕ) (stack rest : L
   pub ends : Ends rest left
   pub shorter : length left ≤ length words
 
--- among so many words, the symbols stand for such a part
+-- among at most this many words, the symbols stand for such a part
 abbrev pub Finds : {V : Type 0} → ℕ → (V → Spelling) → (List Symbol → List Symbol) → Type 0
 Finds n p f = (depth : ℕ) (rest : List Symbol) (words : List Word) → length words ≤ n → open_count rest ≡ depth → Ends (f rest) words → Found p depth (f rest) rest words
 

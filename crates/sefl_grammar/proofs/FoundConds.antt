@@ -321,7 +321,7 @@ neg_by n neg cond depth rest words h o f (a_number k e) =
     found_atom n (Test ∷ rest) rest words depth (literal' (value_of f.word.text) (took (IsNumber (value_of f.word.text)) f (SumTail ∷ Relation ∷ []) (k, refl) (same_Some _ _ e))) h o
 neg_by n neg cond depth rest words h o f (a_text k e) = absurd (none-some _ e)
 
--- up to so many words
+-- up to this many words
 found_negs : (n m : ℕ) → m ≤ n → Finds m IsNeg (λ rest. Test ∷ rest)
 found_negs n zero less depth rest words h o ends = absurd (some_words (first Test rest words refl ends) h)
 found_negs zero (suc m) less depth rest words h o ends = absurd (omega (arith, less))

@@ -24,7 +24,7 @@ use Rattle.sefl_syntax.specs.declared.job.RawField.{RawField}
 use Rattle.sefl_syntax.specs.declared.job.RawPlace.{RawPlace}
 use Rattle.sefl_grammar.specs.Word.{Word, AreWords, Placed, bare}
 
--- With so many constructs open, the first words begin with a part of a job and go on with the second.
+-- With this many constructs open, the first words begin with a part of a job and go on with the second.
 abbrev pub Spelling : Type 1
 Spelling = ℕ → List Placed → List Placed → Type 0
 

@@ -207,7 +207,7 @@ pub by_test : (P : Front → Type 0) (b : Bool) (x y : Front) → (b ≡ true �
 by_test P true x y f g = f refl
 by_test P false x y f g = g refl
 
--- the longest front of letters and digits, of which the first is a digit, stands as a number if it is one
+-- the longest front of letters and digits, where the first is a digit, stands as a number if it is one
 pub number_taken : (bytes : List ℕ) → is_number (take (prefix_len is_name_byte bytes) bytes) ≡ true → IsToken Number (take (prefix_len is_name_byte bytes) bytes) (drop (prefix_len is_name_byte bytes) bytes)
 number_taken bytes number = (number, front_stops is_name_byte bytes)
 

@@ -97,7 +97,7 @@ fn begins_comment(bytes: &[u8]) -> bool
     matches!(bytes, [b'/', b'/', ..])
 }
 
-/// What stands at the front of the bytes, of which there is one at least.
+/// What stands at the front of the bytes; there is at least one byte.
 pub fn front_of(bytes: &[u8]) -> Front
     ensures { result ≡ front_of bytes.now }
 {

@@ -30,7 +30,7 @@ fields_of s = record {
   metas = map meta_of s.scopes;
 }
 
--- the injection's field of this target, behind fields with so many unknown values
+-- the injection's field of this target, behind fields with `number` unknown values
 pub record IsInjected (i : InjectionTree) (target : Target) (number : ℕ) (f : RawField) : Type 0 where
   pub before : List RawField
   pub after : List RawField

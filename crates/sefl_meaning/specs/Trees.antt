@@ -65,7 +65,7 @@ module _ {V F : Type 0} (o : Values V F) (net : Network) where
   passed onward node (forked ports) p = splits p (copies onward node ports p)
   passed onward node (failed failure site) p = over p (Failed failure (record { 0 = site }))
 
-  -- the tree from an input port, with so many hops left
+  -- the tree from an input port, with this many hops left
   abbrev pub enter : ℕ → Onward V F
   enter zero node port p = arrives (place_at node Inward port) p (over p Cut)
   enter (suc hops) node port p =

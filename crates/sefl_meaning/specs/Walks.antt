@@ -83,7 +83,7 @@ module _ (net : Network) (v : List ℕ) (unknowns : ℕ) where
   passed onward node (forked ports) p = copies onward node 0 ports p
   passed onward node (failed failure site) p = ended (Failed failure (record { 0 = site })) p
 
-  -- all walks from an input port, with so many hops left
+  -- all walks from an input port, with this many hops left
   abbrev pub enter : ℕ → Onward
   enter zero node port p = map (by_way_of (place_at node Inward port) p) (ended Cut p)
   enter (suc hops) node port p =

@@ -23,7 +23,7 @@ pub fn ttl_forwards_or_dies()
         Delivered (examples.ttl_of 2) ∷ [] }
 {}
 
-/// A Fork with one port twice, of which one port has no link and the other leads to a box without code.
+/// A Fork with one port twice; one of its ports has no link, and the other leads to a box without code.
 pub fn fork_has_a_copy_for_each_place()
     ensures { (hops : ℕ)
         → walks_from examples.fork_net (examples.injection (codes "a") []) [] (suc (suc hops)) nothing

@@ -203,7 +203,7 @@ pub fn walks_ascend()
 {}
 
 /// Decisions are ordered as words, a list before all that begin with it: of two lists one comes first,
-/// or they are the same. Lists that part are those of which neither begins with the other.
+/// or they are the same. Lists part where neither begins with the other.
 pub fn decisions_are_ordered()
     ensures irreflexive { (ds : List Decision) → Precedes ds ds → ⊥ }
     ensures transitive { (cs ds es : List Decision) → Precedes cs ds → Precedes ds es → Precedes cs es }

@@ -27,7 +27,7 @@ abbrev pub line_ends : List ℕ → ℕ
 line_ends [] = 0
 line_ends (c ∷ bytes) = if c == 10 then suc (line_ends bytes) else line_ends bytes
 
--- how many bytes stand behind the last line's end, where so many stood before
+-- how many bytes stand behind the last line's end, where this many stood before
 abbrev pub in_line : ℕ → List ℕ → ℕ
 in_line before [] = before
 in_line before (c ∷ bytes) = in_line (if c == 10 then 0 else suc before) bytes

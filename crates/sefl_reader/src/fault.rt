@@ -6,7 +6,7 @@ use sefl_lex::LexFault;
 /// are not due. Lines and columns count from 1, columns in bytes; lines end at LF.
 #[derive(Clone, Copy, PartialEq, Eq)]
 pub enum ReadFault {
-    /// The bytes are not UTF-8: so many bytes at the front are whole characters.
+    /// The bytes are not UTF-8: the first `at` bytes are whole characters.
     NotText { at: u64 },
     /// The text has no list of tokens.
     Lex { fault: LexFault },

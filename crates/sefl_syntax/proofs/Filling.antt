@@ -1,4 +1,4 @@
--- The nodes of a job, one of which is given its code.
+-- The nodes of a job, where one is given its code.
 use Rattle.std.proofs.Common.{◌≡◌, ℕ, zero, suc, ◌<◌, List, [], ◌∷◌, length, map, true, slice_index_or, slice_set, true≢false, sym, ap, arith}
 use Rattle.sefl_syntax.specs.Trees.{code}
 use Rattle.sefl_syntax.specs.Filled.{is_table_in, nodes_with_code}

@@ -13,7 +13,7 @@ use std::alloc::Global;
 use std::marker::Model;
 use std::rc::Rc;
 
-/// A list of at most so many ranges keeps no set: most memberships are short, and a set of so few is soon made.
+/// A list of at most this many ranges keeps no set: most memberships are short, and a set of so few is soon made.
 const FEW: usize = 8;
 
 /// Ranges in any order, each with both its ends; they may overlap. Contracts see the list. Of a long list the set is made

@@ -237,7 +237,7 @@ last_start-bounded n k (r ∷ rs) most le h bound =
     h.2
     (λ v t. bound v (is_member-cons r rs v ∙ ap (λ b. in_range r v || b) t ∙ or_right (in_range r v) true refl))
 
--- ranges sorted by their starts, none of which is empty
+-- ranges sorted by their starts; none is empty
 pub StartFrom-sorted : (n : ℕ) (rs : List Range) → IsNonDecreasingBy (λ (r : Range). r.0) rs → All (λ (r : Range). r.0 ≤ r.1) rs → (0 < length rs → n ≤ (range_at rs 0).0) → StartFrom n rs
 StartFrom-sorted n [] sorted ordered first = tt
 StartFrom-sorted n (r ∷ rs) sorted ordered first = (

@@ -40,7 +40,7 @@ unfolding ranges_from
 ranges_from-ascends test first zero = tt
 ranges_from-ascends test first (suc count) = branch-ascends first (ranges_from test (suc first) count) (test first) (ranges_from-ascends test (suc first) count)
 
--- the number is one of so many from the first on, and passes the test
+-- the number is one of `count` numbers from the first on, and passes the test
 abbrev passes : (ℕ → Bool) → ℕ → ℕ → ℕ → Bool
 passes test first count v = nat_le first v && (nat_lt v (first + count) && test v)
 

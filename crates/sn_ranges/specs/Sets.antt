@@ -7,7 +7,7 @@ abbrev pub with_number : ℕ → List Range → List Range
 with_number number [] = (number, number) ∷ []
 with_number number (range ∷ rest) = if range.0 == suc number then (number, range.1) ∷ rest else (number, number) ∷ range ∷ rest
 
--- the longest ranges of numbers that pass the test, among so many numbers from the first on
+-- the longest ranges of numbers that pass the test, among this many numbers from the first on
 unfoldable pub ranges_from : (ℕ → Bool) → ℕ → ℕ → List Range
 ranges_from test first zero = []
 ranges_from test first (suc count) =

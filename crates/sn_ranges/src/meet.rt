@@ -33,7 +33,7 @@ pub fn meet(
     Ok(common)
 }
 
-/// Appends the numbers of both ranges, one of which starts no earlier than the last range.
+/// Appends the numbers of both ranges; one of the two starts no earlier than the last range.
 fn append_overlap(
     common: &mut Vec<(Num, Num)>,
     left: (Num, Num),

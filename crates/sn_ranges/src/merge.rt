@@ -43,7 +43,7 @@ pub fn append_all(ranges: &mut Vec<(Num, Num)>, more: &[(Num, Num)]) -> Result<(
     Ok(())
 }
 
-/// The ranges of the numbers of any of the pairs, none of which is reversed.
+/// The ranges of the numbers of any of the pairs; no pair is reversed.
 pub fn sorted(alloc: Global, list: &[(Num, Num)]) -> Result<Vec<(Num, Num)>, NoMemory>
     requires { All (λ pair. pair.0 ≤ pair.1) list.now }
     ensures members { IfOk result (λ ranges. HasExactly ranges.items (is_member list.now)) }

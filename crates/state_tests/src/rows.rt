@@ -598,7 +598,7 @@ fn grow<L: Ledger>(
     }
 }
 
-/// A state with a stack of so many cells and a condition of so many formulas.
+/// A state with a stack of `size` cells and a condition of `size` formulas.
 fn large<L: Ledger>(rt: &impl Abort, alloc: Global, size: u32, blank: Blank) -> SymState
     requires name { blank.name ≡ L.name }
     requires parts { blank.parts ≡ L.parts }

@@ -24,7 +24,7 @@ trees_of entries = map (λ entry. view entry.0) entries
 abbrev pub MustBeTrue : List Entry → Type 0
 MustBeTrue entries = AllByRecursion (λ entry. entry.1 ≡ true) entries
 
--- the state carries what this injection makes here, its symbols are the unknown fields, so many, and its formulas are the
+-- the state carries what this injection makes here, its symbols are the `unknowns` unknown fields, and its formulas are the
 -- tests of the injection, which must be true; nothing was decided or arrived at
 pub record BeginsAs (unknowns : ℕ) (at : Scene) (i : InjectionTree) (s : Symbolic) : Type 0 where
   pub carries : injected (terms unknowns) at i ≡ Ok s.carried
@@ -39,7 +39,7 @@ pub record BeginsAs (unknowns : ℕ) (at : Scene) (i : InjectionTree) (s : Symbo
 abbrev pub Begins : Network → Injection → Symbolic → Type 0
 Begins net i s = BeginsAs (unknown_count i) (scene_at net i.node) i.own s
 
--- what is explored from this state, with so many hops
+-- what is explored from this state, with this many hops
 abbrev pub start_in : Network → Injection → ℕ → Symbolic → Start LinearTerm FormulaTree
 start_in net i hops s = record {
   unknowns = s.condition.widths;

@@ -57,7 +57,7 @@ one_frame o net node old new frame p empty is =
 -- ---- arrivals
 
 module _ (net : Network) (u : ℕ) (node : NodeId) (port : ℕ) (p : Progress LinearTerm) where
-  -- over a port, with so many hops left behind its code
+  -- over a port, with `rest` hops left behind its code
   pub goes_in : (frames : List Frame) (side : Side) (hops rest : ℕ) → AreLeft side hops (Some rest)
       → course_frames (terms u) net node frames p ≡ port_course (terms u) net node side port p
       → from_port net u side hops node port p

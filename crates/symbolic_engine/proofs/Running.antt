@@ -168,7 +168,7 @@ module _ {P O N D T : Type 0} (x : Views P O N D T) where
   move_from a b count (Stopped (AtEnd over)) ds ts ps ws tree move = (stop_from a b (spot_at count (x.over_at over)) count ds ts ps ws tree move.0, move.1)
   move_from a b count (Stopped (AtNode node offer)) ds ts ps ws tree move = (stop_from a b (spot_at count (x.node_at node)) count ds ts ps ws tree move.0, move.1)
 
--- a state that waits or is over, behind so many instructions
+-- a state that waits or is over, behind `count` instructions
 pub stops_here : (s : SymStart) (x : Symbolic) (tree : ℕ → SymTree) (count : ℕ) → IsRunOf s x → progress_of (tree count) ≡ progress_in x count
     → StopsAt s count (spot_at count (here_of s x tree)) (spot_at count (here_of s x tree))
 stops_here s x tree count run at = record {

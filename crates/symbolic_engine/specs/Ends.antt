@@ -12,7 +12,7 @@ use Rattle.path_exec.specs.Receiving.{Receiving}
 
 -- items that mean such records
 module _ {T : Type 0} (tree : T → RecordTree) (net : Network) (i : Entry) (hops : ℕ) where
-  -- the receiver stands for exact records of the net, of which none is left out
+  -- the receiver stands for exact records of the net, and none is left out
   pub record EndsWhole (limit : ℕ) (m : Receiving T) (before after : ℕ) : Type 0 where
     pub items : List T
     pub stands : m.StandsFor items
@@ -20,7 +20,7 @@ module _ {T : Type 0} (tree : T → RecordTree) (net : Network) (i : Entry) (hop
     pub tried : AllByRecursion IsTried (map tree items)
     pub spent : after ≤ before + work_of exact.start (map tree items)
 
-  -- it stands for exact records, of which some is left out
+  -- it stands for exact records, and at least one is left out
   pub record EndsPartial (limit : ℕ) (m : Receiving T) (before after : ℕ) : Type 0 where
     pub items : List T
     pub stands : m.StandsFor items

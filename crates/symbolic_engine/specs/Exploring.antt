@@ -29,11 +29,11 @@ use Rattle.symbolic_engine.specs.Ends.{EndsEarly, EndsPartial, EndsSo, EndsStopp
 use Rattle.symbolic_engine.specs.Finds.{handed_tree}
 use Rattle.symbolic_engine.specs.Origins.{condition_seen, progress_in}
 
--- the receiver stands for exact records of the net, of which none is left out
+-- the receiver stands for exact records of the net, and none is left out
 abbrev pub EndsWholeFor : Network → Entry → ℕ → ℕ → Receiving Record → ℕ → ℕ → Type 0
 EndsWholeFor = EndsWhole record_tree
 
--- it stands for exact records, of which some is left out
+-- it stands for exact records, and at least one is left out
 abbrev pub EndsPartialFor : Network → Entry → ℕ → ℕ → Receiving Record → ℕ → ℕ → Type 0
 EndsPartialFor = EndsPartial record_tree
 

@@ -24,7 +24,7 @@ entries_seen x = map (entry_seen view) x.condition.entries
 abbrev pub condition_seen : Symbolic → SymCondition
 condition_seen x = seen view x.condition
 
--- what is carried and the choices, behind so many instructions
+-- what is carried and the choices, behind this many instructions
 abbrev pub progress_in : Symbolic → ℕ → Progress LinearTerm
 progress_in x begun = progress_at x.carried (choices_of x) begun
 
@@ -45,7 +45,7 @@ here_of s x tree = record {
   tree = tree;
 }
 
--- it is the state that the runs begin with, at this port and with so many hops
+-- it is the state that the runs begin with, at this port and with `hops` hops
 pub record IsFirstState (s : SymStart) (net : Network) (hops : ℕ) (node : NodeId) (port : ℕ) (x : Symbolic) : Type 0 where
   pub unknowns : s.unknowns ≡ x.condition.widths
   pub tests : s.tests ≡ trees_of x.condition.entries

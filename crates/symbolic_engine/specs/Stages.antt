@@ -36,11 +36,11 @@ abbrev pub left_seen : Option Left → Option Exit
 left_seen left = option_map exit_of left
 
 module _ (net : Network) where
-  -- from input ports, with so many unknown fields and so many hops left
+  -- from input ports, with this many unknown fields and this many hops left
   abbrev pub onward_of : ℕ → ℕ → Onward LinearTerm FormulaTree
   onward_of unknowns hops = enter (terms unknowns) net hops
 
-  -- from a port, with so many hops left; at an output port those behind its link
+  -- from a port, with this many hops left; at an output port those behind its link
   abbrev pub from_port : ℕ → Side → ℕ → Onward LinearTerm FormulaTree
   from_port unknowns Inward hops = onward_of unknowns hops
   from_port unknowns Outward hops = leave (terms unknowns) net (onward_of unknowns hops)

@@ -65,7 +65,7 @@ fn arrived<B: Origin>(
     Ok(Run::<B>::of(state))
 }
 
-/// Arrives at a port, with so many hops left: before its code, or, where that does not run, where the run is cut.
+/// Arrives at a port, with `hops` hops left: before its code, or, where that does not run, where the run is cut.
 pub(crate) fn arrive<'a, B: Origin>(
     alloc: Global,
     net: &'a Net,

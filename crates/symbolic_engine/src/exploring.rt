@@ -28,7 +28,7 @@ use std::sync::ledger::Ledger;
 use sym_state::SymState;
 use term_values::Formulas;
 
-/// Explores a net from an injection, with so many hops, and shows an observer what is found, at once and with the decisions that led
+/// Explores a net from an injection, with `hops` hops, and shows an observer what is found, at once and with the decisions that led
 /// there: at most `limit` of paths and refuted sides, in the order of their decisions, and then each decision that is left. The records
 /// of what is found are exact for the net. The counter counts the instructions that begin, at most the work of the records.
 ///
@@ -81,7 +81,7 @@ fn observe_from<B: Origin, K: Observer<Found = Found>, L: Ledger>(
     path_exec::explore_into(alloc, &engine, limit, out, steps)
 }
 
-/// Explores a net from an injection, with so many hops, and hands over a record of all that is found, at once: at most `limit` of paths
+/// Explores a net from an injection, with `hops` hops, and hands over a record of all that is found, at once: at most `limit` of paths
 /// and refuted sides, in the order of their decisions, and then one for each decision that is left. The records are exact for the
 /// net. The counter counts the instructions that begin, at most the work of the records.
 ///

@@ -13,7 +13,7 @@ use std::alloc::Global;
 use std::rc::Rc;
 use sym_state::SymState;
 
-/// What was found before the decision of a refuted side, of so many symbols. Symbols behind those of the verdict are 0.
+/// What was found before the decision of a refuted side, of `symbols` symbols. Symbols behind those of the verdict are 0.
 #[derive(Drop)]
 pub struct Before {
     pub verdict: Rc<Verdict>,

@@ -25,13 +25,13 @@ pub struct Gate {
 /// How far a run has come.
 #[derive(Drop)]
 pub enum Stage<'a> {
-    /// Before an input port, with so many hops left.
+    /// Before an input port, with `hops` hops left.
     Entering {
         node: NodeId,
         port: u32,
         hops: u32,
     },
-    /// Before an output port, with so many hops left behind its link.
+    /// Before an output port, with `hops` hops left behind its link.
     Leaving {
         node: NodeId,
         port: u32,
@@ -57,7 +57,7 @@ pub enum Wait<'a> {
         test: Formula,
         frames: Vec<Frame<'a>>,
     },
-    /// The copy for one of these output ports, with so many hops left behind their links.
+    /// The copy for one of these output ports, with `hops` hops left behind their links.
     Forked {
         node: NodeId,
         hops: u32,

@@ -15,7 +15,7 @@ use sn_width::{NoMemory, Num};
 use std::alloc::Global;
 use sym_state::SymState;
 
-/// The values, with zeros behind them until there are so many.
+/// The values, with zeros behind them until there are `count`.
 fn filled(alloc: Global, values: &[Num], count: u64) -> Result<Listed<Num>, NoMemory>
     ensures { IfOk result (λ more. more ≡ filled count values.now) }
 {
@@ -43,7 +43,7 @@ fn filled_cause(alloc: Global, cause: &Cause, count: u64) -> Result<Cause, NoMem
     }
 }
 
-/// The verdict with a value for each of so many symbols.
+/// The verdict with a value for each of `count` symbols.
 fn filled_verdict(alloc: Global, verdict: &Verdict, count: u64) -> Result<Verdict, NoMemory>
     ensures { IfOk result (λ written. written ≡ filled_verdict count verdict.now) }
 {

@@ -1,4 +1,4 @@
--- Of the same members, no two of which have one key, there is one list in order of keys.
+-- Where no two members have one key, there is one list of the same members in order of keys.
 use Rattle.std.proofs.Common.{◌≡◌, ◌∙◌, refl, sym, ap, subst, ℕ, suc, ◌≤◌, ◌<◌, ◌⊎◌, inl, inr, true, false, if◌then◌else◌, List, [], ◌∷◌, IsPermutation, arith}
 use Rattle.std.specs.Prelude.{nat_eq}
 use Rattle.std.specs.List.{AllByRecursion, sum_by}

@@ -6,7 +6,7 @@ use Rattle.sefl_syntax.specs.declared.reference.Target.TheVariants.{Header}
 use Rattle.table_nodes.specs.declared.field.Field.{Field}
 use Rattle.table_nodes.specs.declared.field.Field.TheVariants.{FrameDestination, FrameSource, FrameType, TimeToLive, Protocol, SourceAddress, DestinationAddress, SourcePort, DestinationPort}
 
--- so many bits behind the tag
+-- this many bits behind the tag
 abbrev pub past : List ℕ → ℕ → Addr
 past tag offset = record { tag = Some tag; offset = pos offset }
 

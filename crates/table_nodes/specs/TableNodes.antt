@@ -25,7 +25,7 @@ fib_destination = cell DestinationAddress
 abbrev pub Set : Type 0
 Set = List (ℕ × ℕ)
 
--- so many ports from this one on
+-- this many ports from this one on
 abbrev pub ports_from : ℕ → ℕ → List ℕ
 ports_from port zero = []
 ports_from port (suc n) = port ∷ ports_from (suc port) n

@@ -114,7 +114,7 @@ fn output(
     })
 }
 
-/// The node of a table in style egress: copies go to all ports, each of which lets its set pass.
+/// The node of a table in style egress: copies go to all ports, and each port lets its set pass.
 pub fn egress_node(
     alloc: Global,
     kind: TableKind,

@@ -8,6 +8,6 @@ use Rattle.path_formula.specs.TypeTests.{is_typed_term}
 abbrev pub term_fits : ℕ → LinearTerm → Bool
 term_fits w t = t.width == w && is_reduced t
 
--- a reduced term of the width, each symbol of which is one of those with these widths, and has this width
+-- a reduced term of the width; each of its symbols is one of those with these widths, and has this width
 abbrev pub typed_fits : List ℕ → ℕ → LinearTerm → Bool
 typed_fits widths w t = term_fits w t && is_typed_term widths t

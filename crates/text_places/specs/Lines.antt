@@ -3,7 +3,7 @@ use Rattle.std.specs.Prelude.{ℕ, ◌+◌, ◌-◌, ◌==◌, if◌then◌else�
 use Rattle.std.specs.List.{prefix_len}
 use Rattle.sefl_lex.specs.Bytes.{is_line_byte}
 
--- how many bytes so many lines take with their ends, behind so many bytes
+-- how many bytes `lines` lines take with their ends, behind `count` bytes
 abbrev pub skipped : ℕ → ℕ → List ℕ → Option ℕ
 skipped lines count [] = if lines == 0 then Some count else None
 skipped lines count (c ∷ rest) =

@@ -89,7 +89,7 @@ counts sought Ranges mark = false
 abbrev pub mark_at : List ℕ → Token → Mark
 mark_at text t = mark_of (word_of text t)
 
--- the first byte of the statement behind so many others, where the first of these words stands so
+-- the first byte of the statement behind this many others, where the first of these words stands so
 abbrev pub statement_from : List ℕ → Sought → Stage → ℕ → List Token → Option ℕ
 statement_from text sought stage left [] = None
 statement_from text sought stage left (t ∷ ts) =

@@ -5,7 +5,7 @@ ghost use Rattle.std.specs.List.{prefix_len};
 ghost use Rattle.sefl_lex.specs.Bytes.{is_blank, is_line_byte};
 ghost use Rattle.text_places.specs.Lines.{first_line, line_of, skipped};
 
-/// How many bytes so many lines take, with their ends; None where there are fewer ends.
+/// How many bytes `lines` lines take, with their ends; None where there are fewer ends.
 fn skipped(lines: u64, bytes: &[u8]) -> Option<usize>
     ensures count { result ≡ skipped lines 0 bytes.now }
     ensures within { IfSome result (λ count. count ≤ length bytes.now) }

@@ -9,10 +9,10 @@ use sn_width::{LayoutFault, Num, TagId, Width};
 use std::alloc::Global;
 use std::process::Abort;
 
-/// What is done at so many bits from a tag, or from 0, at as many bits, and its answer.
+/// What is done at this number of bits from a tag, or from 0, over this number of bits, and its answer.
 pub type Row = (Act, Option<TagId>, i32, u8, Answer);
 
-/// What is done with a tag, so many bits from another, or from 0, and its answer.
+/// What is done with a tag, this number of bits from another, or from 0, and its answer.
 pub type TagRow = (TagAct, TagId, Option<TagId>, i32, Answer);
 
 /// The tag that most rows name.

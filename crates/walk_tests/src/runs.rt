@@ -297,7 +297,7 @@ fn place_count(rt: &impl Abort, walks: &[Walk]) -> usize {
     walks.first().expect(rt, "a walk").places.len()
 }
 
-/// The ring's only walk with so many hops arrives at so many places.
+/// The ring's only walk with `hops` hops arrives at `wanted` places.
 fn assert_places(rt: &impl Abort, alloc: Global, hops: u32, wanted: usize) {
     let walks = walks(rt, alloc, RING, &[], hops, 1)
         .ok()

@@ -13,7 +13,7 @@ pub fn same_text(rt: &impl Abort, found: &str, wanted: &str) {
     assert_eq!(rt; found, wanted);
 }
 
-/// Asserts that there are so many.
+/// Asserts that as many were found as wanted.
 pub fn same_count(rt: &impl Abort, found: usize, wanted: usize) {
     assert_eq!(rt; found, wanted);
 }

@@ -34,7 +34,7 @@ fn chain(rt: &impl Abort, alloc: Global, count: u32) -> String {
     all
 }
 
-/// A job of so many nodes, each but the last with a link to the next.
+/// A job of `count` nodes, each except the last with a link to the next.
 fn chained(rt: &impl Abort, alloc: Global, count: u32) -> String {
     let nodes = numbered(rt, alloc, "node a", count, " 1 -> 1 { } ");
     let links = chain(rt, alloc, count);
@@ -89,7 +89,7 @@ fn copies_are_limited(rt: HostRuntime) {
     );
 }
 
-/// A job that allocates so many metadata, each of another name.
+/// A job that allocates `count` metadata, each of another name.
 fn naming(rt: &impl Abort, alloc: Global, count: u32) -> String {
     let code = numbered(rt, alloc, "allocate global m", count, ":8; ");
     coded(rt, alloc, &[code.as_str()])
@@ -150,7 +150,7 @@ fn made_of(rt: &impl Abort, alloc: Global, code: Vec<Instr>) -> Job {
     job
 }
 
-/// A block of so many instructions.
+/// A block of `count` instructions.
 fn long(rt: &impl Abort, alloc: Global, count: u32) -> Instr {
     let mut body = Vec::new(alloc);
     for _ in 0..count {
@@ -190,7 +190,7 @@ fn bytes(rt: &impl Abort, alloc: Global, count: u32) -> Vec<(Num, Num)> {
     ranges
 }
 
-/// A test of a byte against so many ranges.
+/// A test of a byte against `count` ranges.
 fn wide(rt: &impl Abort, alloc: Global, count: u32) -> Cond {
     let ranges = bytes(rt, alloc, count);
     let width = Width::new(8).expect(rt, "8 bits");
@@ -202,7 +202,7 @@ fn wide(rt: &impl Abort, alloc: Global, count: u32) -> Cond {
     Cond::member(alloc, value, ranges).expect(rt, "memory")
 }
 
-/// A job with two tests against so many ranges each.
+/// A job with two tests against `count` ranges each.
 fn ranged(rt: &impl Abort, alloc: Global, count: u32) -> Job {
     let mut code = Vec::new(alloc);
     push(rt, &mut code, Instr::Constrain(wide(rt, alloc, count)));
@@ -232,7 +232,7 @@ fn ranges_are_limited(rt: HostRuntime) {
 /// A job up to the packet's fields: the first of these is item 3.
 const PACKET: &str = "node a 2 -> 2 { in 1 { } } inject a.0 { ";
 
-/// The job with so many fields and tests of its packet, up to where this ends.
+/// The job with `fields` fields and `tests` tests of its packet, up to where this ends.
 fn packet(rt: &impl Abort, alloc: Global, fields: u32, tests: u32) -> String {
     let fields = numbered(rt, alloc, "field head ", fields, ":1; ");
     let tests = repeated(rt, alloc, "where true; ", tests);

@@ -3,7 +3,7 @@
 use super::asked::{Broken, check_all};
 use job_items::{Rule, Which};
 
-/// A node `a` with two ports on each side, one of which has empty code: what follows is item 2.
+/// A node `a` with two ports on each side, and empty code for one of them: what follows is item 2.
 const PLAIN: &str = "node a 2 -> 2 { in 1 { } } ";
 
 /// A packet that comes in by port 0 of the node `a`.

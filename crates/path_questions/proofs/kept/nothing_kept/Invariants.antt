@@ -3,7 +3,7 @@ use Rattle.std.specs.List.{AllByRecursion}
 use Rattle.path_questions.specs.Known.{IsNothing}
 use Rattle.path_questions.proofs.kept.nothing_kept.Given as goal
 
--- so many so far, and nothing of each
+-- as many as were counted so far, and nothing of each
 abbrev pub invariant-loop : goal.invariant-loop
 invariant-loop l =
     record {

@@ -2,7 +2,7 @@ use Rattle.std.proofs.Common.{◌≡◌, ◌≤◌, ◌-◌, ◌++◌, length}
 use Rattle.path_solver.proofs.Bases.{nils}
 use Rattle.path_solver.proofs.base.padded.Given as goal
 
--- the values, and so many zeros
+-- the values, and zeros up to this place
 abbrev pub invariant-loop-place : goal.invariant-loop-place
 invariant-loop-place l = record {
   behind : length l.least ≤ l.place;

@@ -6,7 +6,7 @@ use Rattle.sn_ranges.proofs.RangesLemmas.{range_at, in_range_tells, or-false, is
 use Rattle.sn_ranges.proofs.gaps.gaps.Goals as goal
 use Rattle.sn_ranges.proofs.gaps.gaps.Goals.{then-next-range+in_ok-push, else-next-range}
 
--- what the loop knows of the ranges from the index on, of which the first number is `next` or later
+-- what the loop knows of the ranges from the index on, whose first number is `next` or later
 module _ (rs : List Range) (k next : ℕ) (within : k < length rs) (later : AscendFrom next (drop k rs)) (passed : (v : ℕ) → next ≤ v → is_member (drop k rs) v ≡ is_member rs v) where
   -- the range's end is no greater than a bound of all members
   end_bounded : (max : ℕ) → ((v : ℕ) → is_member rs v ≡ true → v ≤ max) → (range_at rs k).1 ≤ max
