@@ -1,4 +1,4 @@
--- From what a receiver of questions keeps to the answers of a job.
+-- From what an observer with questions keeps to the answers of a job.
 use Rattle.std.proofs.Common.{◌≡◌, ℕ, length, inl, inr, Bool, false, List, [], ◌∷◌, map, refl, sym, subst, arith, Ok}
 use Rattle.std.specs.List.{AllByRecursion}
 use Rattle.sefl_syntax.specs.Trees as trees
@@ -6,12 +6,13 @@ use Rattle.sefl_syntax.specs.Trees.{AskTree}
 use Rattle.net_check.specs.Network.{Network, Entry}
 use Rattle.exact_records.specs.Packets.{AreExactFor}
 use Rattle.exact_records.specs.Records.{RecordTree}
-use Rattle.exact_records.specs.View.{record_trees}
 use Rattle.path_exec.specs.declared.exploration.Ended.{Ended}
 use Rattle.path_exec.specs.declared.exploration.Ended.TheVariants as ended
+use Rattle.path_exec.specs.Handing.{Handed}
 use Rattle.path_exec.specs.Receiving.{Receiving}
-use Rattle.path_records.specs.declared.records.Record.{Record}
-use Rattle.symbolic_engine.specs.Exploring.{ExploredFor}
+use Rattle.symbolic_engine.specs.declared.found.Found as seen
+use Rattle.symbolic_engine.specs.Exploring.{ObservedFor}
+use Rattle.symbolic_engine.specs.Finds.{handed_tree}
 use Rattle.question_meaning.specs.Laws.{IsOfInjection, KeptIsRight}
 use Rattle.question_meaning.specs.Placing.{Asks}
 use Rattle.question_meaning.specs.Questions.{Question, reach, invariant, visible}
@@ -96,26 +97,26 @@ module _ (net : Network) (i : Entry) (hops limit : ℕ) (laws : KeptIsRight net 
     replies_right rs exact qs ks h.1,
   )
 
-  -- an exploration over a receiver of questions that did not fail
-  pub answers_found : (E : Type 0) (qs : List code.Question) (m : Receiving Record) (subject : Subject) (questions : List code.Question) (kept : List Kept) (count : ℕ) (failed : Bool)
-      → ((items : List Record) → m.StandsFor items → IsAskingOf net i hops qs subject questions kept count failed items)
-      → failed ≡ false → m.stops ≡ 0 → (before after : ℕ) (how : Ended) → ExploredFor net i hops {E = E} limit 0 m before after (Ok how)
+  -- an exploration shown to an observer with questions that did not fail
+  pub answers_found : (E : Type 0) (qs : List code.Question) (m : Receiving (Handed seen.Found)) (subject : Subject) (questions : List code.Question) (kept : List Kept) (count : ℕ) (failed : Bool)
+      → ((items : List (Handed seen.Found)) → m.StandsFor items → IsAskingOf net i hops qs subject questions kept count failed (map handed_tree items))
+      → failed ≡ false → m.stops ≡ 0 → (before after : ℕ) (how : Ended) → ObservedFor net i hops {E = E} limit 0 m before after (Ok how)
       → AreAnswers hops limit net i qs (ending_of how) (replies_of questions kept)
   answers_found E qs m subject questions kept count failed stands fine none before after ended.Whole h =
       let s = stands h.items h.stands in
       subst (λ xs. AreAnswers hops limit net i qs (ending_of ended.Whole) (replies_of xs kept)) (sym s.questions_are) (record {
-        records = record_trees h.items;
+        records = map handed_tree h.items;
         exact = h.exact;
         ends = h.tried;
-        right = replies_right (record_trees h.items) h.exact qs kept (s.tells fine);
+        right = replies_right (map handed_tree h.items) h.exact qs kept (s.tells fine);
       })
   answers_found E qs m subject questions kept count failed stands fine none before after ended.Partial h =
       let s = stands h.items h.stands in
       subst (λ xs. AreAnswers hops limit net i qs (ending_of ended.Partial) (replies_of xs kept)) (sym s.questions_are) (record {
-        records = record_trees h.items;
+        records = map handed_tree h.items;
         exact = h.exact;
         ends = h.untried;
-        right = replies_right (record_trees h.items) h.exact qs kept (s.tells fine);
+        right = replies_right (map handed_tree h.items) h.exact qs kept (s.tells fine);
       })
   answers_found E qs m subject questions kept count failed stands fine none before after ended.Stopped h =
       let bad : ⊥ = (let c = h.cause in omega (arith, c, none)) in absurd bad
@@ -130,12 +131,12 @@ nothing_is net i hops (q ∷ qs) (LeftOpen numbers ∷ ks) e h = ((tt, h.0), not
 
 -- the same of an exploration of the net, the injection and the hops that are asked about
 pub answers_of_own : (E : Type 0) (net own : Network) (i its : Entry) (hops h limit : ℕ) → KeptIsRight net i hops → own ≡ net → its ≡ i → h ≡ hops
-    → (qs : List code.Question) (m : Receiving Record) (subject : Subject) (questions : List code.Question) (kept : List Kept) (count : ℕ) (failed : Bool)
-    → ((items : List Record) → m.StandsFor items → IsAskingOf net i hops qs subject questions kept count failed items)
-    → failed ≡ false → m.stops ≡ 0 → (before after : ℕ) (how : Ended) → ExploredFor own its h {E = E} limit 0 m before after (Ok how)
+    → (qs : List code.Question) (m : Receiving (Handed seen.Found)) (subject : Subject) (questions : List code.Question) (kept : List Kept) (count : ℕ) (failed : Bool)
+    → ((items : List (Handed seen.Found)) → m.StandsFor items → IsAskingOf net i hops qs subject questions kept count failed (map handed_tree items))
+    → failed ≡ false → m.stops ≡ 0 → (before after : ℕ) (how : Ended) → ObservedFor own its h {E = E} limit 0 m before after (Ok how)
     → AreAnswers hops limit net i qs (ending_of how) (replies_of questions kept)
 answers_of_own E net own i its hops h limit laws a b e qs m subject questions kept count failed stands fine none before after how explored =
     answers_found net i hops limit laws E qs m subject questions kept count failed stands fine none before after how
-    (subst (λ (k : ℕ). ExploredFor net i k {E = E} limit 0 m before after (Ok how)) e
-    (subst (λ (x : Entry). ExploredFor net x h {E = E} limit 0 m before after (Ok how)) b
-    (subst (λ (n : Network). ExploredFor n its h {E = E} limit 0 m before after (Ok how)) a explored)))
+    (subst (λ (k : ℕ). ObservedFor net i k {E = E} limit 0 m before after (Ok how)) e
+    (subst (λ (x : Entry). ObservedFor net x h {E = E} limit 0 m before after (Ok how)) b
+    (subst (λ (n : Network). ObservedFor n its h {E = E} limit 0 m before after (Ok how)) a explored)))

@@ -24,7 +24,7 @@ use sn_width::{NoMemory, Steps};
 use std::alloc::Global;
 use std::marker::{Brand, PhantomData};
 use std::sync::ledger::{Blank, Ledger};
-use symbolic_engine::explore_into;
+use symbolic_engine::observe;
 
 /// The refusal of a question.
 fn fault_of(bad: BadAsk) -> OwnFault
@@ -38,7 +38,7 @@ fn fault_of(bad: BadAsk) -> OwnFault
     }
 }
 
-/// How the answers end where an exploration ended so. A receiver of questions never stops.
+/// How the answers end where an exploration ended so. An observer with questions never stops.
 fn ending_of(ended: Ended) -> Ending
     requires { ended ≡ Stopped → ⊥ }
     ensures { result ≡ ending_of ended }
@@ -82,7 +82,7 @@ fn answer_with<M: Mark, L: Ledger>(
         failed: false,
         of: PhantomData,
     };
-    let ended = explore_into(
+    let ended = observe(
         alloc,
         subject.net,
         subject.injection,
@@ -97,7 +97,7 @@ fn answer_with<M: Mark, L: Ledger>(
         failed,
         ..
     } = asking;
-    // Neither comes: where memory ended in the midst of the questions, `explore_into` has answered so.
+    // Neither comes: where memory ended in the midst of the questions, `observe` has answered so.
     if failed || questions.len() != kept.len() {
         return Err(NoMemory);
     }
@@ -114,7 +114,8 @@ pub(crate) fn text_of_answers(
 ) -> Result<(Ending, String), OwnFault>
     requires job { AreOfOneJob (network job.now.net) (entry job.now.injection) }
     requires limit { 0 < limit }
-    ensures text { IfOk result (λ t. IsAnswersText hops limit (network job.now.net) (entry job.now.injection) (map ask_tree job.now.asks.items) t.0 (string_bytes t.1)) }
+    ensures text { IfOk result (λ t. IsAnswersText hops limit (network job.now.net) (entry job.now.injection)
+        (map ask_tree job.now.asks.items) t.0 (string_bytes t.1)) }
     ensures refused { IfErr result (IsAskRefusal (network job.now.net) (entry job.now.injection) (map ask_tree job.now.asks.items)) }
 {
     let questions = match questions_of(alloc, &job.net, &job.injection, &job.asks) {

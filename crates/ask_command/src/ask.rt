@@ -10,7 +10,7 @@ use job_files::JobFile;
 use net_check::Accepted;
 use std::alloc::Global;
 
-/// The answers to the questions of a job, from one exploration with so many hops and so many records.
+/// The answers to the questions of a job, from one exploration with `hops` hops and the record limit `limit`.
 #[derive(Clone, Copy)]
 pub struct Ask<'a> {
     pub source: JobFile<'a>,

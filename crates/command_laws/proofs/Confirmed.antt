@@ -75,7 +75,7 @@ none_some : {A : Type 0} (x : A) → None ≡ Some x → ⊥
 none_some x e = cc e
 
 module _ (back : IsOneAnswer) (hops limit : ℕ) (net : Network) (i : Entry) (ending : Ending) (whole : List ℕ)
-    (report : IsReport hops limit Written net i ending whole) (read : IsReadBack net hops limit report.records ending whole) where
+    (report : IsReport hops limit Written net i ending whole) (read : IsReadBack net hops limit Written report.records ending whole) where
   abbrev rs : List RecordTree
   rs = record_trees report.records
 

@@ -6,7 +6,7 @@ use Rattle.std.specs.Str.{bytes_eq}
 abbrev pub Text : Type 0
 Text = List ℕ
 
--- the names of the positionals, and of the options, each of which has a value
+-- the names of the positionals, and of the options; each option has a value
 pub record Form : Type 0 where
   pub positionals : List Text
   pub options : List Text

@@ -34,7 +34,7 @@ impl Model for JsonText {
 }
 
 impl JsonText {
-    /// Nothing yet, with room for so many bytes.
+    /// Nothing yet, with room for `room` bytes.
     pub fn with_capacity(alloc: Global, room: usize) -> Result<JsonText, NoMemory>
         ensures { IfOk result (λ text. text ≡ []) }
     {

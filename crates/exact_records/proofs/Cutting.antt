@@ -154,7 +154,7 @@ cut_above O P ds c rel left m later is f g behind cut after = record {
 unexplored_not_tried : (x : RecordTree) → IsUnexplored x → IsTried x → ⊥
 unexplored_not_tried x h k = k h
 
--- a side of which nothing was tried
+-- a side where nothing was tried
 untried_side : (ds : List Decision) (rs : List RecordTree) (K : Type 0) → SomeOne (Behind ds) rs → AllByRecursion IsUnexplored rs → Side ds rs K → One (IsNotRun ds) rs
 untried_side ds rs K some h (inl k) = k
 untried_side ds [] K some h (inr k) = absurd some
@@ -329,7 +329,7 @@ rest_behind ds c rel x e h =
     (k.0, cancel ds rel (c ∷ k.0) (sym e ∙ k.1), k.1 ∙ sym (append_assoc ds (c ∷ []) k.0))
 
 module _ {V F : Type 0} where
-  -- the other side of a test, of which nothing was tried
+  -- the other side of a test, where nothing was tried
   later_side : (asking : Asking) (p : Progress V) (test : F) (held broken : Tree V F) (ds : List Decision) (later : List RecordTree) → One (IsNotRun (ds ++ decision_at asking false ∷ [])) later
       → LaterBy (IsOpen (tests asking p test held broken)) ds (decision_at asking true) later
   later_side asking p test held broken ds later h =
@@ -354,7 +354,7 @@ module _ {V F : Type 0} where
       not_false : false ≡ true → ⊥
       not_false e = cc
 
-  -- copies of which nothing was tried
+  -- copies where nothing was tried
   copies_untried : (branches : Copies V F) (first : ℕ) (ds : List Decision) (rs : List RecordTree) → EachSplits branches → CoverCopies branches first ds rs → AllByRecursion IsUnexplored rs
       → (x : List Decision) → SomeOne (Is (ds ++ x)) rs → (m : ℕ) × (x ≡ Copy m ∷ []) × (first ≤ m) × OpensFrom branches first x
   copies_untried no_copies first ds rs s h un x k = absurd (subst (SomeOne (Is (ds ++ x))) h k)

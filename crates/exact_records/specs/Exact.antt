@@ -83,7 +83,7 @@ module _ (s : SymStart) where
     pub offered : IsOpen s.tree ds
     pub later : rank taken < rank other
 
-  -- the limit was met: so many records, and then exactly what was left behind by the last of them
+  -- the limit was met: there are this many records, and then exactly what was left behind by the last of them
   pub record IsCutOff (limit : ℕ) (rs : List RecordTree) : Type 0 where
     pub done : List RecordTree
     pub last : RecordTree

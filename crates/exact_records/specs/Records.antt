@@ -72,7 +72,7 @@ module _ (s : SymStart) where
   abbrev pub Leads : List Decision → SymRoute → Type 0
   Leads ds r = route s.tree ds ≡ Some r
 
-  -- the tests of the injection, each of which must hold
+  -- the tests of the injection; each must hold
   abbrev pub injection_tests : List (FormulaTree × Bool)
   injection_tests = map (λ f. (f, true)) s.tests
 

@@ -85,7 +85,7 @@ pub record IsKnown (c : SymCondition) (verdict : Verdict) : Type 0 where
   pub typed : AllTyped itself first c.entries
   pub is : IsVerdictOn (condition_of first c.entries) verdict
 
--- with zeros behind the values, until there are so many
+-- with zeros behind the values, until there are this many
 abbrev pub filled : ℕ → List ℕ → List ℕ
 filled count values = values ++ replicate (count - length values) 0
 
@@ -94,7 +94,7 @@ filled_cause count (Outside pick values) = Outside pick (filled count values)
 filled_cause count (Cases number) = Cases number
 filled_cause count (Coupled number) = Coupled number
 
--- the verdict with a value for each of so many symbols: those that no formula has are 0
+-- the verdict with a value for each of this many symbols: those that no formula has are 0
 abbrev pub filled_verdict : ℕ → Verdict → Verdict
 filled_verdict count (Sat values) = Sat (filled count values)
 filled_verdict count (Undecided cause) = Undecided (filled_cause count cause)

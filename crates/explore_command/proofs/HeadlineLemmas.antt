@@ -12,6 +12,7 @@ use Rattle.exact_records.specs.Whole.{WalksHaveOnePath}
 use Rattle.command_edge.specs.declared.ending.Ending.{Ending}
 use Rattle.command_edge.specs.declared.ending.Ending.TheVariants.{Done}
 use Rattle.path_records.specs.declared.records.Record.{Record}
+use Rattle.path_records.specs.declared.records.Record.TheVariants.{Path, Pruned, Unexplored}
 use Rattle.record_text.specs.Reports.{head_text, report_line, state_text, tail_text}
 use Rattle.record_text.specs.declared.report.Report.{Report}
 use Rattle.report_forms.specs.Fits.{LineFits, RecordFits}
@@ -68,24 +69,33 @@ ReadsBack = (net : Network) (hops limit : ℕ) (records : List Record) (refuted 
     → ReadsReport net (report_line net hops limit records refuted complete) answer
     → Shows (line_seen hops limit records refuted complete) answer
 
-read_so : (hops limit : ℕ) (sides : RefutedSides) (net : Network) (ending : Ending) (records : List Record) → Joins → ReadsBack → sides ≡ Written
+-- those that are written fit where all do
+written_fit : (net : Network) (sides : RefutedSides) (records : List Record) → AllByRecursion (RecordFits net) records
+    → AllByRecursion (RecordFits net) (written_of sides records)
+written_fit net Written records fit = fit
+written_fit net Counted [] fit = tt
+written_fit net Counted (Path decisions places ended fields verdict ∷ records) fit = (fit.0, written_fit net Counted records fit.1)
+written_fit net Counted (Pruned decisions before refutation ∷ records) fit = written_fit net Counted records fit.1
+written_fit net Counted (Unexplored decisions ∷ records) fit = (fit.0, written_fit net Counted records fit.1)
+
+read_so : (hops limit : ℕ) (sides : RefutedSides) (net : Network) (ending : Ending) (records : List Record) → Joins → ReadsBack
     → MayBeShown hops limit → refuted_count records < 2 ^ 64 → AllByRecursion (RecordFits net) records → IsUtf8 (records_text net (written_of sides records))
-    → IsReadBack net hops limit records ending (line_of hops limit sides net ending records)
-read_so hops limit Counted net ending records joins back written shown few fit utf8 answer reads = cc
-read_so hops limit Written net ending records joins back written shown few fit utf8 answer reads =
+    → IsReadBack net hops limit sides records ending (line_of hops limit sides net ending records)
+read_so hops limit sides net ending records joins back shown few fit utf8 answer reads =
+    let written = written_of sides records in
     let refuted = refuted_count records in
     let complete = is_done ending in
-    back net hops limit records refuted complete answer
-    (record { least_hops = shown.0; most_hops = shown.1; least_limit = shown.2; most_limit = shown.3; all_records = fit; count = few })
-    (subst IsUtf8 (sym (joins net hops limit records refuted complete))
-    (IsUtf8-append (head_text hops limit) (records_text net records ++ tail_text refuted complete) (head_utf8 hops limit shown.1 shown.3)
-    (IsUtf8-append (records_text net records) (tail_text refuted complete) utf8 (tail_utf8 refuted complete few))))
+    back net hops limit written refuted complete answer
+    (record { least_hops = shown.0; most_hops = shown.1; least_limit = shown.2; most_limit = shown.3; all_records = written_fit net sides records fit; count = few })
+    (subst IsUtf8 (sym (joins net hops limit written refuted complete))
+    (IsUtf8-append (head_text hops limit) (records_text net written ++ tail_text refuted complete) (head_utf8 hops limit shown.1 shown.3)
+    (IsUtf8-append (records_text net written) (tail_text refuted complete) utf8 (tail_utf8 refuted complete few))))
     reads
 
 pub report_read : (hops limit : ℕ) (sides : RefutedSides) (net : Network) (i : Entry) (ending : Ending) (whole : List ℕ) → Joins → ReadsBack
-    → sides ≡ Written → MayBeShown hops limit → (report : IsReport hops limit sides net i ending whole) → IsReadBack net hops limit report.records ending whole
-report_read hops limit sides net i ending whole joins back written shown report answer reads =
-    read_so hops limit sides net ending report.records joins back written shown report.found.few report.found.fit report.found.utf8 answer
+    → MayBeShown hops limit → (report : IsReport hops limit sides net i ending whole) → IsReadBack net hops limit sides report.records ending whole
+report_read hops limit sides net i ending whole joins back shown report answer reads =
+    read_so hops limit sides net ending report.records joins back shown report.found.few report.found.fit report.found.utf8 answer
     (subst (λ bytes. ReadsReport net bytes answer) report.line reads)
 
 pub headline_of : (hops limit : ℕ) (sides : RefutedSides) (net : Network) (i : Entry) (whole : List ℕ) → WalksHaveOnePath net i hops → Joins → ReadsBack
@@ -103,5 +113,5 @@ headline_of hops limit sides net i whole one joins back h =
         not_taken = exact.refuted;
         tried = h.found.ends;
       };
-      read_back = λ written shown. report_read hops limit sides net i Done whole joins back written shown h;
+      read_back = λ shown. report_read hops limit sides net i Done whole joins back shown h;
     }

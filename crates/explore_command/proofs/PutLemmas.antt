@@ -1,5 +1,5 @@
 -- What the parts of a report come to together.
-use Rattle.std.proofs.Common.{◌≡◌, ◌∙◌, inl, inr, ap, refl, sym, subst, ℕ, Bool, List, [], ◌∷◌, ◌++◌, Option, Some, None, Result, Ok, Err}
+use Rattle.std.proofs.Common.{◌≡◌, ◌∙◌, inl, inr, ap, refl, sym, subst, ℕ, Bool, false, List, [], ◌∷◌, ◌++◌, Option, Some, None, Result, Ok, Err}
 use Rattle.std.proofs.lemmas.List.{append-nil, same_from_push}
 use Rattle.std.specs.Prelude.{IfErr}
 use Rattle.std.specs.List.{AllByRecursion}
@@ -20,6 +20,8 @@ use Rattle.record_ranges.specs.Ranges.{RecordInRange}
 use Rattle.record_text.specs.Reports.{head_text, report_line, tail_text}
 use Rattle.record_lines.specs.Lines.{AreOfTypes, HasLines, PutAs, StopsInLine, records_text, refuted_count, written_of}
 use Rattle.record_lines.specs.declared.lines.RefutedSides.{RefutedSides}
+use Rattle.record_lines.specs.declared.lines.RefutedSides.TheVariants.{Written, Counted}
+use Rattle.record_lines.proofs.LineLemmas.{none_of_types}
 use Rattle.symbolic_engine.specs.Exploring.{ExploredFor}
 use Rattle.run_answers.specs.Inputs.{a_net}
 use Rattle.command_edge.specs.Puts.{WriteShows}
@@ -37,6 +39,12 @@ use Rattle.explore_command.proofs.SoFarLemmas.{so_far}
 known_alone : (known : Option (List ℕ)) → known ≡ append_known known []
 known_alone None = refl
 known_alone (Some bytes) = ap Some (sym (append-nil bytes))
+
+-- no lines yet
+pub no_lines : (net : Network) (sides own_sides : RefutedSides) (known now : Option (List ℕ)) → own_sides ≡ sides → now ≡ known
+    → HasLines net sides known now own_sides false 0 []
+no_lines net Written own_sides known now same is = record { same_sides = same; taken = is ∙ known_alone known; has = refl; counted = refl; of_types = none_of_types net Written }
+no_lines net Counted own_sides known now same is = record { same_sides = same; taken = is ∙ known_alone known; has = refl; counted = refl; of_types = none_of_types net Counted }
 
 -- the head, the records and the tail are the line
 abbrev pub Joins : Type 0

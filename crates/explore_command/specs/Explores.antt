@@ -27,7 +27,7 @@ abbrev pub is_done : Ending → Bool
 is_done Done = true
 is_done Partial = false
 
--- the line of a report of records that end so, of which those are shown that are written
+-- the line of a report of records with this ending; those that are written are shown
 abbrev pub line_of : ℕ → ℕ → RefutedSides → Network → Ending → List Record → List ℕ
 line_of hops limit sides net ending records = report_line net hops limit (written_of sides records) (refuted_count records) (is_done ending)
 

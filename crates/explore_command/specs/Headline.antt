@@ -12,9 +12,8 @@ use Rattle.exact_records.specs.Whole.{IsPathOf}
 use Rattle.command_edge.specs.declared.ending.Ending.{Ending}
 use Rattle.command_edge.specs.declared.ending.Ending.TheVariants.{Done}
 use Rattle.record_text.specs.declared.report.Report.{Report}
-use Rattle.record_lines.specs.Lines.{refuted_count}
+use Rattle.record_lines.specs.Lines.{refuted_count, written_of}
 use Rattle.record_lines.specs.declared.lines.RefutedSides.{RefutedSides}
-use Rattle.record_lines.specs.declared.lines.RefutedSides.TheVariants.{Written}
 use Rattle.report_forms.specs.Seen.{line_seen}
 use Rattle.path_report.specs.Reading.{ReadsReport, Shows}
 use Rattle.path_report.specs.declared.report.ReportFault.{ReportFault}
@@ -30,11 +29,11 @@ IsRefuted start (unexplored ds) = Unit {0}
 abbrev pub MayBeShown : ℕ → ℕ → Type 0
 MayBeShown hops limit = (1 ≤ hops) × (hops ≤ 256) × (1 ≤ limit) × (limit ≤ 100000)
 
--- The text determines these records: whatever is read of it, by the names of the net, shows a report of them, with these hops, this
--- limit and their number of refuted sides.
-abbrev pub IsReadBack : Network → ℕ → ℕ → List Record → Ending → List ℕ → Type 0
-IsReadBack net hops limit records ending whole = (answer : Result Report ReportFault) → ReadsReport net whole answer
-    → Shows (line_seen hops limit records (refuted_count records) (is_done ending)) answer
+-- The text determines its records: whatever is read of it, by the names of the net, shows a report of those that are written, with these
+-- hops, this limit and the number of all refuted sides.
+abbrev pub IsReadBack : Network → ℕ → ℕ → RefutedSides → List Record → Ending → List ℕ → Type 0
+IsReadBack net hops limit sides records ending whole = (answer : Result Report ReportFault) → ReadsReport net whole answer
+    → Shows (line_seen hops limit (written_of sides records) (refuted_count records) (is_done ending)) answer
 
 module _ (net : Network) (i : Entry) (hops : ℕ) where
   -- Each packet that meets the injection walks, on every fork, exactly one of the paths: by the same ports, to the same end with
@@ -50,9 +49,9 @@ module _ (net : Network) (i : Entry) (hops : ℕ) where
     pub tried : AllByRecursion IsTried rs
 
   -- The text is the report of records that tell all this: of each of them, where refuted sides are written; else of the others and
-  -- of the number of these. Where they are written, `read_report` reads the text, and gives the records back.
+  -- of the number of these. `read_report` reads the text, and gives the records back that are written, with that number.
   pub record IsHeadline (limit : ℕ) (sides : RefutedSides) (whole : List ℕ) : Type 0 where
     pub records : List Record
     pub line : whole ≡ line_of hops limit sides net Done records
     pub tells : TellsAll (record_trees records)
-    pub read_back : sides ≡ Written → MayBeShown hops limit → IsReadBack net hops limit records Done whole
+    pub read_back : MayBeShown hops limit → IsReadBack net hops limit sides records Done whole

@@ -39,7 +39,7 @@ PutsEnd known now tail (Err NoMemory) = now ≡ known
 PutsEnd known now tail _ = ⊥
 
 module _ (hops limit : ℕ) (sides : RefutedSides) (net : Network) (i : Entry) where
-  -- the pieces of all records, of which so many are refuted sides
+  -- the pieces of all records; the tail counts the refuted sides among them
   pub record AreAll (tail : Tail) (part : List ℕ) : Type 0 where
     pub records : List Record
     pub found : AreFound hops limit sides net i tail.ending records

@@ -12,7 +12,7 @@ use record_lines::RefutedSides;
 use sn_edge::Sink;
 use std::alloc::Global;
 
-/// The report of all packets of a job, with so many hops and so many records. The records are put as they are found, and none
+/// The report of all packets of a job, with `hops` hops and the record limit `limit`. The records are put as they are found, and none
 /// is kept.
 #[derive(Drop)]
 pub struct Explore<'a> {

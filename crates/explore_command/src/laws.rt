@@ -4,7 +4,6 @@ ghost use Rattle.std.specs.Prelude.{◌⊎◌, ◌≤◌, ℕ, List};
 ghost use Rattle.sn_edge.specs.Pieces.{IsPrefix};
 ghost use Rattle.net_check.specs.Network.{Entry, Network};
 ghost use Rattle.record_lines.specs.declared.lines.RefutedSides.{RefutedSides as SidesOf};
-ghost use Rattle.record_lines.specs.declared.lines.RefutedSides.TheVariants.{Written};
 ghost use Rattle.command_edge.specs.declared.ending.Ending.{Ending as EndingOf};
 ghost use Rattle.command_edge.specs.declared.ending.Ending.TheVariants.{Done};
 ghost use Rattle.exact_records.specs.View.{record_trees};
@@ -19,7 +18,7 @@ use record_lines::laws::a_record_comes_behind_the_others;
 use record_text::laws::lines_join;
 
 /// The headline: where the report of a job is written whole and nothing was left out, it tells all walks of all packets that
-/// meet the injection; and it is read back, where refuted sides are written.
+/// meet the injection; and it is read back.
 pub fn finished_reports_tell_all()
     ensures { (hops limit : ℕ) (sides : SidesOf) (net : Network) (i : Entry) (whole : List ℕ) → IsReport hops limit sides net i Done whole → IsHeadline net i hops limit sides whole }
 {
@@ -28,10 +27,10 @@ pub fn finished_reports_tell_all()
     lines_are_read_back();
 }
 
-/// What is read of a report with its refuted sides is a report of just its records, also where some decisions were not tried.
+/// What is read of a report is a report of just its records that are written, with the number of its refuted sides.
 pub fn reports_are_read_back()
-    ensures { (hops limit : ℕ) (net : Network) (i : Entry) (ending : EndingOf) (whole : List ℕ) → MayBeShown hops limit
-        → (report : IsReport hops limit Written net i ending whole) → IsReadBack net hops limit report.records ending whole }
+    ensures { (hops limit : ℕ) (sides : SidesOf) (net : Network) (i : Entry) (ending : EndingOf) (whole : List ℕ) → MayBeShown hops limit
+        → (report : IsReport hops limit sides net i ending whole) → IsReadBack net hops limit sides report.records ending whole }
 {
     lines_join();
     lines_are_read_back();

@@ -23,7 +23,7 @@ use sn_width::{NoMemory, Steps};
 use std::alloc::Global;
 use std::marker::{Brand, PhantomData};
 use std::sync::ledger::{Blank, Ledger};
-use symbolic_engine::explore_into;
+use symbolic_engine::observe;
 
 /// What the tail of a report says.
 #[derive(Clone, Copy)]
@@ -88,6 +88,7 @@ fn explore_records<N: OfNet, M: Mark, K: Sink, L: Ledger>(
     names_are_spelled(&job.net);
     let mut steps = Steps::<L>::new(blank);
     let mut lines: Lines<'_, '_, '_, N, M, K> = Lines {
+        alloc,
         pieces,
         out,
         sides,
@@ -95,7 +96,7 @@ fn explore_records<N: OfNet, M: Mark, K: Sink, L: Ledger>(
         refuted: 0,
         of: PhantomData,
     };
-    let ended = explore_into(
+    let ended = observe(
         alloc,
         &job.net,
         &job.injection,
@@ -158,7 +159,8 @@ fn put_rest<K: Sink>(
     requires job { AreOfOneJob (network job.now.net) (entry job.now.injection) }
     requires limit { 0 < limit }
     ensures out_kept { SinkKept (K.told out.old) (K.told out.new) }
-    ensures puts { PutsRest hops limit sides (network job.now.net) (entry job.now.injection) (K.told out.old).taken (K.told out.new).taken result }
+    ensures puts { PutsRest hops limit sides (network job.now.net) (entry job.now.injection)
+        (K.told out.old).taken (K.told out.new).taken result }
     ensures shows { IfErr result (StopShows (K.told out.old) (K.told out.new)) }
 {
     let tail = put_records::<Brand, Brand, K, Brand>(
@@ -185,7 +187,8 @@ pub(crate) fn put_report<K: Sink>(
     requires job { AreOfOneJob (network job.now.net) (entry job.now.injection) }
     requires limit { 0 < limit }
     ensures out_kept { SinkKept (K.told out.old) (K.told out.new) }
-    ensures performs { Performs (K.told out.old).taken (K.told out.new).taken (explore_work hops limit sides) (given_of job.now ∷ []) result }
+    ensures performs { Performs (K.told out.old).taken (K.told out.new).taken
+        (explore_work hops limit sides) (given_of job.now ∷ []) result }
     ensures shows { WriteShows (K.told out.old) (K.told out.new) result }
 {
     lines_join();

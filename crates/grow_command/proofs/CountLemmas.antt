@@ -1,10 +1,14 @@
 -- The counts of one record more.
-use Rattle.std.proofs.Common.{◌≡◌, ◌∙◌, refl, sym, ap, ℕ, Bool, true, false, List, [], ◌∷◌, ◌++◌}
+use Rattle.std.proofs.Common.{◌≡◌, ◌∙◌, refl, sym, ap, ℕ, Bool, true, false, List, [], ◌∷◌, ◌++◌, map}
 use Rattle.std.proofs.lemmas.List.{map-append}
-use Rattle.path_records.specs.declared.records.Record.{Record}
+use Rattle.refutation_check.specs.declared.outcome.Verdict.{Verdict}
+use Rattle.refutation_check.specs.declared.outcome.Verdict.TheVariants.{Sat, Undecided}
 use Rattle.exact_records.specs.Records.{RecordTree, path, pruned, unexplored}
-use Rattle.exact_records.specs.View.{record_tree, record_trees}
-use Rattle.grow_command.specs.Counted.{count_where, counts_of, ends_so, has_cause, has_values, is_cut, is_delivered, is_failed, is_pruned, is_stopped, is_unexplored, judged_so, one_more, with_record}
+use Rattle.exact_records.specs.Spots.{filled_verdict}
+use Rattle.path_exec.specs.Handing.{Handed}
+use Rattle.symbolic_engine.specs.declared.found.Found.{Found}
+use Rattle.symbolic_engine.specs.Finds.{handed_tree}
+use Rattle.grow_command.specs.Counted.{count_where, counts_of, ends_so, has_cause, has_values, is_cut, is_delivered, is_failed, is_pruned, is_stopped, is_unexplored, judged_so, one_more, with_record, with_verdict}
 use Rattle.grow_command.specs.declared.counts.Counts.{Counts}
 
 swapped : (a b : Bool) (n : ℕ) → one_more a (one_more b n) ≡ one_more b (one_more a n)
@@ -56,8 +60,13 @@ one_record_more rs (unexplored ds) =
     }
 
 -- the counts with one record more are those of the longer list
-pub counts_more : (old new : Counts) (items : List Record) (item : Record) → new ≡ with_record (record_tree item) old → old ≡ counts_of (record_trees items)
-    → new ≡ counts_of (record_trees (items ++ item ∷ []))
+pub counts_more : (old new : Counts) (items : List (Handed Found)) (item : Handed Found) → new ≡ with_record (handed_tree item) old → old ≡ counts_of (map handed_tree items)
+    → new ≡ counts_of (map handed_tree (items ++ item ∷ []))
 counts_more old new items item is stands =
-    is ∙ (ap (with_record (record_tree item)) stands
-    ∙ (sym (one_record_more (record_trees items) (record_tree item)) ∙ ap counts_of (sym (map-append record_tree items (item ∷ [])))))
+    is ∙ (ap (with_record (handed_tree item)) stands
+    ∙ (sym (one_record_more (map handed_tree items) (handed_tree item)) ∙ ap counts_of (sym (map-append handed_tree items (item ∷ [])))))
+
+-- a verdict is counted as one with a value for each symbol
+pub filled_is_counted : (count : ℕ) (verdict : Verdict) (c : Counts) → with_verdict verdict c ≡ with_verdict (filled_verdict count verdict) c
+filled_is_counted count (Sat values) c = refl
+filled_is_counted count (Undecided cause) c = refl

@@ -2,11 +2,9 @@
 use Rattle.std.specs.Prelude.{ℕ, ◌≡◌, List, [], ◌∷◌}
 use Rattle.std.specs.List.{AllByRecursion}
 use Rattle.net_check.specs.Network.{Network, Entry}
-use Rattle.path_records.specs.declared.records.Record.{Record}
 use Rattle.exact_records.specs.Exact.{IsTried, IsUnexplored, SomeOne}
 use Rattle.exact_records.specs.Packets.{AreExactFor}
 use Rattle.exact_records.specs.Records.{RecordTree}
-use Rattle.exact_records.specs.View.{record_trees}
 use Rattle.run_answers.specs.Inputs.{Given, a_net}
 use Rattle.command_edge.specs.Puts.{Outcome, text, refused}
 use Rattle.command_edge.specs.declared.ending.Ending.{Ending}
@@ -23,10 +21,10 @@ IsEnding Partial rs = SomeOne IsUnexplored rs
 
 -- these are the counts of records that are exact for the net and the injection, and end so
 pub record AreCounts (net : Network) (i : Entry) (ending : Ending) (counts : Counts) : Type 0 where
-  pub records : List Record
-  pub exact : AreExactFor net i HOPS LIMIT (record_trees records)
-  pub ends : IsEnding ending (record_trees records)
-  pub counted : counts ≡ counts_of (record_trees records)
+  pub records : List RecordTree
+  pub exact : AreExactFor net i HOPS LIMIT records
+  pub ends : IsEnding ending records
+  pub counted : counts ≡ counts_of records
 
 module _ (seed boxes : ℕ) where
   -- the text tells the seed, the number of boxes and such counts

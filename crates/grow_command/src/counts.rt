@@ -1,13 +1,14 @@
 //! How many records there are of each kind.
 
-ghost use Rattle.std.specs.Prelude.{◌≡◌, IfSome};
-ghost use Rattle.exact_records.specs.View.{record_tree};
+ghost use Rattle.std.specs.Prelude.{◌≡◌, IfSome, List};
+ghost use Rattle.sefl_meaning.specs.declared.walk.Decision.{Decision as DecisionOf};
+ghost use Rattle.symbolic_engine.specs.Finds.{found_tree};
 ghost use Rattle.grow_command.specs.Counted.{no_counts, with_end, with_record, with_verdict};
 
-use path_exec::{Receiver, Took};
-use path_records::Record;
+use path_exec::{Observer, Took};
 use refutation_check::Verdict;
-use sefl_meaning::End;
+use sefl_meaning::{Decision, End};
+use symbolic_engine::Found;
 
 /// How many paths there are by their ends, and by their verdicts; how many refuted sides; and how many decisions that were not
 /// tried.
@@ -81,53 +82,53 @@ fn with_verdict(counts: Counts, verdict: &Verdict) -> Option<Counts>
     })
 }
 
-/// With a record more.
-fn with_record(counts: Counts, item: &Record) -> Option<Counts>
-    ensures { IfSome result (λ more. more ≡ with_record (record_tree item.now) counts) }
+/// With what was found more.
+fn with_found(counts: Counts, found: &Found) -> Option<Counts>
+    ensures { IfSome result (λ more. (ds : List DecisionOf) → more ≡ with_record (found_tree found.now ds) counts) }
 {
-    match item {
-        Record::Path { end, verdict, .. } => with_verdict(with_end(counts, end)?, verdict),
-        Record::Pruned { .. } => Some(Counts {
+    match found {
+        Found::Path { end, verdict, .. } => with_verdict(with_end(counts, end)?, verdict),
+        Found::Pruned { .. } => Some(Counts {
             pruned: counts.pruned.checked_add(1)?,
             ..counts
         }),
-        Record::Unexplored { .. } => Some(Counts {
+        Found::Unexplored => Some(Counts {
             unexplored: counts.unexplored.checked_add(1)?,
             ..counts
         }),
     }
 }
 
-/// With a record more, which is not kept.
-fn with_last(counts: Counts, item: Record) -> Option<Counts>
-    ensures { IfSome result (λ more. more ≡ with_record (record_tree item) counts) }
+/// With what was found more, which is not kept.
+fn with_last(counts: Counts, found: Found) -> Option<Counts>
+    ensures { IfSome result (λ more. (ds : List DecisionOf) → more ≡ with_record (found_tree found ds) counts) }
 {
-    with_record(counts, &item)
+    with_found(counts, &found)
 }
 
-/// Counts records, and keeps none of them.
+/// Counts what is found, and makes no record of it.
 #[derive(Drop)]
 pub struct Tally {
     pub counts: Counts,
 }
 
-impl Receiver for Tally {
-    type Item = Record;
+impl Observer for Tally {
+    type Found = Found;
 
-    ghost use Rattle.std.specs.Prelude.{◌≡◌};
-    ghost use Rattle.exact_records.specs.View.{record_trees};
+    ghost use Rattle.std.specs.Prelude.{◌≡◌, map};
+    ghost use Rattle.symbolic_engine.specs.Finds.{handed_tree};
     ghost use Rattle.grow_command.specs.Counted.{counts_of};
 
     ghost seen = { λ tally. record {
-      StandsFor = λ items. tally.counts ≡ counts_of (record_trees items);
+      StandsFor = λ items. tally.counts ≡ counts_of (map handed_tree items);
       StoppedIn = λ items. ⊥;
       stops = 0;
       target = 0;
       Takes = λ item. Unit {0};
     } };
 
-    fn take(&mut self, item: Record) -> Took {
-        match with_last(self.counts, item) {
+    fn see(&mut self, found: Found, _decisions: &[Decision]) -> Took {
+        match with_last(self.counts, found) {
             Some(counts) => {
                 self.counts = counts;
                 Took::More

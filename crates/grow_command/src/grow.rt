@@ -19,7 +19,7 @@ use sn_width::{NoMemory, Steps};
 use std::alloc::Global;
 use std::marker::Brand;
 use std::sync::ledger::{Blank, Ledger};
-use symbolic_engine::explore_into;
+use symbolic_engine::observe;
 
 /// A walk is cut at the input port after this many.
 pub const HOPS: u32 = 16;
@@ -34,7 +34,7 @@ struct Found {
     counts: Counts,
 }
 
-/// Explores a job, and counts the records as they are found.
+/// Explores a job, and counts what is found.
 fn count_records<L: Ledger>(alloc: Global, job: &Accepted, blank: Blank) -> Result<Found, NoMemory>
     requires job { AreOfOneJob (network job.now.net) (entry job.now.injection) }
     requires name { blank.name ≡ L.name }
@@ -46,7 +46,7 @@ fn count_records<L: Ledger>(alloc: Global, job: &Accepted, blank: Blank) -> Resu
     let mut tally = Tally {
         counts: Counts::none(),
     };
-    let ended = explore_into(
+    let ended = observe(
         alloc,
         &job.net,
         &job.injection,

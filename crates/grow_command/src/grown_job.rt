@@ -14,7 +14,7 @@ use net_check::Accepted;
 use sn_edge::{Folder, Patterns};
 use std::alloc::Global;
 
-/// The job of so many boxes that grows from the seed. It is made where a job of a file would be read, and is accepted as that is.
+/// The job of `boxes` boxes that grows from the seed. It is made where a job of a file would be read, and is accepted as that is.
 #[derive(Clone, Copy)]
 pub struct GrownJob {
     pub seed: u64,

@@ -226,7 +226,7 @@ module _ {V F : Type 0} where
     also_copy (copy_and t branches) others h (suc n) p c d rest first other =
         also_copy branches h.1 h.4 n p c d rest first (subst (λ (x : Copies V F). Is (copy_route x (suc n) (p ++ d ∷ []))) h.2 other)
 
-  -- ---- decisions of which some are left are no end
+  -- ---- decisions with some left are no end
 
   pub record Waits (t : Tree V F) (p : List Decision) : Type 0 where
     pub way : Route V F

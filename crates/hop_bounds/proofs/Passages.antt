@@ -1,4 +1,4 @@
--- A packet none of whose walks is cut has the same walks under a larger bound of hops.
+-- A packet without a walk that is cut has the same walks under a larger bound of hops.
 use Rattle.std.proofs.Common.{◌≡◌, ◌≤◌, ℕ, zero, suc, inl, inr, List, [], ◌∷◌, ◌++◌, map, refl, ap, ap₂, arith, Option, None, Some}
 use Rattle.sn_width.specs.declared.ids.NodeId.{NodeId}
 use Rattle.sefl_syntax.specs.declared.net.Side.TheVariants.{Inward, Outward}

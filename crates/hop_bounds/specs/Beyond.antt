@@ -1,4 +1,4 @@
--- Records of which none was cut by the bound of hops, and what they say of larger bounds.
+-- Records that were not cut by the bound of hops, and what they say of larger bounds.
 use Rattle.std.specs.Prelude.{ℕ, ◌≡◌, ◌≤◌, List}
 use Rattle.std.specs.List.{AllByRecursion}
 use Rattle.sefl_meaning.specs.declared.walk.End.TheVariants.{Cut}

@@ -71,7 +71,7 @@ module _ (files : Files) where
       by (code own) is all rest = (own, subst (λ b. IsCodeOf files b own) (sym is) refl, ds, rest all, λ i. record { name = d.name; body = is i } ∷ ds)
       by (table kind name style) is all rest = absurd (true≢false (sym all))
 
-  -- what fills the nodes, one of which was given its code, fills the nodes as they were
+  -- what fills the nodes after one was given its code fills the nodes as they were
   pub filled_on : (i : ℕ) (node : NodeTree) (ds full : List DeclTree) (d : DeclTree) → slice_get ds i ≡ Some d → IsCodeOf files d.body node
       → AllFilled files (nodes_with_code i node ds) full → AllFilled files ds full
   filled_on i node [] full d is has all = all

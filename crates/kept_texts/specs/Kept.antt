@@ -39,7 +39,7 @@ head_shown net address cells = head_data term_data address cells
 abbrev pub meta_shown : Network → Option NodeId × NameId → List (Cell LinearTerm) → Data
 meta_shown net key cells = meta_data term_data net key.0 key.1 cells
 
--- a net without nodes, of which nothing is written
+-- a net without nodes; nothing of it is written
 abbrev pub no_net : Network
 no_net = record {
   own = record { nodes = []; links = [] };

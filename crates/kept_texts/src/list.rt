@@ -97,7 +97,7 @@ impl<N: OfNet, T: Member> KeptList<N, T> {
         }
     }
 
-    /// Keeps at most so many members.
+    /// Keeps at most `count` members.
     fn cut(&mut self, count: usize)
         ensures { self.new ≡ take count self.old }
     {

@@ -8,7 +8,7 @@ abbrev pub symbols_end : List Part → ℕ
 symbols_end [] = 0
 symbols_end (p ∷ ps) = max (suc p.0.0) (symbols_end ps)
 
--- the parts with these coefficients, of so many symbols from this one on; none where the coefficient is 0
+-- the parts with these coefficients, of this many symbols from this one on; none where the coefficient is 0
 unfoldable pub parts_with : (ℕ → ℕ) → ℕ → ℕ → List Part
 parts_with coefficient s zero = []
 parts_with coefficient s (suc n) =

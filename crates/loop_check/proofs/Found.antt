@@ -1,8 +1,9 @@
 -- What is found of records is right.
-use Rattle.std.proofs.Common.{◌≡◌, ◌+◌, ℕ, suc, inl, inr, List, [], ◌∷◌, ◌++◌, length, refl, sym, ap, subst, ◌∙◌, arith, Option, None, Some, Result, IfOk}
-use Rattle.std.proofs.lemmas.List.{append-nil, length-map, map-append}
+use Rattle.std.proofs.Common.{◌≡◌, ◌+◌, ℕ, suc, inl, inr, List, [], ◌∷◌, ◌++◌, length, map, reverse, refl, sym, ap, subst, ◌∙◌, arith, Option, None, Some, Result, IfOk}
+use Rattle.std.proofs.lemmas.List.{append-nil, map-append}
 use Rattle.std.specs.List.{AllByRecursion}
 use Rattle.std.specs.declared.alloc.Global.{Global}
+use Rattle.std.specs.declared.rc.Rc.{Rc}
 use Rattle.std.specs.declared.vec.Vec.{Vec}
 use Rattle.refutation_check.specs.declared.outcome.Verdict.{Verdict}
 use Rattle.sefl_meaning.specs.declared.walk.Decision.{Decision}
@@ -18,7 +19,12 @@ use Rattle.path_records.specs.declared.records.Record.TheVariants.{Path}
 use Rattle.exact_records.specs.Exact.{IsGood}
 use Rattle.exact_records.specs.Packets.{AreExactFor, IsExplored}
 use Rattle.exact_records.specs.Records.{HasMeaning, RecordTree, SymRoute, SymStart, condition_on, decisions_of, path, pruned, unexplored}
-use Rattle.exact_records.specs.View.{record_tree, record_trees}
+use Rattle.exact_records.specs.View.{record_tree}
+use Rattle.sym_state.specs.Symbolic.{Symbolic}
+use Rattle.path_exec.specs.Handing.{Handed}
+use Rattle.symbolic_engine.specs.declared.found.Found.{Found}
+use Rattle.symbolic_engine.specs.declared.found.Found.TheVariants as seen
+use Rattle.symbolic_engine.specs.Finds.{found_tree, handed_tree}
 use Rattle.sefl_meaning.specs.Routes.{places_on}
 use Rattle.loop_meaning.specs.declared.answer.LoopAnswer.{LoopAnswer}
 use Rattle.loop_meaning.specs.declared.answer.LoopAnswer.TheVariants.{Loop, Open}
@@ -123,21 +129,14 @@ module _ (net : Network) (i : Entry) (hops : ℕ) where
   abbrev Finds : List RecordTree → List (ℕ × LoopAnswer) → Type 0
   Finds xs found = AreFound (IsAnswerTo net i hops) 0 xs found
 
-  found_with : (xs : List RecordTree) (x : RecordTree) (count : ℕ) (found : List (ℕ × LoopAnswer)) (answer : Option LoopAnswer) → count ≡ length xs → Finds xs found
+  -- a record more
+  pub found_with : (xs : List RecordTree) (x : RecordTree) (count : ℕ) (found : List (ℕ × LoopAnswer)) (answer : Option LoopAnswer) → count ≡ length xs → Finds xs found
       → SaysIfCut net i hops x answer → Finds (xs ++ x ∷ []) (found ++ numbered count answer)
   found_with xs x count found None e h says =
       subst (Finds (xs ++ x ∷ [])) (sym (append-nil found)) (with_none (IsAnswerTo net i hops) 0 xs x found h says)
   found_with xs x count found (Some answer) e h says =
       let same : 0 + length xs ≡ count = omega (arith, e) in
       subst (λ m. Finds (xs ++ x ∷ []) (found ++ (m, answer) ∷ [])) same (with_one (IsAnswerTo net i hops) 0 xs x found answer h says.0 says.1)
-
-  -- a record of the program more
-  pub finds_more : (items : List Record) (item : Record) (count : ℕ) (found : List (ℕ × LoopAnswer)) (answer : Option LoopAnswer) → count ≡ length items
-      → Finds (record_trees items) found → SaysIfCut net i hops (record_tree item) answer
-      → Finds (record_trees (items ++ item ∷ [])) (found ++ numbered count answer)
-  finds_more items item count found answer e h says =
-      subst (λ xs. Finds xs (found ++ numbered count answer)) (sym (map-append record_tree items (item ∷ [])))
-      (found_with (record_trees items) (record_tree item) count found answer (e ∙ sym (length-map items record_tree)) h says)
 
 -- ---- records of the program
 
@@ -151,13 +150,12 @@ module _ (net : Network) (i : Entry) (hops : ℕ) where
       (subst (λ (zs : List Place). AnswersFor net i hops xs zs answer) k h))
 
   -- of a path that is cut
-  pub cut_answer : (item : Record) (ds : Vec Decision Global) (ps : Vec Place Global) (end' : End) (fields : Fields) (verdict : Verdict) → item ≡ Path ds ps end' fields verdict
-      → end' ≡ Cut → (xs : List Decision) (ys : List Place) → xs ≡ ds.items → ys ≡ ps.items → (answer : LoopAnswer) → AnswersFor net i hops xs ys answer
-      → IsCutRecord (record_tree item) × IsAnswerTo net i hops (record_tree item) answer
-  cut_answer item ds ps end' fields verdict is cut xs ys e k answer h = (
-    subst (λ (x : Record). IsCutRecord (record_tree x)) (sym is) (subst IsCut (sym cut) tt),
-    path_answer item ds ps end' fields verdict is xs ys e k answer h,
-  )
+  pub cut_answer : (found : Found) (state : Symbolic) (how : End) (verdict : Rc Verdict Global) → found ≡ seen.Path state how verdict → how ≡ Cut
+      → (ds : List Decision) (ps : List Place) → ps ≡ reverse state.places → (answer : LoopAnswer) → AnswersFor net i hops ds ps answer
+      → IsCutRecord (found_tree found ds) × IsAnswerTo net i hops (found_tree found ds) answer
+  cut_answer found state how verdict is cut ds ps e answer h =
+      subst (λ (x : Found). IsCutRecord (found_tree x ds) × IsAnswerTo net i hops (found_tree x ds) answer) (sym is)
+      (subst IsCut (sym cut) tt, subst (λ (zs : List Place). AnswersFor net i hops ds zs answer) e h)
 
   pub loop_right : {E : Type 0} (loops : LoopsAreForEver net i hops) (item : Record) (ds : Vec Decision Global) (ps : Vec Place Global) (end' : End) (fields : Fields) (verdict : Verdict)
       → item ≡ Path ds ps end' fields verdict → IsCutPath net i hops (record_tree item) → (xs : List Decision) (ys : List Place) → xs ≡ ds.items → ys ≡ ps.items
@@ -167,24 +165,27 @@ module _ (net : Network) (i : Entry) (hops : ℕ) where
       (λ answer found. right_of net i hops loops (record_tree item) cut.start cut.explored cut.meaning cut.cut answer
       (path_answer item ds ps end' fields verdict is xs ys e k answer found)) h
 
-  -- one record more, of a subject that is the same
-  pub found_more : (before after : Subject) (old new : List (ℕ × LoopAnswer)) (count next : ℕ) (item : Record) → after ≡ before
-      → ((items : List Record) → count ≡ length items → Finds (net_of before) (entry_of before) before.hops (record_trees items) old
-      → (next ≡ length (items ++ item ∷ [])) × Finds (net_of before) (entry_of before) before.hops (record_trees (items ++ item ∷ [])) new)
-      → (items : List Record) → IsFindingOf net i hops before old count items → IsFindingOf net i hops after new next (items ++ item ∷ [])
+  -- what is found behind decisions is one record more, of a subject that is the same
+  pub found_more : (before after : Subject) (old new : List (ℕ × LoopAnswer)) (count next : ℕ) (item : Handed Found) → after ≡ before
+      → ((xs : List RecordTree) → count ≡ length xs → Finds (net_of before) (entry_of before) before.hops xs old
+      → (next ≡ length (xs ++ handed_tree item ∷ [])) × Finds (net_of before) (entry_of before) before.hops (xs ++ handed_tree item ∷ []) new)
+      → (items : List (Handed Found)) → IsFindingOf net i hops before old count (map handed_tree items)
+      → IsFindingOf net i hops after new next (map handed_tree (items ++ item ∷ []))
   found_more before after old new count next item same keeps items h =
-      let here : Finds (net_of before) (entry_of before) before.hops (record_trees items) old =
-      subst (λ (n : Network). Finds n (entry_of before) before.hops (record_trees items) old) (sym h.net_is)
-      (subst (λ (e : Entry). Finds net e before.hops (record_trees items) old) (sym h.entry_is)
-      (subst (λ (k : ℕ). Finds net i k (record_trees items) old) (sym h.hops_is) h.finds)) in
-      let more = keeps items h.counted here in
-      record {
+      let xs = map handed_tree items in
+      let more = xs ++ handed_tree item ∷ [] in
+      let here : Finds (net_of before) (entry_of before) before.hops xs old =
+      subst (λ (n : Network). Finds n (entry_of before) before.hops xs old) (sym h.net_is)
+      (subst (λ (e : Entry). Finds net e before.hops xs old) (sym h.entry_is)
+      (subst (λ (k : ℕ). Finds net i k xs old) (sym h.hops_is) h.finds)) in
+      let next_one = keeps xs h.counted here in
+      subst (IsFindingOf net i hops after new next) (sym (map-append handed_tree items (item ∷ []))) (record {
         net_is = ap net_of same ∙ h.net_is;
         entry_is = ap entry_of same ∙ h.entry_is;
         hops_is = ap (λ (s : Subject). s.hops) same ∙ h.hops_is;
-        counted = more.0;
+        counted = next_one.0;
         finds =
-            subst (λ (n : Network). Finds n i hops (record_trees (items ++ item ∷ [])) new) h.net_is
-            (subst (λ (e : Entry). Finds (net_of before) e hops (record_trees (items ++ item ∷ [])) new) h.entry_is
-            (subst (λ (k : ℕ). Finds (net_of before) (entry_of before) k (record_trees (items ++ item ∷ [])) new) h.hops_is more.1));
-      }
+            subst (λ (n : Network). Finds n i hops more new) h.net_is
+            (subst (λ (e : Entry). Finds (net_of before) e hops more new) h.entry_is
+            (subst (λ (k : ℕ). Finds (net_of before) (entry_of before) k more new) h.hops_is next_one.1));
+      })

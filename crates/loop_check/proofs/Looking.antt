@@ -29,7 +29,7 @@ module _ (c : SymCondition) (port : Place) (earlier : List Arrival) (end' : Arri
   abbrev HasWhy : Arrival → Type 0
   HasWhy a = a.0 ≡ end'.0 → (why : Why) × IsWhy (visit_of a.1) (visit_of end'.1) c why
 
-  -- so many arrivals were looked at, these visits differ, and these states are left
+  -- this many arrivals were looked at, these visits differ, and these states are left
   pub record Looked (k : ℕ) (differs : List Differ) (left : List Symbolic) : Type 0 where
     pub seen : AreSeen port (drop k earlier) left
     pub sooner : AllByRecursion HasWhy (take k earlier)

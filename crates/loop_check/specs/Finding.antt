@@ -6,10 +6,8 @@ use Rattle.sefl_meaning.specs.declared.walk.End.{End}
 use Rattle.sefl_meaning.specs.declared.walk.End.TheVariants.{Stopped, Delivered, Failed, Cut}
 use Rattle.sefl_meaning.specs.declared.walk.Place.{Place}
 use Rattle.sefl_meaning.specs.Routes.{places_on}
-use Rattle.path_records.specs.declared.records.Record.{Record}
 use Rattle.exact_records.specs.Packets.{IsExplored}
 use Rattle.exact_records.specs.Records.{HasMeaning, RecordTree, SymStart, condition_on, decisions_of, path, pruned, unexplored}
-use Rattle.exact_records.specs.View.{record_trees}
 use Rattle.path_questions.specs.Deciding.{entry_of, net_of}
 use Rattle.path_questions.specs.declared.subject.Subject.{Subject}
 use Rattle.loop_meaning.specs.declared.answer.LoopAnswer.{LoopAnswer}
@@ -72,12 +70,12 @@ numbered number None = []
 numbered number (Some answer) = (number, answer) ∷ []
 
 -- of this subject it keeps what is found of these records
-pub record IsFindingOf (net : Network) (i : Entry) (hops : ℕ) (subject : Subject) (found : List (ℕ × LoopAnswer)) (count : ℕ) (items : List Record) : Type 0 where
+pub record IsFindingOf (net : Network) (i : Entry) (hops : ℕ) (subject : Subject) (found : List (ℕ × LoopAnswer)) (count : ℕ) (xs : List RecordTree) : Type 0 where
   pub net_is : net_of subject ≡ net
   pub entry_is : entry_of subject ≡ i
   pub hops_is : subject.hops ≡ hops
-  pub counted : count ≡ length items
-  pub finds : AreFound (IsAnswerTo net i hops) 0 (record_trees items) found
+  pub counted : count ≡ length xs
+  pub finds : AreFound (IsAnswerTo net i hops) 0 xs found
 
 module _ (net : Network) (i : Entry) (hops : ℕ) where
   -- an answer of a path that is cut, or None of another record
@@ -85,6 +83,6 @@ module _ (net : Network) (i : Entry) (hops : ℕ) where
   SaysIfCut x None = IsCutRecord x → ⊥
   SaysIfCut x (Some answer) = IsCutRecord x × IsAnswerTo net i hops x answer
 
--- an injection without fields, of which nobody asks
+-- an injection without fields; nobody asks about it
 abbrev pub no_entry : Entry
 no_entry = record { own = record { node = []; port = 0; tags = []; fields = []; tests = [] }; node = record { 0 = 0 } }

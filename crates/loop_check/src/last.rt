@@ -129,7 +129,8 @@ fn compare_values(
     later: &[&Term],
 ) -> Result<Differing, NoMemory>
     requires base { IfSome base (λ b. IsBaseOf state.now.condition b.now) }
-    requires typed { AllByRecursion (λ p. IsTyped state.now.condition.widths (compared Ne p.0 p.1)) (paired (terms_of earlier.now) (terms_of later.now)) }
+    requires typed { AllByRecursion (λ p. IsTyped state.now.condition.widths (compared Ne p.0 p.1))
+        (paired (terms_of earlier.now) (terms_of later.now)) }
     ensures { IfOk result (FirstTells (map (difference (condition_seen state.now)) (paired (terms_of earlier.now) (terms_of later.now)))) }
 {
     let count = earlier.len().min(later.len());

@@ -43,7 +43,8 @@ fn answer_at(
     states: &[SymState],
 ) -> Result<LoopAnswer, NoMemory>
     requires { HaveFields states.now }
-    ensures { IfOk result (λ answer. (c : SymCondition) (earlier : List Arrival) (last : Arrival) → map (λ (a : Arrival). a.0) earlier ≡ before.now
+    ensures { IfOk result (λ answer. (c : SymCondition) (earlier : List Arrival) (last : Arrival)
+        → map (λ (a : Arrival). a.0) earlier ≡ before.now
         → last.0 ≡ port → AreSeenTo port c earlier last states.now → IsAnswerOn c last earlier answer) }
 {
     let Some((end, visits)) = states.split_last() else {
@@ -83,7 +84,7 @@ pub(crate) fn answer_of(
 }
 
 /// What is found of a path that is cut: the first earlier visit of its last port that does not differ from the last one, or why each differs.
-/// The record is one of an exploration of the net from the injection, with so many hops.
+/// The record is one of an exploration of the net from the injection, with `hops` hops.
 pub fn loop_of(
     alloc: Global,
     net: &Net,

@@ -45,7 +45,8 @@ pub(crate) fn answer_from(
 ) -> Result<LoopAnswer, NoMemory>
     requires last { IsLast last.now }
     requires start { AllByRecursion (AreOfOneStart last.now.state.now) visits.now }
-    ensures { IfOk result (λ answer. (earlier : List Arrival) (end : Arrival) → map (λ (a : Arrival). a.0) earlier ≡ before.now → end.0 ≡ port
+    ensures { IfOk result (λ answer. (earlier : List Arrival) (end : Arrival)
+        → map (λ (a : Arrival). a.0) earlier ≡ before.now → end.0 ≡ port
         → visit_of end.1 ≡ held_of last.now.state.now → AreSeen port earlier visits.now
         → IsAnswerOn (condition_seen last.now.state.now) end earlier answer) }
 {

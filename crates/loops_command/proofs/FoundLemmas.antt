@@ -1,16 +1,17 @@
--- From what a receiver finds to the loops of a job, and what of it is written.
-use Rattle.std.proofs.Common.{◌≡◌, ◌∙◌, ◌+◌, ◌<◌, ℕ, List, [], ◌∷◌, ◌++◌, length, drop, get_or, refl, sym, ap, subst, append_assoc, arith, Ok}
+-- From what an observer finds to the loops of a job, and what of it is written.
+use Rattle.std.proofs.Common.{◌≡◌, ◌∙◌, ◌+◌, ◌<◌, ℕ, List, [], ◌∷◌, ◌++◌, length, map, drop, get_or, refl, sym, ap, subst, append_assoc, arith, Ok}
 use Rattle.std.proofs.lemmas.List.{drop_more}
 use Rattle.net_check.specs.Network.{Network, Entry}
-use Rattle.path_records.specs.declared.records.Record.{Record}
 use Rattle.exact_records.specs.Packets.{AreExactFor}
 use Rattle.exact_records.specs.Records.{RecordTree}
-use Rattle.exact_records.specs.View.{record_trees}
 use Rattle.path_exec.specs.declared.exploration.Ended.{Ended}
 use Rattle.path_exec.specs.declared.exploration.Ended.TheVariants as ended
+use Rattle.path_exec.specs.Handing.{Handed}
 use Rattle.path_exec.specs.Receiving.{Receiving}
 use Rattle.path_questions.specs.declared.subject.Subject.{Subject}
-use Rattle.symbolic_engine.specs.Exploring.{ExploredFor}
+use Rattle.symbolic_engine.specs.declared.found.Found.{Found}
+use Rattle.symbolic_engine.specs.Exploring.{ObservedFor}
+use Rattle.symbolic_engine.specs.Finds.{handed_tree}
 use Rattle.loop_meaning.specs.declared.answer.LoopAnswer.{LoopAnswer}
 use Rattle.loop_check.specs.Finding.{AreFound, AreRight, IsAnswerTo, IsFindingOf}
 use Rattle.ask_command.specs.Answering.{ending_of}
@@ -36,22 +37,22 @@ module _ (found : List Answered) (k : ℕ) (f : Answered) (less : k < length fou
 
 module _ (net : Network) (i : Entry) (hops limit : ℕ)
     (laws : (records : List RecordTree) (found : List Answered) → AreExactFor net i hops limit records → AreFound (IsAnswerTo net i hops) 0 records found → AreRight net i hops 0 records found) where
-  -- an exploration over a receiver that finds loops
-  loops_found : (E : Type 0) (m : Receiving Record) (subject : Subject) (found : List Answered) (count : ℕ)
-      → ((items : List Record) → m.StandsFor items → IsFindingOf net i hops subject found count items)
-      → m.stops ≡ 0 → (before after : ℕ) (how : Ended) → ExploredFor net i hops {E = E} limit 0 m before after (Ok how)
+  -- an exploration shown to an observer that finds loops
+  loops_found : (E : Type 0) (m : Receiving (Handed Found)) (subject : Subject) (found : List Answered) (count : ℕ)
+      → ((items : List (Handed Found)) → m.StandsFor items → IsFindingOf net i hops subject found count (map handed_tree items))
+      → m.stops ≡ 0 → (before after : ℕ) (how : Ended) → ObservedFor net i hops {E = E} limit 0 m before after (Ok how)
       → AreLoops hops limit net i (ending_of how) found
   loops_found E m subject found count stands none before after ended.Whole h = record {
-    records = record_trees h.items;
+    records = map handed_tree h.items;
     exact = h.exact;
     ends = h.tried;
-    right = laws (record_trees h.items) found h.exact (stands h.items h.stands).finds;
+    right = laws (map handed_tree h.items) found h.exact (stands h.items h.stands).finds;
   }
   loops_found E m subject found count stands none before after ended.Partial h = record {
-    records = record_trees h.items;
+    records = map handed_tree h.items;
     exact = h.exact;
     ends = h.untried;
-    right = laws (record_trees h.items) found h.exact (stands h.items h.stands).finds;
+    right = laws (map handed_tree h.items) found h.exact (stands h.items h.stands).finds;
   }
   loops_found E m subject found count stands none before after ended.Stopped h =
       let bad : ⊥ = (let c = h.cause in omega (arith, c, none)) in absurd bad
@@ -59,12 +60,12 @@ module _ (net : Network) (i : Entry) (hops limit : ℕ)
 -- the same of an exploration of the net, the injection and the hops that are asked about
 pub loops_of_own : (E : Type 0) (net own : Network) (i its : Entry) (hops h limit : ℕ)
     → ((records : List RecordTree) (found : List Answered) → AreExactFor net i hops limit records → AreFound (IsAnswerTo net i hops) 0 records found → AreRight net i hops 0 records found)
-    → own ≡ net → its ≡ i → h ≡ hops → (m : Receiving Record) (subject : Subject) (found : List Answered) (count : ℕ)
-    → ((items : List Record) → m.StandsFor items → IsFindingOf net i hops subject found count items)
-    → m.stops ≡ 0 → (before after : ℕ) (how : Ended) → ExploredFor own its h {E = E} limit 0 m before after (Ok how)
+    → own ≡ net → its ≡ i → h ≡ hops → (m : Receiving (Handed Found)) (subject : Subject) (found : List Answered) (count : ℕ)
+    → ((items : List (Handed Found)) → m.StandsFor items → IsFindingOf net i hops subject found count (map handed_tree items))
+    → m.stops ≡ 0 → (before after : ℕ) (how : Ended) → ObservedFor own its h {E = E} limit 0 m before after (Ok how)
     → AreLoops hops limit net i (ending_of how) found
 loops_of_own E net own i its hops h limit laws a b e m subject found count stands none before after how explored =
     loops_found net i hops limit laws E m subject found count stands none before after how
-    (subst (λ (k : ℕ). ExploredFor net i k {E = E} limit 0 m before after (Ok how)) e
-    (subst (λ (x : Entry). ExploredFor net x h {E = E} limit 0 m before after (Ok how)) b
-    (subst (λ (n : Network). ExploredFor n its h {E = E} limit 0 m before after (Ok how)) a explored)))
+    (subst (λ (k : ℕ). ObservedFor net i k {E = E} limit 0 m before after (Ok how)) e
+    (subst (λ (x : Entry). ObservedFor net x h {E = E} limit 0 m before after (Ok how)) b
+    (subst (λ (n : Network). ObservedFor n its h {E = E} limit 0 m before after (Ok how)) a explored)))

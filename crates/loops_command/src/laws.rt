@@ -11,7 +11,8 @@ use hop_bounds::laws::uncut_records_go_beyond;
 
 /// Where `loops` ends with Done and finds no path that is cut, each packet has the same walks under every larger bound of hops.
 pub fn without_cut_paths_walks_stay()
-    ensures { (hops limit : ℕ) (net : Network) (i : Entry) (detail : OpenPathsOf) (whole : List ℕ) → (t : IsLoopsText hops limit net i detail Done whole)
+    ensures { (hops limit : ℕ) (net : Network) (i : Entry) (detail : OpenPathsOf) (whole : List ℕ)
+        → (t : IsLoopsText hops limit net i detail Done whole)
         → t.found ≡ [] → (more : ℕ) → hops ≤ more → HasSameWalks net i hops more }
 {
     uncut_records_go_beyond();

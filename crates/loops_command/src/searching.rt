@@ -21,9 +21,9 @@ use sn_width::{NoMemory, Steps};
 use std::alloc::Global;
 use std::marker::{Brand, PhantomData};
 use std::sync::ledger::{Blank, Ledger};
-use symbolic_engine::explore_into;
+use symbolic_engine::observe;
 
-/// How the text ends where an exploration ended so. A receiver that finds loops never stops.
+/// How the text ends where an exploration ended so. An observer that finds loops never stops.
 fn ending_of(ended: Ended) -> Ending
     requires { ended ≡ Stopped → ⊥ }
     ensures { result ≡ ending_of ended }
@@ -61,7 +61,7 @@ fn search_with<M: Mark, L: Ledger>(
         count: 0,
         of: PhantomData,
     };
-    let ended = explore_into(
+    let ended = observe(
         alloc,
         subject.net,
         subject.injection,

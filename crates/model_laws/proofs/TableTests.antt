@@ -29,7 +29,7 @@ last_tests : (kind : TableKind) (ports : ℕ) → OnlyTests (destination kind) (
 last_tests Mac ports = (tt, tt)
 last_tests Fib ports = (tt, tt)
 
--- code of which each port's only tests does so at every port
+-- where the code of each port only tests it, the code at every port does so
 codes_test : (d : Target) (codes : List PortTree) → AllByRecursion (λ p. OnlyTests d p.code) codes → (side : Side) (port : ℕ)
     → OnlyTests d (unwrap_or (option_map (λ p. p.code) (find (is_code_of side port) codes)) no_code)
 codes_test d [] all side port = tt

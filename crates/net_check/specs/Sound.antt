@@ -13,7 +13,7 @@ use Rattle.net_check.specs.Network.{Network, Entry}
 abbrev pub IsSound : JobTree → Type 0
 IsSound j = refusal j ≡ None
 
--- ids of so many names that ascend strictly, from this number on
+-- ids of this many names that ascend strictly, from this number on
 abbrev pub AreIdsFrom : ℕ → ℕ → List NameId → Type 0
 AreIdsFrom count first [] = Unit {0}
 AreIdsFrom count first (id ∷ ids) = (first ≤ id.0) × (id.0 < count) × AreIdsFrom count (suc id.0) ids

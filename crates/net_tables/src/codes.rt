@@ -66,7 +66,7 @@ fn enter_node(codes: &mut Codes, id: NodeId, site: u32, node: &NodeDecl) -> Resu
     }
 }
 
-/// Enters codes of a node, the first of which has this site; the site behind them.
+/// Enters codes of a node, where the first has this site; the site behind them.
 fn enter_ports(
     codes: &mut Codes,
     id: NodeId,

@@ -18,7 +18,7 @@ use std::marker::Brand;
 use sym_state::SymState;
 use symbolic_engine::{Explorer, Origin};
 
-/// Confirms that each record has its own meaning, of a net and an injection with so many hops: the counts of the records,
+/// Confirms that each record has its own meaning, of a net and an injection with `hops` hops: the counts of the records,
 /// or the first that has not its meaning, by its first broken part. It speaks of each record by itself: not of whether all
 /// packets are shown, and not of whether values are the least. Where all are confirmed, the values of each path are a packet
 /// that takes it, and no packet takes a refuted side.

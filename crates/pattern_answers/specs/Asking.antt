@@ -20,7 +20,7 @@ pub record IsStep {S : Type 0} (told : S → PatternsTold) (find_gives : S → L
 abbrev pub id_of : ℕ → NameId
 id_of id = record { 0 = id }
 
--- The pattern is asked for each of these names once, in order, the first of which has this id. It finds those with
+-- The pattern is asked for each of these names once, in order, where the first has this id. It finds those with
 -- these ids, and the object goes from the first state to the last.
 pub data AsksNames {S : Type 0} (step : S → List ℕ → List ℕ → Found → S → Type 0) (pattern : List ℕ) : S → ℕ → List (List ℕ) → List NameId → S → Type 0 where
   no_names : (s : S) (id : ℕ) → AsksNames step pattern s id [] [] s

@@ -1,11 +1,8 @@
 -- Questions that have their hit.
-use Rattle.std.proofs.Common.{◌≡◌, ◌∙◌, ◌+◌, ℕ, true, List, [], ◌∷◌, ◌++◌, length, length-append, ap, subst, sym, true≢false}
-use Rattle.std.proofs.lemmas.List.{map-append}
+use Rattle.std.proofs.Common.{◌≡◌, ◌∙◌, ◌+◌, ℕ, true, List, [], ◌∷◌, ◌++◌, length, length-append, ap, sym, true≢false}
 use Rattle.std.specs.List.{list_all}
 use Rattle.net_check.specs.Network.{Network, Entry}
-use Rattle.path_records.specs.declared.records.Record.{Record}
 use Rattle.exact_records.specs.Records.{RecordTree}
-use Rattle.exact_records.specs.View.{record_tree, record_trees}
 use Rattle.question_meaning.specs.Telling.{saying}
 use Rattle.path_questions.specs.Asked.{question_seen}
 use Rattle.path_questions.specs.Known.{is_found}
@@ -17,7 +14,7 @@ use Rattle.queries.proofs.KeptLemmas.{stays_found}
 
 module _ (net : Network) (i : Entry) (hops : ℕ) where
   -- where each question has its hit, one record more changes nothing
-  all_stay : (rs : List RecordTree) (r : RecordTree) (qs : List code.Question) (ks : List Kept) → list_all is_found ks ≡ true → AreKept net i hops rs qs ks
+  pub all_stay : (rs : List RecordTree) (r : RecordTree) (qs : List code.Question) (ks : List Kept) → list_all is_found ks ≡ true → AreKept net i hops rs qs ks
       → AreKept net i hops (rs ++ r ∷ []) qs ks
   all_stay rs r [] [] f h = tt
   all_stay rs r [] (k ∷ ks) f h = absurd h
@@ -26,12 +23,7 @@ module _ (net : Network) (i : Entry) (hops : ℕ) where
       (stays_found (saying net i hops (question_seen q)) rs r n values h.0, all_stay rs r qs ks f h.1)
   all_stay rs r (q ∷ qs) (LeftOpen numbers ∷ ks) f h = absurd (true≢false (sym f))
 
-  pub all_still_found : (items : List Record) (item : Record) (qs : List code.Question) (ks : List Kept) → list_all is_found ks ≡ true
-      → AreKept net i hops (record_trees items) qs ks → AreKept net i hops (record_trees (items ++ item ∷ [])) qs ks
-  all_still_found items item qs ks f h =
-      subst (λ rs. AreKept net i hops rs qs ks) (sym (map-append record_tree items (item ∷ []))) (all_stay (record_trees items) (record_tree item) qs ks f h)
-
 -- one record more counts one more
-pub one_longer : (items : List Record) (item : Record) (count next : ℕ) → count ≡ length items → next ≡ count + 1 → next ≡ length (items ++ item ∷ [])
+pub one_longer : {A : Type 0} (items : List A) (item : A) (count next : ℕ) → count ≡ length items → next ≡ count + 1 → next ≡ length (items ++ item ∷ [])
 one_longer items item count next counted more =
     more ∙ ap (λ n. n + 1) counted ∙ sym (length-append items (item ∷ []))

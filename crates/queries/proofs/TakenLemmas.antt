@@ -1,11 +1,12 @@
 -- Records that are taken for all questions.
-use Rattle.std.proofs.Common.{◌≡◌, ◌∙◌, ℕ, ◌+◌, Bool, false, List, [], ◌∷◌, ◌++◌, length, sym, ap, subst}
-use Rattle.std.proofs.lemmas.List.{length-map, map-append}
+use Rattle.std.proofs.Common.{◌≡◌, ◌∙◌, ℕ, ◌+◌, Bool, false, List, [], ◌∷◌, ◌++◌, length, map, sym, ap, subst}
+use Rattle.std.proofs.lemmas.List.{map-append}
 use Rattle.net_check.specs.Network.{Network, Entry}
 use Rattle.net_check.specs.Sound.{AreOfOneJob}
-use Rattle.path_records.specs.declared.records.Record.{Record}
 use Rattle.exact_records.specs.Records.{RecordTree}
-use Rattle.exact_records.specs.View.{record_tree, record_trees}
+use Rattle.path_exec.specs.Handing.{Handed}
+use Rattle.symbolic_engine.specs.declared.found.Found.{Found}
+use Rattle.symbolic_engine.specs.Finds.{handed_tree}
 use Rattle.path_questions.specs.Deciding.{entry_of, net_of}
 use Rattle.path_questions.specs.declared.kept.Kept.{Kept}
 use Rattle.path_questions.specs.declared.question.Question.{Question}
@@ -15,20 +16,13 @@ use Rattle.queries.specs.Judged.{IsSeenOf}
 use Rattle.queries.specs.declared.seen.Seen.{Seen}
 use Rattle.queries.proofs.FoundLemmas.{one_longer}
 
-pub trees_more : (items : List Record) (item : Record) → record_trees (items ++ item ∷ []) ≡ record_trees items ++ record_tree item ∷ []
-trees_more items item = map-append record_tree items (item ∷ [])
-
 module _ (net : Network) (i : Entry) (hops : ℕ) (qs : List Question) where
   -- one record more, for each question
-  pub taken : (item : Record) (seen : Seen) (count next : ℕ) (old new : List Kept) → next ≡ count + 1 → IsSeenOf net i hops (record_tree item) seen
-      → ((xs : List RecordTree) (x : RecordTree) → count ≡ length xs → IsSeenOf net i hops x seen → AreKept net i hops xs qs old → AreKept net i hops (xs ++ x ∷ []) qs new)
-      → (items : List Record) → count ≡ length items → AreKept net i hops (record_trees items) qs old
-      → (next ≡ length (items ++ item ∷ [])) × AreKept net i hops (record_trees (items ++ item ∷ [])) qs new
-  taken item seen count next old new h s f items e k = (
-    one_longer items item count next e h,
-    subst (λ xs. AreKept net i hops xs qs new) (sym (trees_more items item))
-        (f (record_trees items) (record_tree item) (e ∙ sym (length-map items record_tree)) s k),
-  )
+  pub taken : (x : RecordTree) (seen : Seen) (count next : ℕ) (old new : List Kept) → next ≡ count + 1 → IsSeenOf net i hops x seen
+      → ((xs : List RecordTree) (y : RecordTree) → count ≡ length xs → IsSeenOf net i hops y seen → AreKept net i hops xs qs old → AreKept net i hops (xs ++ y ∷ []) qs new)
+      → (xs : List RecordTree) → count ≡ length xs → AreKept net i hops xs qs old
+      → (next ≡ length (xs ++ x ∷ [])) × AreKept net i hops (xs ++ x ∷ []) qs new
+  taken x seen count next old new h s f xs e k = (one_longer xs x count next e h, f xs x e s k)
 
   -- what is kept of a subject and questions that are these
   here : (n : Network) (e : Entry) (k : ℕ) (asked : List Question) (xs : List RecordTree) (ks : List Kept) → n ≡ net → e ≡ i → k ≡ hops → asked ≡ qs
@@ -56,26 +50,28 @@ module _ (net : Network) (i : Entry) (hops : ℕ) (qs : List Question) where
       one_each = ap length same.questions ∙ (h.one_each ∙ sym e);
     }
 
-    pub stands_more : (item : Record) (old new : List Kept) (count next : ℕ) → failed ≡ false
-        → ((items : List Record) → count ≡ length items → AreKept (net_of before) (entry_of before) before.hops (record_trees items) asked old
-        → (next ≡ length (items ++ item ∷ [])) × AreKept (net_of before) (entry_of before) before.hops (record_trees (items ++ item ∷ [])) asked new)
-        → (items : List Record) → IsAskingOf net i hops qs before asked old count failed items → IsAskingOf net i hops qs after now new next still (items ++ item ∷ [])
+    -- what is found behind decisions is one record more
+    pub stands_more : (item : Handed Found) (old new : List Kept) (count next : ℕ) → failed ≡ false
+        → ((xs : List RecordTree) → count ≡ length xs → AreKept (net_of before) (entry_of before) before.hops xs asked old
+        → (next ≡ length (xs ++ handed_tree item ∷ [])) × AreKept (net_of before) (entry_of before) before.hops (xs ++ handed_tree item ∷ []) asked new)
+        → (items : List (Handed Found)) → IsAskingOf net i hops qs before asked old count failed (map handed_tree items)
+        → IsAskingOf net i hops qs after now new next still (map handed_tree (items ++ item ∷ []))
     stands_more item old new count next off f items h =
-        let k = f items (h.counted off)
-        (here (net_of before) (entry_of before) before.hops asked (record_trees items) old h.net_is h.entry_is h.hops_is h.questions_are (h.tells off)) in
-        record {
+        let xs = map handed_tree items in
+        let k = f xs (h.counted off) (here (net_of before) (entry_of before) before.hops asked xs old h.net_is h.entry_is h.hops_is h.questions_are (h.tells off)) in
+        subst (IsAskingOf net i hops qs after now new next still) (sym (map-append handed_tree items (item ∷ []))) (record {
           net_is = ap net_of same.subject ∙ h.net_is;
           entry_is = ap entry_of same.subject ∙ h.entry_is;
           hops_is = ap (λ (s : Subject). s.hops) same.subject ∙ h.hops_is;
           questions_are = same.questions ∙ h.questions_are;
           counted = λ on. k.0;
-          tells = λ on. there (net_of before) (entry_of before) before.hops asked (record_trees (items ++ item ∷ [])) new h.net_is h.entry_is h.hops_is h.questions_are k.1;
-        }
+          tells = λ on. there (net_of before) (entry_of before) before.hops asked (xs ++ handed_tree item ∷ []) new h.net_is h.entry_is h.hops_is h.questions_are k.1;
+        })
 
     -- where memory ended, nothing is owed
-    pub stands_failed : (old new : List Kept) (count next : ℕ) (items : List Record) → IsAskingOf net i hops qs before asked old count failed items
-        → (ended : Bool) → (ended ≡ false → ⊥) → IsAskingOf net i hops qs after now new next ended items
-    stands_failed old new count next items h ended never = record {
+    pub stands_failed : (old new : List Kept) (count next : ℕ) (xs : List RecordTree) → IsAskingOf net i hops qs before asked old count failed xs
+        → (ended : Bool) → (ended ≡ false → ⊥) → IsAskingOf net i hops qs after now new next ended xs
+    stands_failed old new count next xs h ended never = record {
       net_is = ap net_of same.subject ∙ h.net_is;
       entry_is = ap entry_of same.subject ∙ h.entry_is;
       hops_is = ap (λ (s : Subject). s.hops) same.subject ∙ h.hops_is;

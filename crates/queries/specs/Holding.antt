@@ -3,9 +3,7 @@ use Rattle.std.specs.Prelude.{ℕ, zero, suc, ◌≡◌, Bool, false, List, [], 
 use Rattle.std.specs.List.{AllByRecursion}
 use Rattle.net_check.specs.Network.{Network, Entry}
 use Rattle.net_check.specs.Sound.{AreOfOneJob}
-use Rattle.path_records.specs.declared.records.Record.{Record}
 use Rattle.exact_records.specs.Records.{RecordTree}
-use Rattle.exact_records.specs.View.{record_trees}
 use Rattle.question_meaning.specs.Laws.{IsOfInjection}
 use Rattle.question_meaning.specs.Questions.{Question}
 use Rattle.question_meaning.specs.Telling.{IsKept, Outcome, found, left_open, saying}
@@ -58,13 +56,13 @@ pub record IsReady (subject : Subject) (questions : List code.Question) (kept : 
 
 -- of this subject and these questions it keeps what these records tell, unless memory ended
 pub record IsAskingOf (net : Network) (i : Entry) (hops : ℕ) (qs : List code.Question) (subject : Subject) (questions : List code.Question) (kept : List Kept)
-    (count : ℕ) (failed : Bool) (items : List Record) : Type 0 where
+    (count : ℕ) (failed : Bool) (xs : List RecordTree) : Type 0 where
   pub net_is : net_of subject ≡ net
   pub entry_is : entry_of subject ≡ i
   pub hops_is : subject.hops ≡ hops
   pub questions_are : questions ≡ qs
-  pub counted : failed ≡ false → count ≡ length items
-  pub tells : failed ≡ false → AreKept net i hops (record_trees items) qs kept
+  pub counted : failed ≡ false → count ≡ length xs
+  pub tells : failed ≡ false → AreKept net i hops xs qs kept
 
 -- only what is kept and counted has changed
 pub record IsSameAsking (before after : Subject) (asked now : List code.Question) (failed still : Bool) : Type 0 where
@@ -72,6 +70,6 @@ pub record IsSameAsking (before after : Subject) (asked now : List code.Question
   pub questions : now ≡ asked
   pub failed_is : still ≡ failed
 
--- an injection without fields, of which nobody asks
+-- an injection without fields; nobody asks about it
 abbrev pub no_entry : Entry
 no_entry = record { own = record { node = []; port = 0; tags = []; fields = []; tests = [] }; node = record { 0 = 0 } }

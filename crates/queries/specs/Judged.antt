@@ -30,6 +30,10 @@ module _ (net : Network) (i : Entry) (hops : ℕ) where
   IsSeenOf x Untried = IsUnexplored x
   IsSeenOf x Nothing = (q : Question) → RulesItOut net i hops q x
 
+  -- the path of these decisions, as questions see it
+  abbrev pub IsPathSeen : List Decision → Seen → Type 0
+  IsPathSeen ds seen = (x : RecordTree) → IsPathWith ds x → IsSeenOf x seen
+
   -- what a record says of a question
   abbrev pub IsSaid : Question → RecordTree → Judged → Type 0
   IsSaid q x (Hit values) = ShowsHit net i hops q x values

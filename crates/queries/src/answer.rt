@@ -10,7 +10,7 @@ use refutation_check::Listed;
 use sn_width::{NoMemory, Num};
 use std::alloc::Global;
 
-/// A path that shows the answer, by the number of its record, and values of a packet one of whose walks has its decisions.
+/// A path that shows the answer, by the number of its record, and values of a packet with a walk that has the path's decisions.
 #[derive(Drop)]
 pub struct Hit {
     pub number: u64,

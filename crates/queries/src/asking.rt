@@ -1,21 +1,22 @@
 //! All questions of an exploration.
 
 ghost use Rattle.std.specs.Prelude.{◌≡◌, ◌++◌, ◌∷◌, [], IfOk, List, length};
-ghost use Rattle.exact_records.specs.View.{record_trees};
-ghost use Rattle.path_records.specs.declared.records.Record.{Record as RecordOf};
+ghost use Rattle.exact_records.specs.Records.{RecordTree};
 ghost use Rattle.path_questions.specs.Deciding.{entry_of, net_of};
 ghost use Rattle.queries.specs.Holding.{AreKept, IsReady, IsSameAsking};
+ghost use Rattle.symbolic_engine.specs.Finds.{found_tree};
 
 use crate::keeping::keep_all;
-use crate::seen::see;
-use path_exec::{Receiver, Took};
+use crate::seen::see_found;
+use path_exec::{Observer, Took};
 use path_questions::{Kept, Question, Subject, are_found};
-use path_records::Record;
+use sefl_meaning::Decision;
 use sn_width::NoMemory;
 use std::alloc::Global;
 use std::marker::{Brand, PhantomData};
+use symbolic_engine::Found;
 
-/// What is asked: questions about the walks through a net from an injection, with so many hops.
+/// What is asked: questions about the walks through a net from an injection, with `hops` hops.
 pub trait Mark {
     ghost use Rattle.std.specs.Prelude.{ℕ, List};
     ghost use Rattle.net_check.specs.Network.{Entry, Network};
@@ -44,8 +45,8 @@ impl Mark for Brand {
     ghost questions = { [] };
 }
 
-/// Takes records into account as they are found. It keeps none of them, but the first hit of each question, or the numbers of
-/// the records that leave it open.
+/// Takes what is found into account, and makes no record of it. It keeps the first hit of each question, or the numbers of the records
+/// that leave it open.
 #[derive(Drop)]
 pub struct Asking<'a, M: Mark> {
     pub alloc: Global,
@@ -60,15 +61,18 @@ pub struct Asking<'a, M: Mark> {
 }
 
 impl<M: Mark> Asking<'_, M> {
-    /// Takes one record more into account for each question. Where each has its hit no path is followed any more.
-    pub(crate) fn keep(&mut self, item: &Record) -> Result<(), NoMemory>
+    /// Takes what was found behind these decisions into account for each question. Where each has its hit no path is followed any more.
+    pub(crate) fn keep(&mut self, found: &Found, decisions: &[Decision]) -> Result<(), NoMemory>
         requires { IsReady self.old.subject self.old.questions.items self.old.kept.items }
-        ensures same { IsSameAsking self.old.subject self.new.subject self.old.questions.items self.new.questions.items self.old.failed self.new.failed }
+        ensures same { IsSameAsking self.old.subject self.new.subject self.old.questions.items self.new.questions.items
+            self.old.failed self.new.failed }
         ensures one_each { length self.new.kept.items ≡ length self.old.kept.items }
-        ensures keeps { IfOk result (λ done. (items : List RecordOf) → self.old.count ≡ length items
-            → AreKept (net_of self.old.subject) (entry_of self.old.subject) self.old.subject.hops (record_trees items) self.old.questions.items self.old.kept.items
-            → (self.new.count ≡ length (items ++ item.now ∷ []))
-            × AreKept (net_of self.old.subject) (entry_of self.old.subject) self.old.subject.hops (record_trees (items ++ item.now ∷ [])) self.old.questions.items self.new.kept.items) }
+        ensures keeps { IfOk result (λ done. (xs : List RecordTree) → self.old.count ≡ length xs
+            → AreKept (net_of self.old.subject) (entry_of self.old.subject) self.old.subject.hops xs
+            self.old.questions.items self.old.kept.items
+            → (self.new.count ≡ length (xs ++ found_tree found.now decisions.now ∷ []))
+            × AreKept (net_of self.old.subject) (entry_of self.old.subject) self.old.subject.hops
+            (xs ++ found_tree found.now decisions.now ∷ []) self.old.questions.items self.new.kept.items) }
     {
         let Some(next) = self.count.checked_add(1) else {
             return Err(NoMemory);
@@ -77,7 +81,14 @@ impl<M: Mark> Asking<'_, M> {
             self.count = next;
             return Ok(());
         }
-        let seen = see(self.alloc, &self.subject, &self.questions, &self.kept, item)?;
+        let seen = see_found(
+            self.alloc,
+            &self.subject,
+            &self.questions,
+            &self.kept,
+            found,
+            decisions,
+        )?;
         keep_all(
             self.alloc,
             &self.subject,
@@ -91,31 +102,34 @@ impl<M: Mark> Asking<'_, M> {
     }
 }
 
-impl<M: Mark> Receiver for Asking<'_, M> {
+impl<M: Mark> Observer for Asking<'_, M> {
+    ghost use Rattle.std.specs.Prelude.{map};
+    ghost use Rattle.symbolic_engine.specs.Finds.{handed_tree};
     ghost use Rattle.queries.specs.Holding.{IsAskingOf, IsReady};
 
-    type Item = Record;
+    type Found = Found;
 
     ghost seen = { λ asking. record {
-      StandsFor = IsAskingOf M.net M.entry M.hops M.questions asking.subject asking.questions.items asking.kept.items asking.count asking.failed;
+      StandsFor = λ items. IsAskingOf M.net M.entry M.hops M.questions asking.subject asking.questions.items asking.kept.items asking.count
+          asking.failed (map handed_tree items);
       StoppedIn = λ items. Unit {0};
       stops = 0;
       target = 0;
       Takes = λ item. IsReady asking.subject asking.questions.items asking.kept.items;
     } };
 
-    fn take(&mut self, item: Record) -> Took {
+    fn see(&mut self, found: Found, decisions: &[Decision]) -> Took {
         if self.failed {
-            drop(item);
+            drop(found);
             return Took::NoMemory;
         }
-        match self.keep(&item) {
+        match self.keep(&found, decisions) {
             Ok(()) => {
-                drop(item);
+                drop(found);
                 Took::More
             }
             Err(_) => {
-                drop(item);
+                drop(found);
                 self.failed = true;
                 Took::NoMemory
             }

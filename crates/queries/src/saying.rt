@@ -28,8 +28,10 @@ fn judge_on(
 ) -> Result<Judged, NoMemory>
     requires own { IsOfInjection (net_of subject.now) (entry_of subject.now) (question_seen question.now) }
     requires path { IsPathRun (net_of subject.now) (entry_of subject.now) subject.now.hops run.now }
-    requires states { AreStatesOf (net_of subject.now) (entry_of subject.now) subject.now.hops (question_seen question.now) run.now.decisions.now states.now }
-    ensures { IfOk result (IsJudgedOn (net_of subject.now) (entry_of subject.now) subject.now.hops (question_seen question.now) run.now.decisions.now) }
+    requires states { AreStatesOf (net_of subject.now) (entry_of subject.now) subject.now.hops
+        (question_seen question.now) run.now.decisions.now states.now }
+    ensures { IfOk result (IsJudgedOn (net_of subject.now) (entry_of subject.now) subject.now.hops
+        (question_seen question.now) run.now.decisions.now) }
 {
     the_formulas_of_questions_are_typed();
     judge_states(
@@ -56,7 +58,8 @@ fn judge_at(
     requires path { IsPathRun (net_of subject.now) (entry_of subject.now) subject.now.hops run.now }
     requires stops { AreNoted (net_of subject.now) (entry_of subject.now) subject.now.hops run.now.decisions.now stops.now }
     requires looks { look_of (question_seen question.now) ≡ OnArrivals place }
-    ensures { IfOk result (IsJudgedOn (net_of subject.now) (entry_of subject.now) subject.now.hops (question_seen question.now) run.now.decisions.now) }
+    ensures { IfOk result (IsJudgedOn (net_of subject.now) (entry_of subject.now) subject.now.hops
+        (question_seen question.now) run.now.decisions.now) }
 {
     if let Some(states) = noted_at(stops, place) {
         return judge_on(alloc, subject, question, run, states);
@@ -76,7 +79,8 @@ fn judge_at_end(
     requires own { IsOfInjection (net_of subject.now) (entry_of subject.now) (question_seen question.now) }
     requires path { IsPathRun (net_of subject.now) (entry_of subject.now) subject.now.hops run.now }
     requires looks { look_of (question_seen question.now) ≡ AtEnd place }
-    ensures { IfOk result (IsJudgedOn (net_of subject.now) (entry_of subject.now) subject.now.hops (question_seen question.now) run.now.decisions.now) }
+    ensures { IfOk result (IsJudgedOn (net_of subject.now) (entry_of subject.now) subject.now.hops
+        (question_seen question.now) run.now.decisions.now) }
 {
     let states = state_at_end(alloc, run, place)?;
     judge_on(alloc, subject, question, run, &states)
@@ -94,7 +98,8 @@ fn judge_path(
     requires own { IsOfInjection (net_of subject.now) (entry_of subject.now) (question_seen question.now) }
     requires path { IsPathRun (net_of subject.now) (entry_of subject.now) subject.now.hops run.now }
     requires stops { AreNoted (net_of subject.now) (entry_of subject.now) subject.now.hops run.now.decisions.now stops.now }
-    ensures { IfOk result (IsJudgedOn (net_of subject.now) (entry_of subject.now) subject.now.hops (question_seen question.now) run.now.decisions.now) }
+    ensures { IfOk result (IsJudgedOn (net_of subject.now) (entry_of subject.now) subject.now.hops
+        (question_seen question.now) run.now.decisions.now) }
 {
     match look_of(question) {
         Look::OnArrivals { place } => judge_at(alloc, subject, question, run, stops, place),

@@ -7,7 +7,8 @@ ghost use Rattle.path_questions.specs.Asked.{look_of, question_seen};
 ghost use Rattle.path_questions.specs.Deciding.{entry_of, net_of};
 ghost use Rattle.path_questions.specs.declared.looking.Look.TheVariants.{OnArrivals};
 ghost use Rattle.queries.specs.Paths.{AreNoted, IsPathRun, LeadsSo, SeesPath};
-ghost use Rattle.queries.specs.Judged.{IsSeenOf, IsWellSeen};
+ghost use Rattle.queries.specs.Judged.{IsPathSeen, IsSeenOf, IsWellSeen};
+ghost use Rattle.symbolic_engine.specs.Finds.{found_tree};
 
 use crate::states::{PathRun, Stop, comes_to, end_of, noted_at, states_at};
 use lin_term::Term;
@@ -18,7 +19,7 @@ use sefl_meaning::laws::the_first_closed_decision_is_one;
 use sefl_meaning::{Decision, Place};
 use sn_width::NoMemory;
 use std::alloc::Global;
-use symbolic_engine::{Led, follow};
+use symbolic_engine::{Found, Led, follow};
 use term_values::Formulas;
 
 /// A record, with what questions ask of it.
@@ -73,7 +74,8 @@ fn stops_of(
     requires one_each { length questions.now ≡ length kept.now }
     requires job { AreOfOneJob (net_of subject.now) (entry_of subject.now) }
     requires path { IsPathRun (net_of subject.now) (entry_of subject.now) subject.now.hops run.now }
-    ensures { IfOk result (λ stops. AreNoted (net_of subject.now) (entry_of subject.now) subject.now.hops run.now.decisions.now stops.items) }
+    ensures { IfOk result (λ stops. AreNoted (net_of subject.now) (entry_of subject.now) subject.now.hops
+        run.now.decisions.now stops.items) }
 {
     let mut stops = Vec::new(alloc);
     for i in 0..questions.len() {
@@ -137,8 +139,28 @@ fn followed<'a>(
     }
 }
 
-/// What questions see of a record, of which this is known before it. A path is followed once, and once more for each port where
-/// questions look that have no hit.
+/// What questions see of the path of these decisions, where this is known of them before it. The path is followed once, and once more for
+/// each port where questions look that have no hit.
+fn see_path<'a>(
+    alloc: Global,
+    subject: &Subject<'_>,
+    questions: &[Question<'_>],
+    kept: &[Kept],
+    decisions: &'a [Decision],
+) -> Result<Seen<'a>, NoMemory>
+    requires one_each { length questions.now ≡ length kept.now }
+    requires job { AreOfOneJob (net_of subject.now) (entry_of subject.now) }
+    ensures path { IfOk result (IsWellSeen (net_of subject.now) (entry_of subject.now) subject.now.hops) }
+    ensures seen { IfOk result (IsPathSeen (net_of subject.now) (entry_of subject.now) subject.now.hops decisions.now) }
+{
+    let Some(run) = followed(alloc, subject, decisions)? else {
+        return Ok(Seen::Nothing);
+    };
+    let stops = stops_of(alloc, subject, questions, kept, &run)?;
+    Ok(Seen::Path { run, stops })
+}
+
+/// What questions see of a record, where this is known of them before it.
 pub(crate) fn see<'a>(
     alloc: Global,
     subject: &Subject<'_>,
@@ -152,14 +174,30 @@ pub(crate) fn see<'a>(
     ensures seen { IfOk result (IsSeenOf (net_of subject.now) (entry_of subject.now) subject.now.hops (record_tree item.now)) }
 {
     match item {
-        Record::Path { decisions, .. } => {
-            let Some(run) = followed(alloc, subject, decisions)? else {
-                return Ok(Seen::Nothing);
-            };
-            let stops = stops_of(alloc, subject, questions, kept, &run)?;
-            Ok(Seen::Path { run, stops })
-        }
+        Record::Path { decisions, .. } => see_path(alloc, subject, questions, kept, decisions),
         Record::Pruned { .. } => Ok(Seen::Nothing),
         Record::Unexplored { .. } => Ok(Seen::Untried),
+    }
+}
+
+/// What questions see of what was found behind these decisions, where this is known of them before it.
+pub(crate) fn see_found<'a>(
+    alloc: Global,
+    subject: &Subject<'_>,
+    questions: &[Question<'_>],
+    kept: &[Kept],
+    found: &Found,
+    decisions: &'a [Decision],
+) -> Result<Seen<'a>, NoMemory>
+    requires one_each { length questions.now ≡ length kept.now }
+    requires job { AreOfOneJob (net_of subject.now) (entry_of subject.now) }
+    ensures path { IfOk result (IsWellSeen (net_of subject.now) (entry_of subject.now) subject.now.hops) }
+    ensures seen { IfOk result (IsSeenOf (net_of subject.now) (entry_of subject.now) subject.now.hops
+        (found_tree found.now decisions.now)) }
+{
+    match found {
+        Found::Path { .. } => see_path(alloc, subject, questions, kept, decisions),
+        Found::Pruned { .. } => Ok(Seen::Nothing),
+        Found::Unexplored => Ok(Seen::Untried),
     }
 }

@@ -37,7 +37,8 @@ fn keep_one(
     requires own { IsOfInjection (net_of subject.now) (entry_of subject.now) (question_seen question.now) }
     ensures { IfOk result (λ done. (items : List RecordTree) → number ≡ length items
         → IsKeptOf (net_of subject.now) (entry_of subject.now) subject.now.hops items (question_seen question.now) kept.old
-        → IsKeptOf (net_of subject.now) (entry_of subject.now) subject.now.hops (items ++ record_tree item.now ∷ []) (question_seen question.now) kept.new) }
+        → IsKeptOf (net_of subject.now) (entry_of subject.now) subject.now.hops (items ++ record_tree item.now ∷ [])
+        (question_seen question.now) kept.new) }
 {
     let seen = see(alloc, subject, &[], &[], item)?;
     keep(alloc, subject, question, number, &seen, kept)
@@ -52,7 +53,8 @@ fn told(
 ) -> Result<Kept, NoMemory>
     requires job { AreOfOneJob (net_of subject.now) (entry_of subject.now) }
     requires own { IsOfInjection (net_of subject.now) (entry_of subject.now) (question_seen question.now) }
-    ensures { IfOk result (IsKeptOf (net_of subject.now) (entry_of subject.now) subject.now.hops (record_trees records.now) (question_seen question.now)) }
+    ensures { IfOk result (IsKeptOf (net_of subject.now) (entry_of subject.now) subject.now.hops
+        (record_trees records.now) (question_seen question.now)) }
 {
     let mut number: u64 = 0;
     let mut kept = Kept::LeftOpen {
@@ -68,7 +70,7 @@ fn told(
     Ok(kept)
 }
 
-/// The answer to the question of these words from the records of an exploration of a net and an injection with so many hops; or
+/// The answer to the question of these words from the records of an exploration of a net and an injection with `hops` hops; or
 /// why the words ask none.
 pub fn ask(
     alloc: Global,
@@ -80,7 +82,8 @@ pub fn ask(
 ) -> Result<Answer, AskFault>
     requires job { AreOfOneJob (network net.now) (entry injection.now) }
     requires exact { (limit : ℕ) × AreExactFor (network net.now) (entry injection.now) hops limit (record_trees records.now) }
-    ensures answered { IfOk result (λ answer. IsAnswerTo (network net.now) (entry injection.now) hops (record_trees records.now) (ask_tree words.now) (answer_seen answer)) }
+    ensures answered { IfOk result (λ answer. IsAnswerTo (network net.now) (entry injection.now) hops
+        (record_trees records.now) (ask_tree words.now) (answer_seen answer)) }
     ensures refused { IfErr result (IsFault (network net.now) (entry injection.now) (ask_tree words.now)) }
 {
     kept_outcomes_are_right();

@@ -67,7 +67,8 @@ pub(crate) fn states_at(
 ) -> Result<Vec<SymState>, NoMemory>
     requires job { AreOfOneJob (net_of subject.now) (entry_of subject.now) }
     requires path { IsPathRun (net_of subject.now) (entry_of subject.now) subject.now.hops run.now }
-    ensures { IfOk result (λ states. ArriveAt (net_of subject.now) (entry_of subject.now) subject.now.hops place run.now.decisions.now states.items) }
+    ensures { IfOk result (λ states. ArriveAt (net_of subject.now) (entry_of subject.now) subject.now.hops place
+        run.now.decisions.now states.items) }
 {
     the_first_closed_decision_is_one::<Term, Formulas>();
     if !comes_to(&run.places, place) {

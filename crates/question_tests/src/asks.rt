@@ -26,7 +26,7 @@ enum Wanted {
     Refused(AskFault),
 }
 
-/// A job, run with at most so many paths and refuted sides, and the answers to its questions.
+/// A job, run with at most `limit` paths and refuted sides, and the answers to its questions.
 struct Row {
     job: &'static str,
     limit: u32,

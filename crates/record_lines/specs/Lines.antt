@@ -1,9 +1,12 @@
 -- What a sink has gained of the records of a report.
-use Rattle.std.specs.Prelude.{ℕ, ◌≡◌, ◌+◌, ◌<◌, ◌^◌, Bool, true, false, List, [], ◌∷◌, ◌++◌, filter, map, sum_by, IsUtf8, Option}
+use Rattle.std.specs.Prelude.{ℕ, ◌≡◌, ◌+◌, ◌<◌, ◌^◌, Bool, true, false, List, [], ◌∷◌, ◌++◌, filter, map, sum_by, IsUtf8, Option, None, Some}
 use Rattle.std.specs.List.{AllByRecursion}
 use Rattle.std.specs.Io.KnownBytes.{append_known}
 use Rattle.serde_json.specs.Written.{comma_if, compact_text}
 use Rattle.net_check.specs.Network.{Network}
+use Rattle.exact_records.specs.View.{record_tree}
+use Rattle.path_exec.specs.Handing.{Handed, IsListed}
+use Rattle.path_exec.specs.Receiving.{Receiving}
 use Rattle.path_records.specs.declared.records.Record.{Record}
 use Rattle.path_records.specs.declared.records.Record.TheVariants.{Path, Pruned, Unexplored}
 use Rattle.record_lines.specs.declared.lines.RefutedSides.{RefutedSides}
@@ -11,9 +14,16 @@ use Rattle.record_lines.specs.declared.lines.RefutedSides.TheVariants.{Written, 
 use Rattle.record_lines.specs.declared.lines.Task.{Task}
 use Rattle.record_lines.specs.declared.lines.Task.TheVariants as task
 use Rattle.record_ranges.specs.Ranges.{RecordInRange}
+use Rattle.report_forms.specs.Fits.{StepFits, VerdictFits}
+use Rattle.symbolic_engine.specs.declared.found.Before.{Before}
+use Rattle.symbolic_engine.specs.declared.found.Found.{Found}
+use Rattle.symbolic_engine.specs.declared.found.Found.TheVariants as found
+use Rattle.symbolic_engine.specs.Finds.{handed_tree}
+use Rattle.symbolic_engine.specs.Recorded.{ByRecords}
 use Rattle.record_text.specs.Records.{record_data}
 use Rattle.record_text.specs.Reports.{record_pieces}
 use Rattle.sn_edge.specs.Pieces.{IsPrefix}
+use Rattle.sn_edge.specs.Told.{SinkTold}
 use Rattle.sn_edge.specs.declared.sink.Put.{Put}
 use Rattle.sn_edge.specs.declared.sink.Put.TheVariants.{All, Failed, NoMemory}
 
@@ -47,14 +57,52 @@ has_some (x ∷ xs) = true
 abbrev pub piece_text : Network → Bool → Record → List ℕ
 piece_text net later item = comma_if later ++ compact_text (record_data net item)
 
--- what is to be done with a record, where one was put before it or not and that many refuted sides were taken: its piece is put, or it
--- is only counted
+-- what is to be done with a record that is written, where one was put before it or not and that many refuted sides were taken: its piece
+-- is put
+abbrev pub IsRecordTask : Network → Bool → ℕ → Record → List ℕ → Task → Type 0
+IsRecordTask net later refuted item piece (task.Write count) =
+    RecordInRange item × (count < 2 ^ 64) × (count ≡ refuted + refuted_by item) × (piece ≡ piece_text net later item)
+IsRecordTask net later refuted item piece (task.Count count) = ⊥
+IsRecordTask net later refuted item piece task.NoMemory = Unit {0}
+
+-- what is to be done with what was found and has this record: its piece is put where it is written, else it is only counted
 abbrev pub IsTask : Network → RefutedSides → Bool → ℕ → Record → List ℕ → Task → Type 0
 IsTask net sides later refuted item piece (task.Write count) =
     (is_written sides item ≡ true) × RecordInRange item × (count < 2 ^ 64) × (count ≡ refuted + refuted_by item) × (piece ≡ piece_text net later item)
 IsTask net sides later refuted item piece (task.Count count) =
     (is_written sides item ≡ false) × RecordInRange item × (count < 2 ^ 64) × (count ≡ refuted + refuted_by item)
 IsTask net sides later refuted item piece task.NoMemory = Unit {0}
+
+-- the same, for a record that there is of it
+abbrev pub IsFoundTask : Network → RefutedSides → Bool → ℕ → Handed Found → List ℕ → Task → Type 0
+IsFoundTask net sides later refuted item piece (task.Write count) =
+    (made : Record) × (record_tree made ≡ handed_tree item) × IsTask net sides later refuted made piece (task.Write count)
+IsFoundTask net sides later refuted item piece (task.Count count) =
+    (made : Record) × (record_tree made ≡ handed_tree item) × IsTask net sides later refuted made piece (task.Count count)
+IsFoundTask net sides later refuted item piece task.NoMemory = Unit {0}
+
+-- whether it is a refuted side that is only counted
+abbrev pub is_only_counted : RefutedSides → Found → Bool
+is_only_counted Written found = false
+is_only_counted Counted (found.Path state how verdict) = false
+is_only_counted Counted (found.Pruned before refutation) = true
+is_only_counted Counted found.Unexplored = false
+
+abbrev pub BeforeInRange : Option Before → Type 0
+BeforeInRange None = Unit {0}
+BeforeInRange (Some before) = VerdictFits before.verdict.value
+
+-- the numbers of a refuted side are of their types
+abbrev pub SideInRange : Found → Type 0
+SideInRange (found.Path state how verdict) = Unit {0}
+SideInRange (found.Pruned before refutation) = BeforeInRange before × AllByRecursion StepFits refutation
+SideInRange found.Unexplored = Unit {0}
+
+-- one refuted side more is counted
+abbrev pub IsSideTask : ℕ → Found → Task → Type 0
+IsSideTask refuted side (task.Write count) = ⊥
+IsSideTask refuted side (task.Count count) = SideInRange side × (count < 2 ^ 64) × (count ≡ refuted + 1)
+IsSideTask refuted side task.NoMemory = Unit {0}
 
 -- the pieces of records
 abbrev pub records_text : Network → List Record → List ℕ
@@ -91,3 +139,23 @@ module _ (net : Network) (sides : RefutedSides) (known now : Option (List ℕ)) 
     pub part : List ℕ
     pub begins : IsPrefix part (piece_text net (has_some (written_of sides done)) last)
     pub taken : now ≡ append_known known (records_text net (written_of sides done) ++ part)
+
+-- how lines are seen, as records
+abbrev pub lines_seen : Network → RefutedSides → Option (List ℕ) → SinkTold → RefutedSides → Bool → ℕ → Receiving Record
+lines_seen net sides known told own_sides some refuted = record {
+  StandsFor = HasLines net sides known told.taken own_sides some refuted;
+  StoppedIn = StopsInLine net sides known told.taken;
+  stops = told.faults;
+  target = 0;
+  Takes = λ item. Unit {0};
+}
+
+-- and as what is found: the records are of that
+abbrev pub by_records : Receiving Record → ℕ → Receiving (Handed Found)
+by_records lines name = record {
+  StandsFor = ByRecords lines.StandsFor;
+  StoppedIn = ByRecords lines.StoppedIn;
+  stops = lines.stops;
+  target = name;
+  Takes = λ item. IsListed item.decisions;
+}

@@ -32,7 +32,7 @@ pub fn put_head<K: Sink>(alloc: Global, hops: u32, limit: u32, out: &mut K) -> P
     }
 }
 
-/// Puts what stands behind the records of a report, of which so many are refuted sides.
+/// Puts what stands behind the records of a report; `refuted` of them are refuted sides.
 pub fn put_tail<K: Sink>(alloc: Global, refuted: u64, complete: bool, out: &mut K) -> Put
     ensures kept { SinkKept (K.told out.old) (K.told out.new) }
     ensures failed { OnFailed result ((K.told out.old).faults < (K.told out.new).faults) }

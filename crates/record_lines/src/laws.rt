@@ -10,5 +10,6 @@ ghost use Rattle.record_lines.specs.declared.lines.RefutedSides.{RefutedSides};
 #[tactic(auto, using(crate::proofs::LineLemmas::written_behind))]
 pub fn a_record_comes_behind_the_others()
     ensures { (net : Network) (sides : RefutedSides) (items : List Record) (item : Record) → is_written sides item ≡ true
-        → records_text net (written_of sides (items ++ item ∷ [])) ≡ records_text net (written_of sides items) ++ piece_text net (has_some (written_of sides items)) item }
+        → records_text net (written_of sides (items ++ item ∷ []))
+        ≡ records_text net (written_of sides items) ++ piece_text net (has_some (written_of sides items)) item }
 {}

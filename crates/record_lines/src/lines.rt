@@ -1,16 +1,20 @@
 //! Records that are put as they are found.
 
 ghost use Rattle.std.specs.Prelude.{◌≡◌, ◌+◌, IfSome, IsTrue};
+ghost use Rattle.path_exec.specs.Handing.{IsListed, handed};
 ghost use Rattle.record_ranges.specs.Ranges.{RecordInRange};
-ghost use Rattle.record_lines.specs.Lines.{HasLines, IsTask, StopsInLine, is_written, refuted_by};
+ghost use Rattle.record_lines.specs.Lines.{IsFoundTask, IsRecordTask, IsSideTask, SideInRange, is_only_counted, refuted_by};
 
 use crate::ends::put_piece;
 use kept_texts::{OfNet, Pieces};
-use path_exec::{Receiver, Took};
+use path_exec::{Observer, Took};
 use path_records::Record;
-use record_ranges::numbers_are_in_range;
+use record_ranges::{numbers_are_in_range, steps_fit, verdict_fits};
+use sefl_meaning::Decision;
 use sn_edge::{Put, Sink};
+use std::alloc::Global;
 use std::marker::{Brand, PhantomData};
+use symbolic_engine::Found;
 
 /// What is put of refuted sides.
 #[derive(Clone, Copy)]
@@ -40,10 +44,11 @@ impl Mark for Brand {
     ghost known = { None };
 }
 
-/// Puts each record of a net that is written into a sink, behind a comma where another one was put before it. It keeps none of
-/// them.
+/// Puts a record of all that is found in a net and that is written into a sink, behind a comma where another one was put before it. It
+/// keeps none of them, and makes none of a refuted side that is only counted.
 #[derive(Drop)]
 pub struct Lines<'a, 'p, 'n, N: OfNet, M: Mark, K: Sink> {
+    pub alloc: Global,
     pub pieces: &'p mut Pieces<'n, N>,
     pub out: &'a mut K,
     pub sides: RefutedSides,
@@ -75,48 +80,31 @@ fn is_in_range(item: &Record) -> bool
     }
 }
 
-/// Whether a record is written.
-fn is_written(sides: RefutedSides, item: &Record) -> bool
-    ensures { result ≡ is_written sides item.now }
-{
-    match sides {
-        RefutedSides::Written => true,
-        RefutedSides::Counted => match item {
-            Record::Pruned { .. } => false,
-            Record::Path { .. } | Record::Unexplored { .. } => true,
-        },
-    }
-}
-
-/// What is to be done with a record.
+/// What is to be done with what was found.
 #[derive(Drop)]
 enum Task {
-    /// Its piece, which was written, is put; with it there are so many refuted sides.
+    /// Its piece, which was written, is put; with it there are `refuted` refuted sides.
     Write { refuted: u64 },
     /// It is only counted.
     Count { refuted: u64 },
     NoMemory,
 }
 
-/// What is to be done with a record, where one was put before it or not, and so many refuted sides were taken. The piece of
-/// one that is put is written.
-fn task_of<N: OfNet>(
+/// What is to be done with a record that is written, where one was put before it or not, and `refuted` refuted sides were taken. Its piece
+/// is written.
+fn record_task<N: OfNet>(
     pieces: &mut Pieces<'_, N>,
-    sides: RefutedSides,
     later: bool,
     refuted: u64,
     item: &Record,
 ) -> Task
-    ensures { IsTask N.net sides later refuted item.now pieces.new result }
+    ensures { IsRecordTask N.net later refuted item.now pieces.new result }
 {
     let Some(refuted) = refuted_with(refuted, item) else {
         return Task::NoMemory;
     };
     if !is_in_range(item) {
         return Task::NoMemory;
-    }
-    if !is_written(sides, item) {
-        return Task::Count { refuted };
     }
     match pieces.write(later, item) {
         Ok(()) => Task::Write { refuted },
@@ -125,31 +113,93 @@ fn task_of<N: OfNet>(
 }
 
 /// The same of a record that is not kept.
-fn last_task_of<N: OfNet>(
+fn last_record_task<N: OfNet>(
     pieces: &mut Pieces<'_, N>,
-    sides: RefutedSides,
     later: bool,
     refuted: u64,
     item: Record,
 ) -> Task
-    ensures { IsTask N.net sides later refuted item pieces.new result }
+    ensures { IsRecordTask N.net later refuted item pieces.new result }
 {
-    task_of(pieces, sides, later, refuted, &item)
+    record_task(pieces, later, refuted, &item)
 }
 
-impl<N: OfNet, M: Mark, K: Sink> Receiver for Lines<'_, '_, '_, N, M, K> {
-    type Item = Record;
+/// Whether it is a refuted side that is only counted.
+fn is_only_counted(sides: RefutedSides, found: &Found) -> bool
+    ensures { result ≡ is_only_counted sides found.now }
+{
+    match sides {
+        RefutedSides::Written => false,
+        RefutedSides::Counted => match found {
+            Found::Pruned { .. } => true,
+            Found::Path { .. } | Found::Unexplored => false,
+        },
+    }
+}
 
-    ghost seen = { λ lines. record {
-      StandsFor = HasLines N.net M.sides M.known (K.told lines.out.now).taken lines.sides lines.some lines.refuted;
-      StoppedIn = StopsInLine N.net M.sides M.known (K.told lines.out.now).taken;
-      stops = (K.told lines.out.now).faults;
-      target = lines.out.ghost_name;
-      Takes = λ item. Unit {0};
-    } };
+/// Says that the numbers of a refuted side are of their types. It does nothing.
+fn side_fits(side: &Found)
+    ensures { SideInRange side.now }
+{
+    if let Found::Pruned { before, refutation } = side {
+        if let Some(before) = before {
+            verdict_fits(&before.verdict);
+        }
+        steps_fit(refutation.as_slice());
+    }
+}
 
-    fn take(&mut self, item: Record) -> Took {
-        match last_task_of(self.pieces, self.sides, self.some, self.refuted, item) {
+/// What is to be done with a refuted side that is only counted.
+fn side_task(refuted: u64, side: &Found) -> Task
+    ensures { IsSideTask refuted side.now result }
+{
+    side_fits(side);
+    match refuted.checked_add(1) {
+        Some(refuted) => Task::Count { refuted },
+        None => Task::NoMemory,
+    }
+}
+
+/// What is to be done with what was found behind these decisions.
+fn found_task<N: OfNet>(
+    alloc: Global,
+    pieces: &mut Pieces<'_, N>,
+    sides: RefutedSides,
+    later: bool,
+    refuted: u64,
+    found: Found,
+    decisions: &[Decision],
+) -> Task
+    requires { IsListed decisions.now }
+    ensures { IsFoundTask N.net sides later refuted (handed decisions.now found) pieces.new result }
+{
+    if is_only_counted(sides, &found) {
+        return side_task(refuted, &found);
+    }
+    match found.into_record(alloc, decisions) {
+        Ok(made) => last_record_task(pieces, later, refuted, made),
+        Err(_) => Task::NoMemory,
+    }
+}
+
+impl<N: OfNet, M: Mark, K: Sink> Observer for Lines<'_, '_, '_, N, M, K> {
+    type Found = Found;
+
+    ghost use Rattle.record_lines.specs.Lines.{by_records, lines_seen};
+
+    ghost seen = { λ lines. by_records
+        (lines_seen N.net M.sides M.known (K.told lines.out.now) lines.sides lines.some lines.refuted) lines.out.ghost_name };
+
+    fn see(&mut self, found: Found, decisions: &[Decision]) -> Took {
+        match found_task(
+            self.alloc,
+            self.pieces,
+            self.sides,
+            self.some,
+            self.refuted,
+            found,
+            decisions,
+        ) {
             Task::Write { refuted } => match put_piece(self.pieces.text(), self.out) {
                 Put::All => {
                     self.some = true;

@@ -24,7 +24,7 @@ use std::alloc::Global;
 /// The most bytes that the file of a report may have.
 pub const REPORT_LIMIT: u64 = 268_435_456;
 
-/// The counts of the records of the report of one file, each of which is confirmed by the job of the other.
+/// The counts of the records of the report of one file, where the job of the other confirms each record.
 #[derive(Clone, Copy)]
 pub struct Replay<'a> {
     pub source: Both<JobFile<'a>, ByteFile<'a>>,
@@ -41,7 +41,7 @@ fn report_of(alloc: Global, net: &Net, bytes: &[u8]) -> Result<Report, OwnFault>
     }
 }
 
-/// The text of the counts of these records, whose walks have so many hops.
+/// The text of the counts of these records, whose walks have `hops` hops.
 fn text_of_counts(
     alloc: Global,
     job: &Accepted,

@@ -25,7 +25,7 @@ number_at i d = unwrap_or (option_map number_in (at i d)) 0
 abbrev pub items_at : ℕ → Data → Items
 items_at i d = unwrap_or (option_and_then as_array (at i d)) no_items
 
--- the greatest number of so many bits, at most 128
+-- the greatest number of `width` bits, at most 128
 abbrev pub greatest : ℕ → ℕ
 greatest width = if nat_lt width 128 then 2 ^ width - 1 else 2 ^ 128 - 1
 

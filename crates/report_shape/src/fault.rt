@@ -97,7 +97,7 @@ fn unless(alloc: Global, holds: bool) -> Option<String>
 
 /// The first place of the value that has not the part's form, as a JSON Pointer. None where it has it.
 #[cycle(fault)]
-pub fn first_fault<N: Names>(
+pub(crate) fn first_fault<N: Names>(
     value: &Value,
     alloc: Global,
     names: &N,

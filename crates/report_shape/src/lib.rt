@@ -11,9 +11,7 @@ mod pick;
 mod read;
 mod table;
 
-pub use fault::{Names, first_fault};
-pub use form::{Field, Form, Lists, Objects, Parts, Texts};
+pub use fault::Names;
 pub use large::large_of;
 pub use part::Part;
 pub use read::{ShapeFault, read_value};
-pub use table::form_for;

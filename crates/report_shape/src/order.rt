@@ -46,7 +46,7 @@ fn items_at(value: &Value, index: usize) -> &[Value]
     }
 }
 
-/// The greatest number of so many bits, at most 128.
+/// The greatest number of `width` bits, at most 128.
 fn greatest(width: u64) -> Num
     ensures { result ≡ greatest width }
 {

@@ -128,7 +128,7 @@ const STEP: Lists = Lists::Headed(&[
 const CELL: Lists = Lists::Rows(&[&[Part::Width], &[Part::Width, Part::Value, Part::Terms]]);
 
 /// The form of the part.
-pub fn form_for(part: Part) -> Form
+pub(crate) fn form_for(part: Part) -> Form
     ensures { form_of result ≡ form part }
 {
     match part {

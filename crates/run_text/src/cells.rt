@@ -84,7 +84,7 @@ fn write_cell<V: CellValue>(
 
 /// A list of cells: `[WIDTH]` where a cell is unset, else the width and what the value gives.
 #[tactic(auto, unfolding(crate::specs::Forms::cells_data))]
-pub fn write_cells<V: CellValue>(
+pub(crate) fn write_cells<V: CellValue>(
     alloc: Global,
     out: &mut JsonText,
     cells: &[Cell<V>],

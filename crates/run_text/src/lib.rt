@@ -9,9 +9,7 @@ mod names;
 mod parts;
 mod terms;
 
-pub use cells::{CellValue, write_cells};
+pub use cells::CellValue;
 pub use ends::write_end;
 pub use fields::{write_fields, write_head, write_meta, write_tag};
-pub use parts::{
-    write_decision, write_decisions, write_place, write_places, write_value, write_values,
-};
+pub use parts::{write_decision, write_decisions, write_place, write_places, write_values};

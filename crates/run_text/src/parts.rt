@@ -15,7 +15,7 @@ use sn_width::{NoMemory, NodeId, Num};
 use std::alloc::Global;
 
 /// A number of 128 bits: a JSON number up to `2^64 - 1`, and above that a text of its decimal digits.
-pub fn write_value(alloc: Global, out: &mut JsonText, value: Num) -> Result<(), NoMemory>
+pub(crate) fn write_value(alloc: Global, out: &mut JsonText, value: Num) -> Result<(), NoMemory>
     ensures { Gains (value_data value) result out.old out.new }
 {
     match u64::try_from(value) {

@@ -216,7 +216,7 @@ module _ {S : Type 0} (o : Outside S) (u v : S) (hops limit : ℕ) (pruned : Pru
         injection = i;
         accepted = subst (λ s. o.takes u j net i s) (sym last) taken;
         headline = told;
-        read_back = λ written. told.read_back written shown;
+        read_back = told.read_back shown;
       }
 
 -- ---- memory ended while the words were read

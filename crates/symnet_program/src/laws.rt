@@ -34,18 +34,22 @@ use walk_command::laws::walks_have_one_outcome;
 
 /// What is wrong with the job's file, or with the files of its tables, is told, unless a file was not read or there was no memory.
 pub fn jobs_are_told()
-    ensures absent { (command : CommandOf) (job : List ℕ) (w : World) (status : StatusOf) → ReadsJob command job → IsCaused (world w) tt tt (Some command) status
+    ensures absent { (command : CommandOf) (job : List ℕ) (w : World) (status : StatusOf) → ReadsJob command job
+        → IsCaused (world w) tt tt (Some command) status
         → w.at job ≡ None → (status ≡ NoFile job) ⊎ IsUnread status }
-    ensures long { (command : CommandOf) (job : List ℕ) (w : World) (status : StatusOf) (bytes : List ℕ) → ReadsJob command job → IsCaused (world w) tt tt (Some command) status
+    ensures long { (command : CommandOf) (job : List ℕ) (w : World) (status : StatusOf) (bytes : List ℕ)
+        → ReadsJob command job → IsCaused (world w) tt tt (Some command) status
         → w.at job ≡ Some bytes → FILE_LIMIT < length bytes → (status ≡ TooBig job) ⊎ IsUnread status }
     ensures flawed { (command : CommandOf) (job : List ℕ) (w : World) (status : StatusOf) (bytes : List ℕ) (flaw : Flaw)
         → ReadsJob command job → IsCaused (world w) tt tt (Some command) status → w.at job ≡ Some bytes → length bytes ≤ FILE_LIMIT
         → HasFlaw bytes flaw → (status ≡ Syntax flaw.line flaw.column flaw.kind) ⊎ IsUnread status }
-    ensures tables { (command : CommandOf) (job : List ℕ) (w : World) (status : StatusOf) (bytes : List ℕ) (j : JobTree) (fault : InputFault)
+    ensures tables { (command : CommandOf) (job : List ℕ) (w : World) (status : StatusOf) (bytes : List ℕ)
+        (j : JobTree) (fault : InputFault)
         → ReadsJob command job → IsCaused (world w) tt tt (Some command) status → w.at job ≡ Some bytes → length bytes ≤ FILE_LIMIT
         → IsTextOf j bytes → FirstUnfilled (Some w.at) j.net.nodes fault → IsSettled w fault
         → (status ≡ input_status fault) ⊎ IsUnread status }
-    ensures refused { (command : CommandOf) (job : List ℕ) (w : World) (status : StatusOf) (bytes : List ℕ) (j full : JobTree) (site : Site) (rule : Rule)
+    ensures refused { (command : CommandOf) (job : List ℕ) (w : World) (status : StatusOf) (bytes : List ℕ)
+        (j full : JobTree) (site : Site) (rule : Rule)
         → ReadsJob command job → IsCaused (world w) tt tt (Some command) status → w.at job ≡ Some bytes → length bytes ≤ FILE_LIMIT
         → IsTextOf j bytes → IsFilled (Some w.at) j full → refusal full ≡ Some (site.0, rule)
         → (status ≡ input_status (fault_by_rule site rule)) ⊎ IsUnread status }
@@ -57,7 +61,7 @@ pub fn jobs_are_told()
     jobs_are_filled_once();
 }
 
-/// Of a job that with code for its tables breaks no rule, and none of whose patterns is bad, `explore` tells Done or Partial.
+/// Of a job that with code for its tables breaks no rule, and that has no bad pattern, `explore` tells Done or Partial.
 pub fn explored_jobs_are_told()
     ensures { (job : List ℕ) (hops limit : ℕ) (pruned : PrunedOf) (w : World) (status : StatusOf) (bytes : List ℕ) (j full : JobTree)
         → IsCaused (world w) tt tt (Some (explore job hops limit pruned)) status → w.at job ≡ Some bytes → length bytes ≤ FILE_LIMIT
@@ -75,7 +79,8 @@ pub fn walked_jobs_are_told()
     ensures long { (job packet : List ℕ) (hops limit : ℕ) (w : World) (status : StatusOf) (net : Network) (i : Entry) (bytes : List ℕ)
         → IsCaused (world w) tt tt (Some (walk job packet hops limit)) status → TellsNet w job net i
         → w.at packet ≡ Some bytes → FILE_LIMIT < length bytes → (status ≡ TooBig packet) ⊎ OrBad IsUnread status }
-    ensures walked { (job packet : List ℕ) (hops limit : ℕ) (w : World) (status : StatusOf) (net : Network) (i : Entry) (bytes : List ℕ) (outcome : Outcome)
+    ensures walked { (job packet : List ℕ) (hops limit : ℕ) (w : World) (status : StatusOf) (net : Network)
+        (i : Entry) (bytes : List ℕ) (outcome : Outcome)
         → IsCaused (world w) tt tt (Some (walk job packet hops limit)) status → TellsNet w job net i
         → w.at packet ≡ Some bytes → length bytes ≤ FILE_LIMIT → WalksOf hops limit net i (packet_of bytes) outcome
         → (status ≡ outcome_status outcome) ⊎ MayBeBad status }

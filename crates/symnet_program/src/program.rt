@@ -247,10 +247,12 @@ pub fn symnet<F: Folder, P: Patterns, K: Sink>(
         × ((K.told out.new).taken ≡ append_known (K.told out.old).taken part) }
 
     // The headline: with Done `explore` wrote the report of the job in the file, and this tells all walks of all packets that
-    // meet the injection; and with refuted sides written, what is read of it is a report of just its records.
-    ensures headline { (job : List ℕ) (hops limit : ℕ) (pruned : PrunedOf) → reading words.now ≡ Some (explore job hops limit pruned) → result ≡ Done
+    // meet the injection; and what is read of it is a report of just its records that are written.
+    ensures headline { (job : List ℕ) (hops limit : ℕ) (pruned : PrunedOf)
+        → reading words.now ≡ Some (explore job hops limit pruned) → result ≡ Done
         → (whole : List ℕ)
-        × TellsJob (outside (F.told folder.old).files P.told P.find_gives) patterns.old patterns.new job hops limit (sides_of pruned) whole
+        × TellsJob (outside (F.told folder.old).files P.told P.find_gives) patterns.old patterns.new job hops limit
+        (sides_of pruned) whole
         × ((K.told out.new).taken ≡ append_known (K.told out.old).taken whole) }
 
     // Where the outside tells a world, the cause is one in that world; and an input that is refused there is refused, unless a file was
@@ -265,7 +267,8 @@ pub fn symnet<F: Folder, P: Patterns, K: Sink>(
     ensures complete { (command : CommandOf) → reading words.now ≡ Some command
         → F.told folder.new ≡ F.told folder.old → (K.told out.new).faults ≡ (K.told out.old).faults
         → ((status : StatusOf) → RefusesInput status
-        → Cause (outside (F.told folder.old).files P.told P.find_gives) patterns.old patterns.new (inputs command) (work command) status → ⊥)
+        → Cause (outside (F.told folder.old).files P.told P.find_gives) patterns.old patterns.new (inputs command)
+        (work command) status → ⊥)
         → IsAnswered result }
 {
     worlds_decide();

@@ -32,7 +32,7 @@ separator_of Fib = Dot
 abbrev pub part_of : TableKind → List ℕ → Option ℕ
 part_of kind piece = at_most 255 (number (base_of kind) (digits_of kind) piece)
 
--- the number whose bytes so many parts are, behind the bytes of a number
+-- the number whose bytes are this many parts, behind the bytes of a number
 abbrev pub bytes_from : TableKind → ℕ → ℕ → List (List ℕ) → Option ℕ
 bytes_from kind zero value [] = Some value
 bytes_from kind zero value (piece ∷ later) = None

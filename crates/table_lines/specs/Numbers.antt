@@ -14,7 +14,7 @@ digits_from base value [] = Some value
 digits_from base value (c ∷ rest) =
     if nat_lt (digit_value c) base then digits_from base (value * base + digit_value c) rest else None
 
--- one to so many digits of a base
+-- one to `most` digits of a base
 abbrev pub number : ℕ → ℕ → List ℕ → Option ℕ
 number base most bytes = if not (is_nil bytes) && nat_le (length bytes) most then digits_from base 0 bytes else None
 
@@ -23,7 +23,7 @@ has_leading_zero [] = false
 has_leading_zero (c ∷ []) = false
 has_leading_zero (c ∷ d ∷ rest) = c == 48
 
--- a decimal number of one to so many digits, with no leading zero
+-- a decimal number of one to `most` digits, with no leading zero
 abbrev pub decimal : ℕ → List ℕ → Option ℕ
 decimal most bytes = if has_leading_zero bytes then None else number 10 most bytes
 

@@ -25,7 +25,7 @@ seen_table (Err fault) = Err fault
 abbrev pub nothing_read : TableKind → State
 nothing_read kind = record { kind = kind; ports = None; rows = []; count = 0 }
 
--- a file without a number of ports, all of whose lines are skipped, is bad at line 1
+-- a file without a number of ports, whose lines are all skipped, is bad at line 1
 abbrev pub finished : State → Option ℕ → Result TableSeen TableFault
 finished s None = Err (BadLine 1)
 finished s (Some ports) = Ok (record { ports = ports; rows = map row_of_entry s.rows })

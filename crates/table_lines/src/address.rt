@@ -89,7 +89,7 @@ fn first_address(address: u64, length: u32) -> u64
     address / size * size
 }
 
-/// The address of an Ethernet row, all of whose bits count.
+/// The address of an Ethernet row; all its bits count.
 fn mac_key(address: Option<u64>) -> Option<(u64, u32)>
     ensures { result ≡ mac_key address }
 {

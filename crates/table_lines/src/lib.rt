@@ -16,7 +16,7 @@ mod words;
 pub use address::{address_of, key_of};
 pub use fault::TableFault;
 pub use lines::{LineReader, read_lines};
-pub use number::{at_most, decimal, plain_number};
+pub use number::{at_most, decimal};
 pub use pieces::{Separator, next_piece};
 pub use table::{Row, Table, read_table};
 pub use words::{before_comment, is_ascii, next_word};

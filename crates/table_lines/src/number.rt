@@ -60,7 +60,7 @@ pub fn decimal(most: usize, bytes: &[u8]) -> Option<u32>
 }
 
 /// A decimal number of at most four digits, with no leading zero.
-pub fn plain_number(bytes: &[u8]) -> Option<u32>
+pub(crate) fn plain_number(bytes: &[u8]) -> Option<u32>
     ensures { result ≡ plain_number bytes.now }
 {
     decimal(MOST_DIGITS, bytes)

@@ -20,7 +20,7 @@ use sn_width::Num;
 use std::alloc::Global;
 use walk_text::walks_text;
 
-/// All walks of the packet of one file through the job of the other, with so many hops; refused where they are more than
+/// All walks of the packet of one file through the job of the other, with `hops` hops; refused where they are more than
 /// the limit.
 #[derive(Clone, Copy)]
 pub struct Walk<'a> {

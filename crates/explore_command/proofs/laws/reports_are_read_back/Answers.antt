@@ -1,8 +1,6 @@
-use Rattle.std.proofs.Common.{refl}
-use Rattle.record_lines.specs.declared.lines.RefutedSides.TheVariants.{Written}
 use Rattle.explore_command.proofs.HeadlineLemmas.{report_read}
 use Rattle.explore_command.proofs.laws.reports_are_read_back.Goals as goal
 
 pub returns : goal.returns
-returns c hops limit net i ending whole shown report =
-    report_read hops limit Written net i ending whole c.lines_join.ensures c.lines_are_read_back.ensures refl shown report
+returns c hops limit sides net i ending whole shown report =
+    report_read hops limit sides net i ending whole c.lines_join.ensures c.lines_are_read_back.ensures shown report

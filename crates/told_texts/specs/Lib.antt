@@ -1,0 +1,4 @@
+pub mod Ranges
+pub mod Compared
+pub mod Loops
+pub mod Walks
