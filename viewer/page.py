@@ -1,0 +1,66 @@
+"""The page with a desk: viewer/index.html with viewer/desk.js behind it, the examples, and the data of an engine. viewer/build writes it into a
+file, with the engine inside, and tools/serve hands it out, with the built program behind it."""
+
+import base64
+import gzip
+import json
+import sys
+from pathlib import Path
+
+VIEWER = Path(__file__).resolve().parent
+sys.path.append(str(VIEWER.parent / "tools"))
+import examples  # noqa: E402
+from checkout import TOP  # noqa: E402
+
+# The comment of index.html in whose place the desk comes.
+PLACE = "<!-- desk:"
+# The commands of the desk, and the folder of examples that it opens with.
+COMMANDS = {"explore", "ask", "loops", "walk", "compare", "rules"}
+FIRST = "branch-office"
+
+
+def title(folder):
+    """The name of a folder of examples, and the heading of its page."""
+    page = folder / "README.md"
+    return f"{folder.name}: {page.read_text().splitlines()[0].lstrip('# ')}" if page.is_file() else "jobs of one box"
+
+
+def listed():
+    """Each folder of examples: its title, the files that its commands read, and its commands."""
+    folders = {}
+    for folder, _, words, written in examples.commands():
+        given = folders.setdefault(folder, {"title": title(folder), "files": set(), "commands": [], "written": set()})
+        given["written"].add(written)
+        given["files"].update(examples.files_of(folder, words))
+        if words[0] in COMMANDS:
+            given["commands"].append(words)
+    for folder, given in folders.items():
+        files = sorted(given["files"] - given["written"])
+        given["files"] = [[str(it.relative_to(folder)), it.read_text()] for it in files]
+        del given["written"]
+    shown = sorted((it for it in folders if folders[it]["commands"]), key=lambda it: (it.name != FIRST, it.name))
+    return [folders[it] for it in shown]
+
+
+def data(engine, unproved):
+    """The data of the desk: its engine, what is said of it, the colours of jobs and the examples."""
+    grammar = json.loads((TOP / "tools/sefl.tmLanguage.json").read_text())
+    return {"engine": engine, "unproved": unproved, "grammar": grammar, "examples": listed()}
+
+
+def script(identity, kind, text):
+    return f'<script id="{identity}" type="{kind}">{text}</script>\n'
+
+
+def whole(engine, unproved, module=None):
+    """The text of the page. `engine` is "module", then its bytes are given, or "served"; `unproved` is the line that says what is not proved."""
+    page = (VIEWER / "index.html").read_text()
+    begin = page.index(PLACE)
+    end = page.index("-->\n", begin) + len("-->\n")
+    parts = f"<style>\n{(VIEWER / 'desk.css').read_text()}</style>\n"
+    parts += script("desk-data", "application/json", json.dumps(data(engine, unproved), separators=(",", ":")).replace("</", "<\\/"))
+    if module is not None:
+        parts += script("engine-code", "text/plain", (VIEWER / "engine.js").read_text())
+        parts += script("engine-module", "text/plain", base64.b64encode(gzip.compress(module, 9, mtime=0)).decode())
+    parts += f"<script>\n{(VIEWER / 'desk.js').read_text()}</script>\n"
+    return page[:begin].replace("<title>SymNet report</title>", "<title>SymNet</title>") + parts + page[end:]
