@@ -87,7 +87,7 @@ class Line:
     """The line on standard error: written anew on a terminal, and seldom elsewhere."""
 
     def __init__(self):
-        self.is_terminal, self.last, self.is_open = sys.stderr.isatty(), 0.0, False
+        self.is_terminal, self.last, self.is_open = sys.stderr.isatty(), float("-inf"), False
 
     def show(self, text, now):
         if now - self.last < (EVERY if self.is_terminal else SELDOM):
@@ -115,9 +115,9 @@ def read(lines, log, progress):
             progress.end(ended[1], time.monotonic(), bool(ended[2]))
 
 
-def watch(ran, repo, progress, line):
+def watch(ran, repo, progress, line, started):
     """Shows how far the gate is until it ends; returns its status, and the most memory that it held."""
-    started, most = time.monotonic(), 0
+    most = 0
     while True:
         most = max(most, held(ran.pid))
         for name in progress.below:
@@ -131,14 +131,15 @@ def watch(ran, repo, progress, line):
 
 def gate(repo, log, progress, lock):
     """Runs the gate over the copy, and returns its status, and the most memory that it held."""
-    line = Line()
+    line, started = Line(), time.monotonic()
+    line.show(progress.line(started, started), started)
     how = {"stdin": subprocess.DEVNULL, "stdout": subprocess.PIPE, "stderr": subprocess.STDOUT, "text": True, "errors": "replace"}
     # a session of its own: it ends at once where this one is interrupted, and with it all that it runs
     ran = subprocess.Popen(["rt", "ci"], cwd=repo, env={**os.environ, "RT_JOBS": str(progress.lanes)}, start_new_session=True, pass_fds=[lock], **how)
     reader = threading.Thread(target=read, args=(ran.stdout, log, progress), daemon=True)
     reader.start()
     try:
-        return watch(ran, repo, progress, line)
+        return watch(ran, repo, progress, line, started)
     finally:
         line.close()
         ran.terminate()
@@ -175,8 +176,8 @@ def take(repo, crate, top, began):
     return True
 
 
-def build(crate, room, lock):
-    """Builds the program in a folder, and returns whether it is built."""
+def build(crate, room, lock, then):
+    """Builds the program in a folder, and returns whether it is built. `then` is called with the copy of the crates, as they are proved, where it is."""
     began, started = time.time(), time.monotonic()
     below = build_plan.closure(build_plan.crates((TOP / "crates.txt").read_text()), crate)
     progress = build_plan.Progress(below, build_plan.measured(build_plan.SECONDS.read_text()), lanes())
@@ -191,6 +192,7 @@ def build(crate, room, lock):
             print(it, file=sys.stderr)
     if is_built:
         say(f"the program is built, after {int(time.monotonic() - started) // 60} minutes, with at most {most / 1e9:.1f} GB of memory")
+        then(room / "repo")
     return is_built
 
 
@@ -198,13 +200,11 @@ def interrupted(number, _frame):
     sys.exit(128 + number)
 
 
-def main(words):
-    if len(words) > 1 or any(it.startswith("-") for it in words):
-        print(__doc__, end="", file=sys.stderr)
-        return 2
+def built(crate, then=lambda repo: None):
+    """Builds the program, behind other builds of this checkout, and returns whether it is built."""
     if not shutil.which("rt"):
         say("there is no `rt` on the path: the README, \"The kit\", says what has to be there")
-        return 1
+        return False
     for it in (signal.SIGINT, signal.SIGTERM, signal.SIGHUP):
         signal.signal(it, interrupted)
     room = room_of(TOP)
@@ -216,10 +216,16 @@ def main(words):
             say("another build of this checkout is at work; waiting for it")
             fcntl.flock(lock, fcntl.LOCK_EX)
         try:
-            is_built = build(words[0] if words else "symnet_cli", room, lock.fileno())
+            return build(crate, room, lock.fileno(), then)
         finally:
             shutil.rmtree(room / "repo", ignore_errors=True)
-    return 0 if is_built else 1
+
+
+def main(words):
+    if len(words) > 1 or any(it.startswith("-") for it in words):
+        print(__doc__, end="", file=sys.stderr)
+        return 2
+    return 0 if built(words[0] if words else "symnet_cli") else 1
 
 
 if __name__ == "__main__":

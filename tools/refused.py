@@ -25,7 +25,7 @@ from checkout import built
 
 # At most this many allocations of a run are refused one by one, and as many from one on.
 MOST = 500
-SECONDS = 20
+SECONDS = 300
 ERRORS = [errno.EIO, errno.EACCES, errno.ENOMEM]
 
 LIBRARY = r"""
