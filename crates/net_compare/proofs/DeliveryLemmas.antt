@@ -24,7 +24,8 @@ use Rattle.exact_records.specs.Records.{HasMeaning, IsPath, Leads, RecordTree, S
 use Rattle.exact_records.specs.View.{record_tree, record_trees}
 use Rattle.sym_state.specs.Symbolic.{Symbolic}
 use Rattle.symbolic_engine.specs.declared.guiding.Led.{Led}
-use Rattle.symbolic_engine.specs.Exploring.{FollowsTo, LeadsThere}
+use Rattle.symbolic_engine.specs.Exploring.{FollowsTo}
+use Rattle.symbolic_engine.specs.Leading.{LeadsThere}
 use Rattle.question_meaning.specs.Formulas.{explored, no_start, start_or}
 use Rattle.compare_meaning.specs.Outputs.{Heads, exit_of, last_of, name_in}
 use Rattle.compare_meaning.specs.Paths.{DeliveredPath, condition_along, condition_by, delivered, delivered_from, with_one}

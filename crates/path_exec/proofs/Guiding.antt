@@ -225,7 +225,7 @@ module _ {P O N D T : Type 0} (x : Views P O N D T) where
     pub arrivals_are : led.way.arrivals ≡ arrivals
     pub tests_are : led.way.tests ≡ taken
 
-  led_to : (a b : Spot) (count : ℕ) (at : IsAt x.start a) → ComesTo x.start count a b → IsLedBy (at.arrivals ++ arrivals_of a.tree) a.tests a.decisions b
+  pub led_to : (a b : Spot) (count : ℕ) (at : IsAt x.start a) → ComesTo x.start count a b → IsLedBy (at.arrivals ++ arrivals_of a.tree) a.tests a.decisions b
   led_to a b count at n =
       let st = next_stands x.start a b at n.arrives in
       let w : IsWaiting x.start b = record { at = st.at; node = subst (λ (t : SymTree). route t [] ≡ Some (waiting t)) (sym n.arrives.tree) (node_waits a.tree); widths = n.arrives.widths } in

@@ -22,6 +22,7 @@ use Rattle.path_exec.specs.declared.engine.Offer.{Offer}
 use Rattle.path_exec.specs.declared.engine.Offer.TheVariants.{If, Constrain, Fork}
 use Rattle.path_exec.specs.declared.engine.Next.TheVariants.{AtEnd, AtNode}
 use Rattle.path_exec.specs.declared.opening.Work.{Work}
+use Rattle.path_exec.specs.Following.{IsLed}
 use Rattle.path_exec.specs.Here.{Here, behind_last, spot_at, waiting_at}
 use Rattle.path_exec.specs.Views.{IsMade, Views}
 use Rattle.path_exec.specs.Offers.{IsNode, copy_count, known_behind, offer_at, offer_count, skip, tasks_by}
@@ -30,6 +31,7 @@ use Rattle.path_exec.specs.Trials.{IsPathOf}
 use Rattle.path_exec.specs.Works.{AreWorks, IsFork, IsFound, IsPut, IsWork, all_tasks, tasks_of}
 use Rattle.path_exec.specs.Paying.{Holds, begun_before}
 use Rattle.path_exec.specs.Keeping.{Keeps, weight, weight_of, weights}
+use Rattle.path_exec.proofs.Guiding.{led_to}
 use Rattle.path_exec.proofs.Ways.{begun_next}
 use Rattle.path_exec.proofs.Splitting.{splits_there}
 use Rattle.path_exec.proofs.Taking.{next_of, next_taken, put_back_works, put_tasks, put_works, split_tasks}
@@ -148,7 +150,8 @@ module _ {P O N D T : Type 0} (x : Views P O N D T) (below : StepsStand x.start)
 
   -- the run is over
   pub keeps_path : (h : Here) (o : O) (verdict : Verdict) (made : T) (works : List (Work N D)) (before after : ℕ) → IsAt x.start (behind_last x.start h)
-      → Advances x h before after (AtEnd o) → ((begun : ℕ) → IsPathOf x (spot_at begun (x.over_at o)) verdict made)
+      → Advances x h before after (AtEnd o)
+      → ((begun : ℕ) → IsLed x.start (x.over_at o).decisions (spot_at begun (x.over_at o)) → IsPathOf x (spot_at begun (x.over_at o)) verdict made)
       → Keeps x ((behind_last x.start h, decided verdict) ∷ []) works works (Some made) before after
   keeps_path h o verdict made works before after at adv is =
       let b0 = at_last At h.decisions in
@@ -158,7 +161,8 @@ module _ {P O N D T : Type 0} (x : Views P O N D T) (below : StepsStand x.start)
       let e = n.1 in
       let y = path c.decisions c.places e.end' (fields_of e.progress.state) (filled_verdict (length c.widths) verdict) in
       let here = begun_next x.start a c (b0 + adv.raised) at n.0 in
-      keeps_made (a, decided verdict) works works made y before after adv.raised adv.counted (is (b0 + adv.raised) e.progress e.end' e.is) (λ k. k)
+      let led = subst (λ (ds : List Decision). IsLed x.start ds c) (sym n.0.arrives.decisions) (led_to x a c (b0 + adv.raised) at n.0).led in
+      keeps_made (a, decided verdict) works works made y before after adv.raised adv.counted (is (b0 + adv.raised) led e.progress e.end' e.is) (λ k. k)
       n.0.arrives.decisions (omega (arith, here))
       (λ limit done st. below.ends limit done a c verdict (filled_verdict (length c.widths) verdict) e.progress e.end' (all_tasks x works) n.0.arrives e.is
       (stay.written (condition_at x.start c) verdict (stay.next a c verdict n.0.arrives st.pending.0.found)) st)

@@ -25,6 +25,10 @@ module _ {P O N D T : Type 0} (x : Views P O N D T) where
     pub numbered : AllByRecursion IsNumbered course
     pub along : AreAlong course (reverse works)
 
+  -- where those before were, those behind are
+  abbrev pub StaysOnCourse : List Decision → List (Work N D) → List Decision → List (Work N D) → Type 0
+  StaysOnCourse before old behind new = AreOnCourse before old → AreOnCourse behind new
+
   -- they are, where the limit was met
   abbrev pub MetOnCourse : {E : Type 0} → List Decision → List (Work N D) → Result Ran E → Type 0
   MetOnCourse course works (Ok Over) = Unit {0}

@@ -4,6 +4,7 @@ ghost use Rattle.std.specs.Prelude.{◌≡◌, ◌↔◌, [], ℕ, List, Some, N
 ghost use Rattle.sefl_meaning.specs.declared.walk.Decision.{Decision as ADecision};
 ghost use Rattle.exact_records.specs.Records.{pruned, unexplored};
 ghost use Rattle.exact_records.specs.Spots.{Spot, condition_at, filled_verdict, first_spot, IsKnown};
+ghost use Rattle.path_exec.specs.Following.{IsLed};
 ghost use Rattle.path_exec.specs.Handing.{Handed, IsListed, handed};
 ghost use Rattle.path_exec.specs.Here.{EndsWith, spot_at};
 ghost use Rattle.path_exec.specs.Views.{Views, IsMade};
@@ -106,7 +107,8 @@ pub trait Engine {
         decision: Decision,
     ) -> Result<Self::Place, NoMemory>
         requires { IsOffered ((views self.now).node_at node.now) decision }
-        ensures { IfOk result (λ place. (begun : ℕ) (c : Spot) → next_spot (spot_at begun ((views self.now).node_at node.now)) decision ≡ Some c
+        ensures { IfOk result (λ place. (begun : ℕ) (c : Spot)
+            → next_spot (spot_at begun ((views self.now).node_at node.now)) decision ≡ Some c
             → spot_at begun ((views self.now).place_at place) ≡ c) };
 
     /// The same, with the decision of the condition there. Before the decision this was found, of the condition without its last
@@ -119,13 +121,16 @@ pub trait Engine {
         before: &Self::Finding,
     ) -> Result<Tried<Self::Place, Self::Finding>, NoMemory>
         requires offered { IsOffered ((views self.now).node_at node.now) decision }
-        requires known { IsKnown (condition_at (views self.now).start (spot_at 0 ((views self.now).node_at node.now))) ((views self.now).verdict_of before.now) }
-        ensures { IfOk result (λ tried. (begun : ℕ) (c : Spot) → next_spot (spot_at begun ((views self.now).node_at node.now)) decision ≡ Some c
+        requires known { IsKnown (condition_at (views self.now).start (spot_at 0 ((views self.now).node_at node.now)))
+            ((views self.now).verdict_of before.now) }
+        ensures { IfOk result (λ tried. (begun : ℕ) (c : Spot)
+            → next_spot (spot_at begun ((views self.now).node_at node.now)) decision ≡ Some c
             → IsTrial (views self.now) begun c tried) };
 
-    /// A path that is over, where this was found of its condition.
+    /// A path that is over where its decisions lead, and this was found of its condition.
     fn path(&self, over: Self::Over, finding: Rc<Self::Finding>) -> Self::Found
         ensures { IsListed ((views self.now).over_at over).decisions → (begun : ℕ)
+            → IsLed (views self.now).start ((views self.now).over_at over).decisions (spot_at begun ((views self.now).over_at over))
             → IsPathOf (views self.now) (spot_at begun ((views self.now).over_at over)) ((views self.now).verdict_of finding.value)
             (handed ((views self.now).over_at over).decisions result) };
 
@@ -141,7 +146,8 @@ pub trait Engine {
         refutation: Refutation,
     ) -> Self::Found
         ensures { (ds : List ADecision) → IsListed ds → IsMade (views self.now)
-            (pruned ds (Some (filled_verdict (length ((views self.now).node_at node.now).widths) ((views self.now).verdict_of before.value))) refutation)
+            (pruned ds (Some (filled_verdict (length ((views self.now).node_at node.now).widths) ((views self.now).verdict_of before.value)))
+            refutation)
             (handed ds result) };
 
     /// A decision that is not tried.

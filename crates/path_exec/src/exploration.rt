@@ -4,7 +4,7 @@ ghost use Rattle.std.specs.Prelude.{◌≡◌, ◌<◌, ◌≤◌, ◌∷◌, []
 ghost use Rattle.sefl_meaning.specs.Routes.{Splits};
 ghost use Rattle.exact_records.specs.Spots.{first_spot, to_decide};
 ghost use Rattle.path_exec.specs.Works.{all_tasks, AreWorks};
-ghost use Rattle.path_exec.specs.Coursing.{AreOnCourse, MetOnCourse};
+ghost use Rattle.path_exec.specs.Coursing.{AreOnCourse, MetOnCourse, StaysOnCourse};
 ghost use Rattle.path_exec.specs.Handing.{handed_if};
 ghost use Rattle.path_exec.specs.Receiving.{IsSame, TakesOwn};
 ghost use Rattle.path_exec.specs.Keeping.{Keeps, Leaves, Runs};
@@ -53,7 +53,7 @@ fn begin<E: Engine, L: Ledger>(
     requires splits { Splits (E.views engine.now).start.tree }
     ensures keeps { IfOk result (λ made. Keeps (E.views engine.now) ((first_spot (E.views engine.now).start, to_decide None) ∷ [])
         works.old.items works.new.items (handed_if [] made) steps.old steps.new) }
-    ensures course { IfOk result (λ made. AreOnCourse (E.views engine.now) [] works.old.items → AreOnCourse (E.views engine.now) [] works.new.items) }
+    ensures course { IfOk result (λ made. StaysOnCourse (E.views engine.now) [] works.old.items [] works.new.items) }
 {
     steps_keep_what_stands();
     verdicts_stay();
@@ -114,9 +114,11 @@ fn run<E: Engine, K: Observer<Found = E::Found>, L: Ledger>(
     requires works { AreWorks (E.views engine.now) works.old.items }
     requires course { AreOnCourse (E.views engine.now) course.old.items works.old.items }
     requires takes { TakesOwn (E.views engine.now) (K.seen out.old) }
-    requires runs { (before : ℕ) × Runs (E.views engine.now) limit first (K.seen out.old) (all_tasks (E.views engine.now) works.old.items) before steps.old }
+    requires runs { (before : ℕ) × Runs (E.views engine.now) limit first (K.seen out.old)
+        (all_tasks (E.views engine.now) works.old.items) before steps.old }
     ensures same { IsSame (K.seen out.old) (K.seen out.new) }
-    ensures ran { (before : ℕ) → Runs (E.views engine.now) limit first (K.seen out.old) (all_tasks (E.views engine.now) works.old.items) before steps.old
+    ensures ran { (before : ℕ) → Runs (E.views engine.now) limit first (K.seen out.old)
+        (all_tasks (E.views engine.now) works.old.items) before steps.old
         → RanAs (E.views engine.now) limit (K.seen out.old).stops (K.seen out.new) works.new.items before steps.new result }
     ensures course { MetOnCourse (E.views engine.now) course.new.items works.new.items result }
 {
@@ -151,7 +153,8 @@ fn leave<E: Engine, K: Observer<Found = E::Found>>(
     requires course { AreOnCourse (E.views engine.now) course.old.items works.old.items }
     requires takes { TakesOwn (E.views engine.now) (K.seen out.old) }
     ensures same { IsSame (K.seen out.old) (K.seen out.new) }
-    ensures left { (before after : ℕ) → Leaves (E.views engine.now) limit (K.seen out.old) (all_tasks (E.views engine.now) works.old.items) before after
+    ensures left { (before after : ℕ) → Leaves (E.views engine.now) limit (K.seen out.old)
+        (all_tasks (E.views engine.now) works.old.items) before after
         → LeftAs (E.views engine.now) limit (K.seen out.old).stops (K.seen out.new) before after result }
 {
     steps_keep_what_stands();

@@ -4,7 +4,7 @@ ghost use Rattle.std.specs.Prelude.{◌≡◌, ◌<◌, ◌∷◌, [], suc, IfOk
 ghost use Rattle.std.specs.List.{AllByRecursion};
 ghost use Rattle.sefl_meaning.specs.Routes.{Splits};
 ghost use Rattle.exact_records.specs.Spots.{condition_at, decided, IsAt, IsKnown, IsPending};
-ghost use Rattle.path_exec.specs.Coursing.{AreOnCourse, IsOnCourse};
+ghost use Rattle.path_exec.specs.Coursing.{IsOnCourse, StaysOnCourse};
 ghost use Rattle.path_exec.specs.Handing.{IsListed, IsNumbered, handed_if};
 ghost use Rattle.path_exec.specs.Here.{behind_last};
 ghost use Rattle.path_exec.specs.Offers.{offer_at, offer_count};
@@ -113,14 +113,16 @@ pub(crate) fn go_on<E: Engine, L: Ledger>(
 ) -> Result<Option<E::Found>, NoMemory>
     requires splits { Splits (E.views engine.now).start.tree }
     requires at { IsAt (E.views engine.now).start (behind_last (E.views engine.now).start ((E.views engine.now).place_at place)) }
-    requires known { IsKnown (condition_at (E.views engine.now).start (behind_last (E.views engine.now).start ((E.views engine.now).place_at place)))
+    requires known { IsKnown
+        (condition_at (E.views engine.now).start (behind_last (E.views engine.now).start ((E.views engine.now).place_at place)))
         ((E.views engine.now).verdict_of finding.value) }
     requires behind { course.now ≡ ((E.views engine.now).place_at place).decisions }
     requires listed { IsListed course.now }
     ensures keeps { IfOk result (λ made. Keeps (E.views engine.now)
-        ((behind_last (E.views engine.now).start ((E.views engine.now).place_at place), decided ((E.views engine.now).verdict_of finding.value)) ∷ [])
+        ((behind_last (E.views engine.now).start ((E.views engine.now).place_at place),
+        decided ((E.views engine.now).verdict_of finding.value)) ∷ [])
         works.old.items works.new.items (handed_if course.now made) steps.old steps.new) }
-    ensures course { IfOk result (λ made. AreOnCourse (E.views engine.now) course.now works.old.items → AreOnCourse (E.views engine.now) course.now works.new.items) }
+    ensures course { IfOk result (λ made. StaysOnCourse (E.views engine.now) course.now works.old.items course.now works.new.items) }
 {
     steps_keep_what_stands();
     verdicts_stay();
@@ -159,8 +161,8 @@ fn take_copy<E: Engine, L: Ledger>(
     requires numbered { AllByRecursion IsNumbered course.old.items }
     ensures keeps { IfOk result (λ made. Keeps (E.views engine.now) (tasks_of (E.views engine.now) work) works.old.items works.new.items
         (handed_if course.new.items made) steps.old steps.new) }
-    ensures course { IfOk result (λ made. AreOnCourse (E.views engine.now) ((E.views engine.now).node_at work.node).decisions works.old.items
-        → AreOnCourse (E.views engine.now) course.new.items works.new.items) }
+    ensures course { IfOk result (λ made. StaysOnCourse (E.views engine.now) ((E.views engine.now).node_at work.node).decisions
+        works.old.items course.new.items works.new.items) }
 {
     steps_keep_what_stands();
     verdicts_stay();
@@ -190,8 +192,8 @@ fn try_side<E: Engine, L: Ledger>(
     requires numbered { AllByRecursion IsNumbered course.old.items }
     ensures keeps { IfOk result (λ made. Keeps (E.views engine.now) (tasks_of (E.views engine.now) work) works.old.items works.new.items
         (handed_if course.new.items made) steps.old steps.new) }
-    ensures course { IfOk result (λ made. AreOnCourse (E.views engine.now) ((E.views engine.now).node_at work.node).decisions works.old.items
-        → AreOnCourse (E.views engine.now) course.new.items works.new.items) }
+    ensures course { IfOk result (λ made. StaysOnCourse (E.views engine.now) ((E.views engine.now).node_at work.node).decisions
+        works.old.items course.new.items works.new.items) }
 {
     steps_keep_what_stands();
     verdicts_stay();
@@ -230,8 +232,8 @@ pub(crate) fn take_next<E: Engine, L: Ledger>(
     requires numbered { AllByRecursion IsNumbered course.old.items }
     ensures keeps { IfOk result (λ made. Keeps (E.views engine.now) (tasks_of (E.views engine.now) work) works.old.items works.new.items
         (handed_if course.new.items made) steps.old steps.new) }
-    ensures course { IfOk result (λ made. AreOnCourse (E.views engine.now) ((E.views engine.now).node_at work.node).decisions works.old.items
-        → AreOnCourse (E.views engine.now) course.new.items works.new.items) }
+    ensures course { IfOk result (λ made. StaysOnCourse (E.views engine.now) ((E.views engine.now).node_at work.node).decisions
+        works.old.items course.new.items works.new.items) }
 {
     match work.offer {
         Offer::If => try_side(alloc, engine, work, course, works, steps),

@@ -19,7 +19,8 @@ fn visit<E: Engine, L: Ledger>(
     found: &mut Vec<E::Place>,
     steps: &mut Steps<L>,
 ) -> Result<Next<E::Over, E::Node>, NoMemory>
-    ensures { IfOk result (Visits (E.views engine.now) port ((E.views engine.now).place_at place) steps.old steps.new found.old.items found.new.items) }
+    ensures { IfOk result (Visits (E.views engine.now) port ((E.views engine.now).place_at place) steps.old steps.new
+        found.old.items found.new.items) }
 {
     let mut now = place;
     loop {

@@ -6,6 +6,7 @@ use Rattle.net_check.specs.Sound.{AreOfOneJob}
 use Rattle.exact_records.specs.Records.{RecordTree}
 use Rattle.path_exec.specs.Handing.{Handed}
 use Rattle.symbolic_engine.specs.declared.found.Found.{Found}
+use Rattle.symbolic_engine.specs.Exploring.{IsHandedBy}
 use Rattle.symbolic_engine.specs.Finds.{handed_tree}
 use Rattle.path_questions.specs.Deciding.{entry_of, net_of}
 use Rattle.path_questions.specs.declared.kept.Kept.{Kept}
@@ -49,6 +50,9 @@ module _ (net : Network) (i : Entry) (hops : ℕ) (qs : List Question) where
           (subst (AreOwn (net_of before) (entry_of before)) (sym same.questions) h.own);
       one_each = ap length same.questions ∙ (h.one_each ∙ sym e);
     }
+
+    pub handed_still : (item : Handed Found) → IsHandedBy (net_of before) (entry_of before) before.hops item → IsHandedBy (net_of after) (entry_of after) after.hops item
+    handed_still item h = subst (λ (s : Subject). IsHandedBy (net_of s) (entry_of s) s.hops item) (sym same.subject) h
 
     -- what is found behind decisions is one record more
     pub stands_more : (item : Handed Found) (old new : List Kept) (count next : ℕ) → failed ≡ false

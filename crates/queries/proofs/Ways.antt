@@ -1,5 +1,8 @@
 -- Where decisions lead, and what questions speak of there.
 use Rattle.std.proofs.Common.{◌≡◌, ℕ, List, [], reverse, refl, sym, ap, subst, ◌∙◌, Some, None}
+use Rattle.std.specs.Global.{Global}
+use Rattle.std.specs.declared.rc.Rc.{Rc}
+use Rattle.refutation_check.specs.declared.outcome.Verdict.{Verdict}
 use Rattle.sefl_meaning.specs.declared.walk.Decision.{Decision}
 use Rattle.sefl_meaning.specs.declared.walk.End.{End}
 use Rattle.sefl_meaning.specs.declared.walk.Place.{Place}
@@ -12,17 +15,20 @@ use Rattle.exact_records.specs.Packets.{IsExplored}
 use Rattle.exact_records.specs.Records.{Leads, SymRoute, SymStart, SymTree}
 use Rattle.path_exec.specs.declared.engine.Offer.{Offer}
 use Rattle.path_exec.specs.declared.engine.Offer.TheVariants.{If, Constrain, Fork}
+use Rattle.path_exec.specs.Handing.{handed}
 use Rattle.path_exec.specs.Offers.{IsNode}
+use Rattle.symbolic_engine.specs.declared.found.Found.TheVariants.{Path}
 use Rattle.symbolic_engine.specs.declared.guiding.Led.{Led}
 use Rattle.symbolic_engine.specs.declared.guiding.Waits.{Waits}
 use Rattle.symbolic_engine.specs.declared.guiding.Waits.TheVariants.{Nothing as Over, Decides}
-use Rattle.symbolic_engine.specs.Origins.{condition_seen, progress_in}
-use Rattle.symbolic_engine.specs.Exploring.{FollowsTo, LeadsThere, WaitsAs}
+use Rattle.symbolic_engine.specs.Origins.{progress_in}
+use Rattle.symbolic_engine.specs.Exploring.{FollowsTo, IsHandedBy}
+use Rattle.symbolic_engine.specs.Leading.{LeadsThere, WaitsAs}
 use Rattle.sym_state.specs.Symbolic.{Symbolic}
 use Rattle.question_meaning.specs.Formulas.{asked_left, asked_on, explored, no_start, start_or}
 use Rattle.question_meaning.specs.Questions.{Question}
 use Rattle.queries.specs.declared.states.PathRun.{PathRun}
-use Rattle.queries.specs.Paths.{AsksNothing, IsPathRun, LeadsSo, end_of}
+use Rattle.queries.specs.Paths.{AsksNothing, IsPathRun, LeadsSo, end_of, led_over}
 
 pub some_same : {A : Type 0} {x y : A} → Some x ≡ Some y → x ≡ y
 some_same e = cc e
@@ -70,24 +76,31 @@ module _ (net : Network) (i : Entry) (hops : ℕ) where
       ap (asked_on q) (sym (same_way ds so.there.way way so.there.leads leads))
       ∙ waiting ds led.waits so.there.way led.state so.there.waits e q
 
-  over_as : (w : Waits) (how : End) (t : SymTree) (x : Symbolic) → end_of w ≡ Some how → WaitsAs w t x
-      → (p : Progress LinearTerm) × (t ≡ over p how) × (p.state ≡ x.carried)
-  over_as (Over own) how t x e h =
-      let same : own ≡ how = some_same e in
-      (progress_in x h.0, subst (λ (k : End). t ≡ over (progress_in x h.0) k) same h.1, refl)
-  over_as (Decides offer) how t x e h = absurd (none_some e)
+  over_as : (w : Waits) (how : End) → end_of w ≡ Some how → w ≡ Over how
+  over_as (Over own) how e = ap Over (some_same e)
+  over_as (Decides offer) how e = absurd (none_some e)
 
-  pub is_path : (run : PathRun) (led : Led) → LeadsSo net i hops run.decisions.now led → run.state ≡ led.state → end_of led.waits ≡ Some run.how
-      → run.places.items ≡ reverse run.state.places → IsPathRun net i hops run
-  is_path run led so same ended places =
-      let o = over_as led.waits run.how so.there.way.left led.state ended so.there.waits in
-      record {
-        is = so.is;
-        way = so.there.way;
-        leads = so.there.leads;
-        progress = o.0;
-        ended = o.1;
-        carries = o.2 ∙ ap (λ (x : Symbolic). x.carried) (sym same);
-        places = places ∙ (ap (λ (x : Symbolic). reverse x.places) same ∙ so.there.places);
-        condition = ap condition_seen same ∙ so.there.condition;
-      }
+  -- where nothing waits, the run is over
+  pub over_so : (ds : List Decision) (led : Led) (how : End) → LeadsSo net i hops ds led → end_of led.waits ≡ Some how → LeadsSo net i hops ds (led_over led.state how)
+  over_so ds led how so e = subst (λ (w : Waits). LeadsSo net i hops ds (record { state = led.state; waits = w })) (over_as led.waits how e) so
+
+  -- the state of a path that is handed over is where its decisions lead
+  pub handed_so : (ds : List Decision) (state : Symbolic) (how : End) (verdict : Rc Verdict Global) → IsHandedBy net i hops (handed ds (Path state how verdict))
+      → LeadsSo net i hops ds (led_over state how)
+  handed_so ds state how verdict h = record {
+    is = is_explored h.start h.explored;
+    there = subst (λ s. LeadsThere s ds (led_over state how)) (start_is h.start h.explored) h.holds.leads;
+  }
+
+  pub is_path : (run : PathRun) → LeadsSo net i hops run.decisions.now (led_over run.state run.how) → run.places.items ≡ reverse run.state.places
+      → IsPathRun net i hops run
+  is_path run so places = record {
+    is = so.is;
+    way = so.there.way;
+    leads = so.there.leads;
+    progress = progress_in run.state so.there.waits.0;
+    ended = so.there.waits.1;
+    carries = refl;
+    places = places ∙ so.there.places;
+    condition = so.there.condition;
+  }

@@ -13,7 +13,7 @@ use Rattle.sefl_meaning.specs.Trees.{over}
 use Rattle.exact_records.specs.Packets.{IsExplored}
 use Rattle.exact_records.specs.Records.{Leads, SymRoute, condition_on}
 use Rattle.sym_state.specs.Symbolic.{Symbolic}
-use Rattle.symbolic_engine.specs.Exploring.{LeadsThere}
+use Rattle.symbolic_engine.specs.Leading.{LeadsThere}
 use Rattle.symbolic_engine.specs.Origins.{condition_seen}
 use Rattle.symbolic_engine.specs.declared.guiding.Led.{Led}
 use Rattle.symbolic_engine.specs.declared.guiding.Waits.{Waits}
@@ -29,6 +29,10 @@ use Rattle.queries.specs.declared.states.Stop.{Stop}
 abbrev pub end_of : Waits → Option End
 end_of (Over how) = Some how
 end_of (Waiting offer) = None
+
+-- decisions lead to this state, where the run is over
+abbrev pub led_over : Symbolic → End → Led
+led_over state how = record { state = state; waits = Over how }
 
 -- the port is one of these
 abbrev pub has_place : Place → List Place → Bool

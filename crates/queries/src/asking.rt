@@ -2,9 +2,11 @@
 
 ghost use Rattle.std.specs.Prelude.{◌≡◌, ◌++◌, ◌∷◌, [], IfOk, List, length};
 ghost use Rattle.exact_records.specs.Records.{RecordTree};
+ghost use Rattle.path_exec.specs.Handing.{handed};
 ghost use Rattle.path_questions.specs.Deciding.{entry_of, net_of};
-ghost use Rattle.queries.specs.Holding.{AreKept, IsReady, IsSameAsking};
+ghost use Rattle.symbolic_engine.specs.Exploring.{IsHandedBy};
 ghost use Rattle.symbolic_engine.specs.Finds.{found_tree};
+ghost use Rattle.queries.specs.Holding.{AreKept, IsReady, IsSameAsking};
 
 use crate::keeping::keep_all;
 use crate::seen::see_found;
@@ -62,22 +64,25 @@ pub struct Asking<'a, M: Mark> {
 
 impl<M: Mark> Asking<'_, M> {
     /// Takes what was found behind these decisions into account for each question. Where each has its hit no path is followed any more.
-    pub(crate) fn keep(&mut self, found: &Found, decisions: &[Decision]) -> Result<(), NoMemory>
-        requires { IsReady self.old.subject self.old.questions.items self.old.kept.items }
+    pub(crate) fn keep(&mut self, found: Found, decisions: &[Decision]) -> Result<(), NoMemory>
+        requires ready { IsReady self.old.subject self.old.questions.items self.old.kept.items }
+        requires found { IsHandedBy (net_of self.old.subject) (entry_of self.old.subject) self.old.subject.hops (handed decisions.now found) }
         ensures same { IsSameAsking self.old.subject self.new.subject self.old.questions.items self.new.questions.items
             self.old.failed self.new.failed }
         ensures one_each { length self.new.kept.items ≡ length self.old.kept.items }
         ensures keeps { IfOk result (λ done. (xs : List RecordTree) → self.old.count ≡ length xs
             → AreKept (net_of self.old.subject) (entry_of self.old.subject) self.old.subject.hops xs
             self.old.questions.items self.old.kept.items
-            → (self.new.count ≡ length (xs ++ found_tree found.now decisions.now ∷ []))
+            → (self.new.count ≡ length (xs ++ found_tree found decisions.now ∷ []))
             × AreKept (net_of self.old.subject) (entry_of self.old.subject) self.old.subject.hops
-            (xs ++ found_tree found.now decisions.now ∷ []) self.old.questions.items self.new.kept.items) }
+            (xs ++ found_tree found decisions.now ∷ []) self.old.questions.items self.new.kept.items) }
     {
         let Some(next) = self.count.checked_add(1) else {
+            drop(found);
             return Err(NoMemory);
         };
         if are_found(&self.kept) {
+            drop(found);
             self.count = next;
             return Ok(());
         }
@@ -103,7 +108,9 @@ impl<M: Mark> Asking<'_, M> {
 }
 
 impl<M: Mark> Observer for Asking<'_, M> {
-    ghost use Rattle.std.specs.Prelude.{map};
+    ghost use Rattle.std.specs.Prelude.{◌×◌, map};
+    ghost use Rattle.path_questions.specs.Deciding.{entry_of, net_of};
+    ghost use Rattle.symbolic_engine.specs.Exploring.{IsHandedBy};
     ghost use Rattle.symbolic_engine.specs.Finds.{handed_tree};
     ghost use Rattle.queries.specs.Holding.{IsAskingOf, IsReady};
 
@@ -115,7 +122,8 @@ impl<M: Mark> Observer for Asking<'_, M> {
       StoppedIn = λ items. Unit {0};
       stops = 0;
       target = 0;
-      Takes = λ item. IsReady asking.subject asking.questions.items asking.kept.items;
+      Takes = λ item. IsReady asking.subject asking.questions.items asking.kept.items
+          × IsHandedBy (net_of asking.subject) (entry_of asking.subject) asking.subject.hops item;
     } };
 
     fn see(&mut self, found: Found, decisions: &[Decision]) -> Took {
@@ -123,13 +131,9 @@ impl<M: Mark> Observer for Asking<'_, M> {
             drop(found);
             return Took::NoMemory;
         }
-        match self.keep(&found, decisions) {
-            Ok(()) => {
-                drop(found);
-                Took::More
-            }
+        match self.keep(found, decisions) {
+            Ok(()) => Took::More,
             Err(_) => {
-                drop(found);
                 self.failed = true;
                 Took::NoMemory
             }

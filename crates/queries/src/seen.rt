@@ -6,9 +6,11 @@ ghost use Rattle.exact_records.specs.View.{record_tree};
 ghost use Rattle.path_questions.specs.Asked.{look_of, question_seen};
 ghost use Rattle.path_questions.specs.Deciding.{entry_of, net_of};
 ghost use Rattle.path_questions.specs.declared.looking.Look.TheVariants.{OnArrivals};
-ghost use Rattle.queries.specs.Paths.{AreNoted, IsPathRun, LeadsSo, SeesPath};
-ghost use Rattle.queries.specs.Judged.{IsPathSeen, IsSeenOf, IsWellSeen};
+ghost use Rattle.path_exec.specs.Handing.{handed};
+ghost use Rattle.symbolic_engine.specs.Exploring.{IsHandedBy};
 ghost use Rattle.symbolic_engine.specs.Finds.{found_tree};
+ghost use Rattle.queries.specs.Paths.{AreNoted, IsPathRun, LeadsSo, SeesPath, led_over};
+ghost use Rattle.queries.specs.Judged.{IsPathSeen, IsSeenOf, IsWellSeen};
 
 use crate::states::{PathRun, Stop, comes_to, end_of, noted_at, states_at};
 use lin_term::Term;
@@ -16,9 +18,10 @@ use path_exec::FollowFault;
 use path_questions::{Kept, Look, Question, Subject, look_of};
 use path_records::Record;
 use sefl_meaning::laws::the_first_closed_decision_is_one;
-use sefl_meaning::{Decision, Place};
+use sefl_meaning::{Decision, End, Place};
 use sn_width::NoMemory;
 use std::alloc::Global;
+use sym_state::SymState;
 use symbolic_engine::{Found, Led, follow};
 use term_values::Formulas;
 
@@ -87,6 +90,33 @@ fn stops_of(
     Ok(stops)
 }
 
+/// The path of these decisions, which lead to this state, where the run is over.
+fn run_of<'a>(
+    alloc: Global,
+    subject: &Subject<'_>,
+    decisions: &'a [Decision],
+    state: SymState,
+    how: End,
+) -> Result<PathRun<'a>, NoMemory>
+    requires { LeadsSo (net_of subject.now) (entry_of subject.now) subject.now.hops decisions.now (led_over state how) }
+    ensures path { IfOk result (IsPathRun (net_of subject.now) (entry_of subject.now) subject.now.hops) }
+    ensures decisions { IfOk result (λ run. run.decisions.now ≡ decisions.now) }
+{
+    match state.places(alloc) {
+        Ok(places) => Ok(PathRun {
+            decisions,
+            state,
+            how,
+            places,
+        }),
+        Err(error) => {
+            drop(state);
+            drop(how);
+            Err(error)
+        }
+    }
+}
+
 /// The path that decisions lead along, where it is one.
 fn path_of<'a>(
     alloc: Global,
@@ -102,18 +132,8 @@ fn path_of<'a>(
         drop(state);
         return Ok(None);
     };
-    match state.places(alloc) {
-        Ok(places) => Ok(Some(PathRun {
-            decisions,
-            state,
-            how,
-            places,
-        })),
-        Err(error) => {
-            drop(state);
-            Err(error)
-        }
-    }
+    let run = run_of(alloc, subject, decisions, state, how)?;
+    Ok(Some(run))
 }
 
 /// The path that decisions lead along, which is followed once; None where they lead along none.
@@ -139,8 +159,26 @@ fn followed<'a>(
     }
 }
 
-/// What questions see of the path of these decisions, where this is known of them before it. The path is followed once, and once more for
-/// each port where questions look that have no hit.
+/// What questions see of a path, where this is known of them before it. It is followed once for each port where questions look that have no
+/// hit.
+fn see_run<'a>(
+    alloc: Global,
+    subject: &Subject<'_>,
+    questions: &[Question<'_>],
+    kept: &[Kept],
+    run: PathRun<'a>,
+) -> Result<Seen<'a>, NoMemory>
+    requires one_each { length questions.now ≡ length kept.now }
+    requires job { AreOfOneJob (net_of subject.now) (entry_of subject.now) }
+    requires path { IsPathRun (net_of subject.now) (entry_of subject.now) subject.now.hops run }
+    ensures path { IfOk result (IsWellSeen (net_of subject.now) (entry_of subject.now) subject.now.hops) }
+    ensures seen { IfOk result (IsPathSeen (net_of subject.now) (entry_of subject.now) subject.now.hops run.decisions.now) }
+{
+    let stops = stops_of(alloc, subject, questions, kept, &run)?;
+    Ok(Seen::Path { run, stops })
+}
+
+/// What questions see of the path of these decisions, which is followed for it, where this is known of them before it.
 fn see_path<'a>(
     alloc: Global,
     subject: &Subject<'_>,
@@ -156,8 +194,7 @@ fn see_path<'a>(
     let Some(run) = followed(alloc, subject, decisions)? else {
         return Ok(Seen::Nothing);
     };
-    let stops = stops_of(alloc, subject, questions, kept, &run)?;
-    Ok(Seen::Path { run, stops })
+    see_run(alloc, subject, questions, kept, run)
 }
 
 /// What questions see of a record, where this is known of them before it.
@@ -186,18 +223,26 @@ pub(crate) fn see_found<'a>(
     subject: &Subject<'_>,
     questions: &[Question<'_>],
     kept: &[Kept],
-    found: &Found,
+    found: Found,
     decisions: &'a [Decision],
 ) -> Result<Seen<'a>, NoMemory>
     requires one_each { length questions.now ≡ length kept.now }
     requires job { AreOfOneJob (net_of subject.now) (entry_of subject.now) }
+    requires found { IsHandedBy (net_of subject.now) (entry_of subject.now) subject.now.hops (handed decisions.now found) }
     ensures path { IfOk result (IsWellSeen (net_of subject.now) (entry_of subject.now) subject.now.hops) }
-    ensures seen { IfOk result (IsSeenOf (net_of subject.now) (entry_of subject.now) subject.now.hops
-        (found_tree found.now decisions.now)) }
+    ensures seen { IfOk result (IsSeenOf (net_of subject.now) (entry_of subject.now) subject.now.hops (found_tree found decisions.now)) }
 {
     match found {
-        Found::Path { .. } => see_path(alloc, subject, questions, kept, decisions),
-        Found::Pruned { .. } => Ok(Seen::Nothing),
+        Found::Path { state, end, verdict } => {
+            drop(verdict);
+            let run = run_of(alloc, subject, decisions, state, end)?;
+            see_run(alloc, subject, questions, kept, run)
+        }
+        Found::Pruned { before, refutation } => {
+            drop(before);
+            drop(refutation);
+            Ok(Seen::Nothing)
+        }
         Found::Unexplored => Ok(Seen::Untried),
     }
 }

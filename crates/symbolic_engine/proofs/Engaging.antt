@@ -1,5 +1,5 @@
 -- What the engine's calls answer.
-use Rattle.std.proofs.Common.{◌≡◌, ℕ, List, [], ◌∷◌, ◌++◌, length, reverse, Option, None, Some, IfSome, sym, ap, subst, ◌∙◌}
+use Rattle.std.proofs.Common.{◌≡◌, ℕ, List, [], ◌∷◌, ◌++◌, length, reverse, Option, None, Some, IfSome, refl, sym, ap, subst, ◌∙◌}
 use Rattle.std.proofs.lemmas.List.{reverse-append, reverse-reverse}
 use Rattle.std.specs.Global.{Global}
 use Rattle.std.specs.declared.rc.Rc.{Rc}
@@ -25,12 +25,14 @@ use Rattle.code_frames.specs.Frames.{progress_at}
 use Rattle.sym_state.specs.Symbolic.{Symbolic}
 use Rattle.exact_records.specs.Records.{IsRefutedBy, IsVerdictOn, SymCondition, SymStart, SymTree, path, pruned}
 use Rattle.exact_records.specs.Spots.{IsKnown, Spot, condition_at, filled_verdict, first_spot}
+use Rattle.path_exec.specs.Following.{IsLed}
 use Rattle.path_exec.specs.Handing.{IsListed, handed}
 use Rattle.path_exec.specs.Here.{EndsWith, spot_at}
 use Rattle.path_exec.specs.Offers.{next_spot}
 use Rattle.path_exec.specs.Trials.{IsOpenAt, IsPathOf}
 use Rattle.path_exec.specs.Views.{IsMade}
 use Rattle.symbolic_engine.specs.declared.found.Found.TheVariants.{Path, Pruned}
+use Rattle.symbolic_engine.specs.declared.guiding.Waits.TheVariants.{Nothing}
 use Rattle.symbolic_engine.specs.declared.origin.Origin.{Ghosts}
 use Rattle.symbolic_engine.specs.declared.spots.Standing.{Standing}
 use Rattle.symbolic_engine.specs.declared.stage.Stage.{Stage}
@@ -38,10 +40,12 @@ use Rattle.symbolic_engine.specs.declared.stage.Stage.TheVariants.{Entering}
 use Rattle.symbolic_engine.specs.declared.stage.Wait.{Wait}
 use Rattle.symbolic_engine.specs.declared.stage.Wait.TheVariants.{Asked, Forked}
 use Rattle.symbolic_engine.specs.Finding.{IsOpenBy}
+use Rattle.symbolic_engine.specs.Leading.{LeadsThere}
 use Rattle.symbolic_engine.specs.Origins.{IsFirstState, IsRunOf, condition_seen, here_of, progress_in}
 use Rattle.symbolic_engine.specs.Seeing.{finished_at, standing_at, views_of, waiting_at}
 use Rattle.symbolic_engine.specs.Stages.{stage_tree, wait_tree}
 use Rattle.symbolic_engine.specs.Turning.{IsNoted}
+use Rattle.symbolic_engine.proofs.Explored.{leads_there}
 use Rattle.symbolic_engine.proofs.Running.{condition_here, no_choices, no_tests, some_same}
 use Rattle.symbolic_engine.proofs.Turns.{noted_spot, run_noted}
 
@@ -119,15 +123,21 @@ base_behind stays wait x d y noted (Some b) h = base_noted stays wait x d y b no
 over_same : (p q : Progress LinearTerm) (e f : End) → ◌≡◌ {A = SymTree} (over p e) (over q f) → (p ≡ q) × (e ≡ f)
 over_same p q e f h = (cc h, cc h)
 
--- a path that is over, with a verdict on its condition
-pub path_there : {B : Type 0} {origin : Ghosts B} (s : SymStart) (net : Network) (x y : Symbolic) (how : End) (verdict : Rc Verdict Global) → y ≡ x → IsListed (reverse x.decisions)
-    → (begun : ℕ) → IsPathOf (views_of {B = B} {origin = origin} s net) (spot_at begun (finished_at s x how)) verdict.value (handed (reverse x.decisions) (Path y how verdict))
-path_there s net x y how verdict is fits begun p end' e =
+-- a path that is over where its decisions lead, with a verdict on its condition
+pub path_there : {B : Type 0} {origin : Ghosts B} (s : SymStart) (net : Network) (x y : Symbolic) (how : End) (verdict : Rc Verdict Global) → y ≡ x → IsRunOf s x
+    → IsListed (reverse x.decisions) → (begun : ℕ) → IsLed s (reverse x.decisions) (spot_at begun (finished_at s x how))
+    → IsPathOf (views_of {B = B} {origin = origin} s net) (spot_at begun (finished_at s x how)) verdict.value (handed (reverse x.decisions) (Path y how verdict))
+path_there s net x y how verdict is run listed begun led p end' e =
     let same = over_same (progress_in x begun) p how end' e in
+    let ds = reverse x.decisions in
     record {
-      is = (λ i. path (reverse x.decisions) (reverse (is i).places) how (fields_of (is i).carried) (filled_verdict (length (is i).condition.widths) verdict.value))
-          ∙ (λ i. path (reverse x.decisions) (reverse x.places) (same.1 i) (fields_of (same.0 i).state) (filled_verdict (length x.condition.widths) verdict.value));
-      own = fits;
+      is = (λ i. path ds (reverse (is i).places) how (fields_of (is i).carried) (filled_verdict (length (is i).condition.widths) verdict.value))
+          ∙ (λ i. path ds (reverse x.places) (same.1 i) (fields_of (same.0 i).state) (filled_verdict (length x.condition.widths) verdict.value));
+      own = record {
+        listed = listed;
+        leads = subst (λ (z : Symbolic). LeadsThere s ds (record { state = z; waits = Nothing how })) (sym is)
+            (leads_there s ds x (λ n. over (progress_in x n) how) begun run led (Nothing how) (begun, led.left) refl);
+      };
     }
 
 -- a refuted side, with the verdict before it
@@ -135,8 +145,8 @@ pub side_there : {B : Type 0} {origin : Ghosts B} (s : SymStart) (net : Network)
     → count ≡ length x.condition.widths → (ds : List Decision) → IsListed ds
     → IsMade (views_of {B = B} {origin = origin} s net) (pruned ds (Some (filled_verdict (length (waiting_at s net x wait).widths) verdict.value)) refutation)
     (handed ds (Pruned (Some (record { verdict = verdict; symbols = count })) refutation))
-side_there s net x wait verdict count refutation is ds fits =
-    record { is = ap (λ (n : ℕ). pruned ds (Some (filled_verdict n verdict.value)) refutation) is; own = fits }
+side_there s net x wait verdict count refutation is ds listed =
+    record { is = ap (λ (n : ℕ). pruned ds (Some (filled_verdict n verdict.value)) refutation) is; own = record { listed = listed; leads = tt } }
 
 -- ---- copies of places, and where they stand
 

@@ -40,7 +40,8 @@ use Rattle.symbolic_engine.specs.Stages.{wait_tree}
 use Rattle.symbolic_engine.specs.Origins.{IsFirstState, IsRunOf, condition_seen, here_of}
 use Rattle.symbolic_engine.specs.Seeing.{views_of}
 use Rattle.symbolic_engine.specs.Finds.{handed_tree}
-use Rattle.symbolic_engine.specs.Exploring.{AreFound, ArrivedFor, ArrivesIn, ExploredFor, FollowedFor, LeadsThere, ObservedFor, WaitsAs}
+use Rattle.symbolic_engine.specs.Exploring.{AreFound, ArrivedFor, ArrivesIn, ExploredFor, FollowedFor, ObservedFor}
+use Rattle.symbolic_engine.specs.Leading.{LeadsThere, WaitsAs}
 use Rattle.symbolic_engine.proofs.Running.{all_tests}
 
 -- ---- the start

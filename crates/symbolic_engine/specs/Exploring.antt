@@ -5,12 +5,11 @@ use Rattle.std.specs.List.{AllByRecursion}
 use Rattle.sefl_meaning.specs.declared.walk.Decision.{Decision}
 use Rattle.sefl_meaning.specs.declared.walk.Place.{Place}
 use Rattle.sefl_meaning.specs.Network.{Network, Entry}
-use Rattle.sefl_meaning.specs.Routes.{IsFirstClosed, places_on, route}
-use Rattle.sefl_meaning.specs.Start.{progress_of, tests_on}
-use Rattle.sefl_meaning.specs.Trees.{over}
+use Rattle.sefl_meaning.specs.Routes.{IsFirstClosed, route}
+use Rattle.sefl_meaning.specs.Start.{tests_on}
 use Rattle.path_records.specs.declared.records.Record.{Record}
 use Rattle.exact_records.specs.Packets.{AreExactFor, IsExplored}
-use Rattle.exact_records.specs.Records.{SymCondition, SymRoute, SymStart, SymTree, condition_on}
+use Rattle.exact_records.specs.Records.{SymCondition, SymRoute, SymStart}
 use Rattle.exact_records.specs.View.{record_tree, record_trees}
 use Rattle.exact_records.specs.Work.{work_of}
 use Rattle.sym_state.specs.Symbolic.{Symbolic}
@@ -18,16 +17,14 @@ use Rattle.path_exec.specs.declared.exploration.Ended.{Ended}
 use Rattle.path_exec.specs.declared.guided.FollowFault.{FollowFault}
 use Rattle.path_exec.specs.declared.guided.FollowFault.TheVariants.{Impossible, NoMemory}
 use Rattle.path_exec.specs.Handing.{Handed}
-use Rattle.path_exec.specs.Offers.{IsNode}
 use Rattle.path_exec.specs.Receiving.{Receiving}
 use Rattle.path_exec.specs.Visiting.{AreVisits, Arrival, LeadsFirst}
 use Rattle.symbolic_engine.specs.declared.found.Found.{Found}
 use Rattle.symbolic_engine.specs.declared.guiding.Led.{Led}
-use Rattle.symbolic_engine.specs.declared.guiding.Waits.{Waits}
-use Rattle.symbolic_engine.specs.declared.guiding.Waits.TheVariants.{Nothing, Decides}
 use Rattle.symbolic_engine.specs.Ends.{EndsEarly, EndsPartial, EndsSo, EndsStopped, EndsWhole}
 use Rattle.symbolic_engine.specs.Finds.{handed_tree}
-use Rattle.symbolic_engine.specs.Origins.{condition_seen, progress_in}
+use Rattle.symbolic_engine.specs.Leading.{IsHanded, LeadsThere}
+use Rattle.symbolic_engine.specs.Origins.{condition_seen}
 
 -- the receiver stands for exact records of the net, and none is left out
 abbrev pub EndsWholeFor : Network → Entry → ℕ → ℕ → Receiving Record → ℕ → ℕ → Type 0
@@ -59,22 +56,6 @@ module _ (net : Network) (i : Entry) (hops : ℕ) where
     pub exact : AreExactFor net i hops limit (record_trees records)
     pub spent : after ≤ before + work_of exact.start (record_trees records)
 
--- the run is over so, or waits so
-abbrev pub WaitsAs : Waits → SymTree → Symbolic → Type 0
-WaitsAs (Nothing how) t x = (begun : ℕ) × (t ≡ over (progress_in x begun) how)
-WaitsAs (Decides offer) t x = IsNode offer t
-
--- these decisions lead to this state, by its ports and its formulas, and this waits there; its first symbols are the unknown fields
-pub record LeadsThere (start : SymStart) (ds : List Decision) (led : Led) : Type 0 where
-  pub way : SymRoute
-  pub leads : route start.tree ds ≡ Some way
-  pub waits : WaitsAs led.waits way.left led.state
-  pub carries : (progress_of way.left).state ≡ led.state.carried
-  pub decisions : reverse led.state.decisions ≡ ds
-  pub places : reverse led.state.places ≡ places_on way
-  pub condition : condition_seen led.state ≡ condition_on start way
-  pub unknowns : led.state.unknowns ≡ length start.unknowns
-
 -- the condition where a route makes this arrival: its tests with their truths, over the symbols that there are so far
 abbrev pub condition_up_to : SymStart → SymRoute → Arrival → SymCondition
 condition_up_to start way arrival = record { widths = start.unknowns ++ arrival.1.choices; entries = tests_on start way }
@@ -95,12 +76,21 @@ pub record ArrivesBy (start : SymStart) (port : Place) (ds : List Decision) (sta
   pub visits : AreVisits (λ (x : Symbolic). x.carried) (ArrivesIn start ds) port [] way.arrivals states
 
 module _ (net : Network) (i : Entry) (hops : ℕ) where
-  -- where decisions lead, or the first that is not offered
+  -- this holds of what is explored
   pub record FollowsTo (Holds : SymStart → Type 0) : Type 0 where
     pub start : SymStart
     pub explored : IsExplored net i hops start
     pub holds : Holds start
 
+  -- what an exploration hands over
+  abbrev pub IsHandedBy : Handed Found → Type 0
+  IsHandedBy item = FollowsTo (λ start. IsHanded start item)
+
+  -- an observer takes all of it
+  abbrev pub TakesHanded : Receiving (Handed Found) → Type 0
+  TakesHanded m = (item : Handed Found) → IsHandedBy item → m.Takes item
+
+  -- where decisions lead, or the first that is not offered
   abbrev pub FollowedFor : List Decision → Result Led FollowFault → Type 0
   FollowedFor ds (Ok led) = FollowsTo (λ start. LeadsThere start ds led)
   FollowedFor ds (Err (Impossible index)) = FollowsTo (λ start. IsFirstClosed start.tree ds index)

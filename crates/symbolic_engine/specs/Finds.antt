@@ -5,8 +5,7 @@ use Rattle.sefl_meaning.specs.declared.walk.Decision.{Decision}
 use Rattle.sefl_meaning.specs.Fields.{fields_of}
 use Rattle.exact_records.specs.Records.{RecordTree, path, pruned, unexplored}
 use Rattle.exact_records.specs.Spots.{filled_verdict}
-use Rattle.path_exec.specs.Handing.{Handed, IsListed}
-use Rattle.path_exec.specs.Receiving.{Receiving}
+use Rattle.path_exec.specs.Handing.{Handed}
 use Rattle.symbolic_engine.specs.declared.found.Before.{Before}
 use Rattle.symbolic_engine.specs.declared.found.Found.{Found}
 use Rattle.symbolic_engine.specs.declared.found.Found.TheVariants.{Path, Pruned, Unexplored}
@@ -25,7 +24,3 @@ found_tree Unexplored ds = unexplored ds
 -- of what is handed over
 abbrev pub handed_tree : Handed Found → RecordTree
 handed_tree handed = found_tree handed.found handed.decisions
-
--- an observer takes what is found behind any decisions that the program has
-abbrev pub TakesListed : Receiving (Handed Found) → Type 0
-TakesListed m = (item : Handed Found) → IsListed item.decisions → m.Takes item

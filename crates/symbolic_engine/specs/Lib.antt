@@ -1,6 +1,7 @@
 pub mod Origins
 pub mod Stages
 pub mod Turning
+pub mod Leading
 pub mod Seeing
 pub mod Finding
 pub mod Finds

@@ -5,7 +5,7 @@ use Rattle.sefl_meaning.specs.declared.walk.End.{End}
 use Rattle.sefl_meaning.specs.Trees.{over}
 use Rattle.exact_records.specs.Records.{SymStart}
 use Rattle.sym_state.specs.Symbolic.{Symbolic}
-use Rattle.path_exec.specs.Handing.{Handed, IsListed}
+use Rattle.path_exec.specs.Handing.{Handed}
 use Rattle.path_exec.specs.Here.{Here}
 use Rattle.path_exec.specs.Views.{Views}
 use Rattle.symbolic_engine.specs.declared.found.Found.{Found}
@@ -16,6 +16,7 @@ use Rattle.symbolic_engine.specs.declared.spots.Waiting.{Waiting}
 use Rattle.symbolic_engine.specs.declared.stage.Stage.{Stage}
 use Rattle.symbolic_engine.specs.declared.stage.Wait.{Wait}
 use Rattle.symbolic_engine.specs.Finds.{handed_tree}
+use Rattle.symbolic_engine.specs.Leading.{IsHanded}
 use Rattle.symbolic_engine.specs.Origins.{here_of, progress_in}
 use Rattle.symbolic_engine.specs.Stages.{stage_tree, wait_tree}
 
@@ -30,8 +31,7 @@ module _ (s : SymStart) (net : Network) where
 abbrev pub finished_at : SymStart → Symbolic → End → Here
 finished_at s x how = here_of s x (λ begun. over (progress_in x begun) how)
 
--- what the engine's values are seen as; of what is handed over no more is said than that the program has its decisions, so an observer
--- has to take each of them
+-- what the engine's values are seen as
 abbrev pub views_of : {B : Type 0} {origin : Ghosts B} → SymStart → Network → Views (Standing B) (Finished B) (Waiting B origin) Verdict (Handed Found)
 views_of s net = record {
   start = s;
@@ -41,5 +41,5 @@ views_of s net = record {
   node_at = λ node. waiting_at s net node.run node.wait;
   verdict_of = λ verdict. verdict;
   record_of = handed_tree;
-  IsOwn = λ made. IsListed made.decisions;
+  IsOwn = IsHanded s;
 }

@@ -102,7 +102,8 @@ pub(crate) fn ended<'a, B: Origin>(
     run: Run<B>,
     how: End,
 ) -> Moved<Standing<'a, B>, Finished<B>, Waiting<'a, B>>
-    ensures { (own : Network) (begun : ℕ) → IsMove (views_of B.start own) (spot_at begun (here_of B.start run (λ n. over (progress_in run n) how))) begun result }
+    ensures { (own : Network) (begun : ℕ) → IsMove (views_of B.start own)
+        (spot_at begun (here_of B.start run (λ n. over (progress_in run n) how))) begun result }
 {
     run.is_own();
     let over = Finished { run, how };
@@ -140,7 +141,8 @@ pub(crate) fn behind<'a, B: Origin>(
     exit: Exit<'a>,
 ) -> Result<Moved<Standing<'a, B>, Finished<B>, Waiting<'a, B>>, NoMemory>
     ensures { IfOk result (λ moved. (begun : ℕ) → IsMove (views_of B.start (network net.now))
-        (spot_at begun (here_of B.start run (λ n. behind_gate (network net.now) run.unknowns gate (exit_of exit.entry) (progress_in run n)))) begun moved) }
+        (spot_at begun (here_of B.start run (λ n. behind_gate (network net.now) run.unknowns gate (exit_of exit.entry)
+        (progress_in run n)))) begun moved) }
 {
     match gate.side {
         Side::Inward => passed(alloc, net, run, gate, exit),
@@ -157,7 +159,8 @@ fn passed<'a, B: Origin>(
     exit: Exit<'a>,
 ) -> Result<Moved<Standing<'a, B>, Finished<B>, Waiting<'a, B>>, NoMemory>
     ensures { IfOk result (λ moved. (begun : ℕ) → IsMove (views_of B.start (network net.now))
-        (spot_at begun (here_of B.start run (λ n. behind_side (network net.now) run.unknowns gate.node gate.port gate.hops AtInput (exit_of exit.entry) (progress_in run n)))) begun moved) }
+        (spot_at begun (here_of B.start run (λ n. behind_side (network net.now) run.unknowns gate.node gate.port gate.hops AtInput
+        (exit_of exit.entry) (progress_in run n)))) begun moved) }
 {
     match exit {
         Exit::Off => Ok(ended(run, End::Stopped)),
@@ -179,7 +182,8 @@ fn crossed<'a, B: Origin>(
     exit: Exit<'a>,
 ) -> Result<Moved<Standing<'a, B>, Finished<B>, Waiting<'a, B>>, NoMemory>
     ensures { IfOk result (λ moved. (begun : ℕ) → IsMove (views_of B.start (network net.now))
-        (spot_at begun (here_of B.start run (λ n. behind_side (network net.now) run.unknowns gate.node gate.port gate.hops AtOutput (exit_of exit.entry) (progress_in run n)))) begun moved) }
+        (spot_at begun (here_of B.start run (λ n. behind_side (network net.now) run.unknowns gate.node gate.port gate.hops AtOutput
+        (exit_of exit.entry) (progress_in run n)))) begun moved) }
 {
     match exit {
         Exit::Off => match link_of(net, gate.node, gate.port) {

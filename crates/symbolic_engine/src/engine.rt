@@ -5,6 +5,7 @@ ghost use Rattle.net_check.specs.Network.{network};
 ghost use Rattle.sefl_meaning.specs.declared.walk.Decision.{Decision as ADecision};
 ghost use Rattle.exact_records.specs.Records.{pruned};
 ghost use Rattle.exact_records.specs.Spots.{filled_verdict};
+ghost use Rattle.path_exec.specs.Following.{IsLed};
 ghost use Rattle.path_exec.specs.Handing.{IsListed, handed};
 ghost use Rattle.path_exec.specs.Here.{spot_at};
 ghost use Rattle.path_exec.specs.Trials.{IsPathOf};
@@ -183,6 +184,7 @@ impl<'a, B: Origin> Engine for Explorer<'a, B> {
 
     fn path(&self, over: Finished<B>, finding: Rc<Verdict>) -> Found
         ensures { IsListed (reverse over.run.decisions) → (begun : ℕ)
+            → IsLed B.start (reverse over.run.decisions) (spot_at begun (finished_at B.start over.run over.how))
             → IsPathOf (views_of {origin = B.Origin} B.start B.net) (spot_at begun (finished_at B.start over.run over.how)) finding.value
             (handed (reverse over.run.decisions) result) }
     {

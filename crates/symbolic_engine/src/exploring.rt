@@ -8,8 +8,7 @@ ghost use Rattle.path_records.specs.declared.records.Record.{Record as RecordOf}
 ghost use Rattle.exact_records.specs.Packets.{IsExplored};
 ghost use Rattle.path_exec.specs.Receiving.{IsSame};
 ghost use Rattle.symbolic_engine.specs.Origins.{IsFirstState};
-ghost use Rattle.symbolic_engine.specs.Exploring.{AreFound, ExploredFor, ObservedFor};
-ghost use Rattle.symbolic_engine.specs.Finds.{TakesListed};
+ghost use Rattle.symbolic_engine.specs.Exploring.{AreFound, ExploredFor, ObservedFor, TakesHanded};
 
 use crate::engine::Explorer;
 use crate::found::Found;
@@ -30,7 +29,7 @@ use term_values::Formulas;
 
 /// Explores a net from an injection, with `hops` hops, and shows an observer what is found, at once and with the decisions that led
 /// there: at most `limit` of paths and refuted sides, in the order of their decisions, and then each decision that is left. The records
-/// of what is found are exact for the net. The counter counts the instructions that begin, at most the work of the records.
+/// of what is found are exact for the net, and the state of a path is where its decisions lead. The counter counts the instructions that begin, at most the work of the records.
 ///
 /// For want of memory, and where the observer answers it, what was shown is exact so far.
 pub fn observe<K: Observer<Found = Found>, L: Ledger>(
@@ -45,9 +44,10 @@ pub fn observe<K: Observer<Found = Found>, L: Ledger>(
     requires job { AreOfOneJob (network net.now) (entry injection.now) }
     requires some { 0 < limit }
     requires stands { (K.seen out.old).StandsFor [] }
-    requires takes { TakesListed (K.seen out.old) }
+    requires takes { TakesHanded (network net.now) (entry injection.now) hops (K.seen out.old) }
     ensures same { IsSame (K.seen out.old) (K.seen out.new) }
-    ensures observed { ObservedFor (network net.now) (entry injection.now) hops limit (K.seen out.old).stops (K.seen out.new) steps.old steps.new result }
+    ensures observed { ObservedFor (network net.now) (entry injection.now) hops limit (K.seen out.old).stops
+        (K.seen out.new) steps.old steps.new result }
 {
     net.keeps_the_rules();
     accepted_forks_have_copies::<Term, Formulas>();
@@ -72,9 +72,10 @@ fn observe_from<B: Origin, K: Observer<Found = Found>, L: Ledger>(
     requires splits { Splits B.start.tree }
     requires some { 0 < limit }
     requires stands { (K.seen out.old).StandsFor [] }
-    requires takes { TakesListed (K.seen out.old) }
+    requires takes { TakesHanded (network net.now) (entry injection.now) hops (K.seen out.old) }
     ensures same { IsSame (K.seen out.old) (K.seen out.new) }
-    ensures observed { ObservedFor (network net.now) (entry injection.now) hops limit (K.seen out.old).stops (K.seen out.new) steps.old steps.new result }
+    ensures observed { ObservedFor (network net.now) (entry injection.now) hops limit (K.seen out.old).stops
+        (K.seen out.new) steps.old steps.new result }
 {
     exact_records_show_each_walk();
     let engine = Explorer::<B>::new(alloc, net, injection.place(), hops, first);
@@ -100,7 +101,8 @@ pub fn explore_into<K: Receiver<Item = Record>, L: Ledger>(
     requires stands { (K.seen out.old).StandsFor [] }
     requires takes { (item : RecordOf) → (K.seen out.old).Takes item }
     ensures same { IsSame (K.seen out.old) (K.seen out.new) }
-    ensures explored { ExploredFor (network net.now) (entry injection.now) hops limit (K.seen out.old).stops (K.seen out.new) steps.old steps.new result }
+    ensures explored { ExploredFor (network net.now) (entry injection.now) hops limit (K.seen out.old).stops
+        (K.seen out.new) steps.old steps.new result }
 {
     record_into::<Brand, K, L>(alloc, net, injection, hops, limit, out, steps)
 }
@@ -121,7 +123,8 @@ fn record_into<M: Mark, K: Receiver<Item = Record>, L: Ledger>(
     requires takes { (item : RecordOf) → (K.seen out.old).Takes item }
     requires target { (K.seen out.old).target ≡ M.target }
     ensures same { IsSame (K.seen out.old) (K.seen out.new) }
-    ensures explored { ExploredFor (network net.now) (entry injection.now) hops limit (K.seen out.old).stops (K.seen out.new) steps.old steps.new result }
+    ensures explored { ExploredFor (network net.now) (entry injection.now) hops limit (K.seen out.old).stops
+        (K.seen out.new) steps.old steps.new result }
 {
     let mut recording: Recording<'_, M, K> = Recording {
         alloc,

@@ -92,7 +92,8 @@ pub(crate) fn onward<'a, B: Origin, L: Ledger>(
     place: Standing<'a, B>,
     steps: &mut Steps<L>,
 ) -> Result<Moved<Standing<'a, B>, Finished<B>, Waiting<'a, B>>, NoMemory>
-    ensures { IfOk result (Moves (views_of B.start (network net.now)) (standing_at B.start (network net.now) place.entry.run place.entry.stage) steps.old steps.new) }
+    ensures { IfOk result (Moves (views_of B.start (network net.now))
+        (standing_at B.start (network net.now) place.entry.run place.entry.stage) steps.old steps.new) }
 {
     let Standing { run, stage } = place;
     match stage {

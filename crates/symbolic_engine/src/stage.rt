@@ -105,7 +105,8 @@ fn same_left<'a>(left: &Option<Exit<'a>>) -> Result<Option<Exit<'a>>, NoMemory>
 
 /// The same stage: whatever is carried, the same comes there.
 pub(crate) fn same_stage<'a>(alloc: Global, stage: &Stage<'a>) -> Result<Stage<'a>, NoMemory>
-    ensures { IfOk result (λ copy. (net : Network) (x : Symbolic) (begun : ℕ) → stage_tree net copy x begun ≡ stage_tree net stage.now x begun) }
+    ensures { IfOk result (λ copy. (net : Network) (x : Symbolic) (begun : ℕ)
+        → stage_tree net copy x begun ≡ stage_tree net stage.now x begun) }
 {
     match stage {
         Stage::Entering { node, port, hops } => Ok(Stage::Entering {

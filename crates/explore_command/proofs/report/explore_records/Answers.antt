@@ -15,7 +15,7 @@ observe-ended-requires-clause-stands g c = record {
 }
 
 pub observe-ended-requires-clause-takes : goal.observe-ended-requires-clause-takes
-observe-ended-requires-clause-takes g c = λ item listed. listed
+observe-ended-requires-clause-takes g c = λ item by. by.holds.listed
 
 -- what holds of the mark's net holds of that of the job
 pub returns-clause-puts : goal.returns-clause-puts

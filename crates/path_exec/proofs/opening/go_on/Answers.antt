@@ -2,6 +2,7 @@ use Rattle.std.proofs.Common.{ℕ, List, ap, refl, subst, sym, length, ◌∙◌
 use Rattle.sefl_meaning.specs.declared.walk.Decision.{Decision}
 use Rattle.exact_records.specs.Work.{at_last, begun_at}
 use Rattle.path_exec.specs.Coursing.{AreOnCourse}
+use Rattle.path_exec.specs.Following.{IsLed}
 use Rattle.path_exec.specs.Handing.{IsListed, handed}
 use Rattle.path_exec.specs.Here.{spot_at}
 use Rattle.path_exec.specs.Moves.{Advances}
@@ -19,7 +20,8 @@ returns-in-AtEnd-clause-keeps g c =
     let made = c.path.ensures (subst IsListed same c.requires.listed) in
     keeps_path x (c.steps_keep_what_stands.ensures x.start) (c.verdicts_stay.ensures x.start) (c.records_that_stand_are_exact.ensures x.start c.requires.splits)
     (x.place_at c.args.place) over (x.verdict_of c.args.finding.value) (handed c.args.course.now c.path.result) c.args.works.now.items c.args.steps.now c.advance.new.steps
-    c.requires.at adv (subst (λ (ds : List Decision). (begun : ℕ) → IsPathOf x (spot_at begun (x.over_at over)) (x.verdict_of c.args.finding.value) (handed ds c.path.result)) (sym same) made)
+    c.requires.at adv (subst (λ (ds : List Decision). (begun : ℕ) → IsLed x.start (x.over_at over).decisions (spot_at begun (x.over_at over))
+    → IsPathOf x (spot_at begun (x.over_at over)) (x.verdict_of c.args.finding.value) (handed ds c.path.result)) (sym same) made)
 
 pub returns-in_ok-put-in-AtNode-clause-keeps : goal.returns-in_ok-put-in-AtNode-clause-keeps
 returns-in_ok-put-in-AtNode-clause-keeps g c =

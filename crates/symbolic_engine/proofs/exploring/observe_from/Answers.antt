@@ -19,4 +19,4 @@ new-engine-requires-clause-first g c =
     subst (λ (at : NodeId × ℕ). IsFirstState g.B.Origin.start (network c.args.net.now) c.args.hops at.0 at.1 c.args.first) (sym c.place.ensures) c.requires.first
 
 pub explore_into-requires-clause-takes : goal.explore_into-requires-clause-takes
-explore_into-requires-clause-takes g c = λ item own. c.requires.takes item own
+explore_into-requires-clause-takes g c = λ item own. c.requires.takes item (record { start = g.B.Origin.start; explored = c.requires.explored; holds = own })

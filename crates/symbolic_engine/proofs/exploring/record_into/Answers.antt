@@ -9,7 +9,7 @@ pub observe-requires-clause-stands : goal.observe-requires-clause-stands
 observe-requires-clause-stands g c = record { records = []; same = refl; are = (c.requires.stands, c.requires.target) }
 
 pub observe-requires-clause-takes : goal.observe-requires-clause-takes
-observe-requires-clause-takes g c = λ item fits. c.requires.takes
+observe-requires-clause-takes g c = λ item own. c.requires.takes
 
 pub returns-clause-explored : goal.returns-clause-explored
 returns-clause-explored g c =

@@ -6,7 +6,7 @@ use Rattle.exact_records.specs.Work.{begun_at}
 use Rattle.sym_state.specs.Symbolic.{Symbolic}
 use Rattle.path_exec.specs.Following.{LeadsTo}
 use Rattle.symbolic_engine.specs.declared.guiding.Waits.TheVariants.{Nothing, Decides}
-use Rattle.symbolic_engine.specs.Exploring.{LeadsThere}
+use Rattle.symbolic_engine.specs.Leading.{LeadsThere}
 use Rattle.symbolic_engine.specs.Origins.{IsFirstState, progress_in}
 use Rattle.symbolic_engine.specs.Seeing.{views_of}
 use Rattle.symbolic_engine.specs.Stages.{wait_tree}
