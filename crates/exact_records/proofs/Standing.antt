@@ -13,7 +13,7 @@ use Rattle.sefl_meaning.specs.Courses.{Asking, Progress}
 use Rattle.sefl_meaning.specs.Trees.{over, tests, splits, Copies, no_copies, copy_and}
 use Rattle.sefl_meaning.specs.Fields.{fields_of}
 use Rattle.exact_records.specs.Below.{Facts}
-use Rattle.exact_records.specs.Records.{IsRefutedBy, IsVerdictOn, RecordTree, SymStart, SymTree, path, pruned, unexplored}
+use Rattle.exact_records.specs.Records.{IsFoundRefuted, IsVerdictOn, RecordTree, SymStart, SymTree, path, pruned, unexplored}
 use Rattle.exact_records.specs.Exact.{IsGood, IsTried, IsUnrefuted}
 use Rattle.exact_records.specs.Shapes.{Continues, Covers, IsPathAt, SideOf}
 use Rattle.exact_records.specs.Spots.{Arrives, IsBefore, IsKnown, IsPending, Known, Spot, Stands, Task, condition_at, copy_at, copy_tasks, decided, first_spot, node_of, piece_of, pieces_of, side_tasks, to_decide}
@@ -49,7 +49,7 @@ module _ (facts : Facts) (s : SymStart) where
   }
 
   prunes : (limit : ℕ) (done : List RecordTree) (a : Spot) (before written : Option Verdict) (refutation : List Refute) (rest : List Task)
-      → IsBefore s a before written → IsRefutedBy (condition_at s a) refutation
+      → IsBefore s a before written → IsFoundRefuted (condition_at s a) refutation
       → Stands s limit done ((a, to_decide before) ∷ rest) → Stands s limit (done ++ pruned a.decisions written refutation ∷ []) rest
   prunes limit done a before written refutation rest is refuted h =
       made limit done a (to_decide before) (pruned a.decisions written refutation) rest

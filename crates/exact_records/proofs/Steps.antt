@@ -17,7 +17,7 @@ use Rattle.sefl_meaning.specs.Routes.{IsOpen, behind, route, truth_of}
 use Rattle.sefl_meaning.specs.Start.{progress_of}
 use Rattle.sefl_meaning.specs.Fields.{fields_of}
 use Rattle.exact_records.specs.Below.{Facts}
-use Rattle.exact_records.specs.Records.{EndsAtTest, IsRefutedBy, IsVerdictOn, Leads, MayBe, MayPrecede, SymRoute, SymStart, SymTree, condition_on, injection_tests, path, pruned, unexplored, with_test}
+use Rattle.exact_records.specs.Records.{EndsAtTest, IsFoundRefuted, IsRefutedBy, IsVerdictOn, Leads, MayBe, MayPrecede, SymRoute, SymStart, SymTree, condition_on, first_condition, injection_tests, path, pruned, unexplored, with_test}
 use Rattle.exact_records.specs.Exact.{IsGood, IsUnrefuted}
 use Rattle.exact_records.specs.Spots.{IsAt, IsBefore, IsBehindTest, IsFirst, IsKnown, IsPending, Spot, condition_at, copied, copy_at, decided, first_spot, sided, to_decide}
 use Rattle.exact_records.proofs.Lists.{append_nil, snoc_same, split_last}
@@ -106,42 +106,44 @@ module _ (facts : Facts) (s : SymStart) where
       })
 
   pruned_side_is_good : (a : Spot) (before written : Verdict) (refutation : List Refute) → (b : IsBehindTest s a before) → IsUnrefuted s a.decisions
-      → IsRefutedBy (condition_at s a) refutation → IsVerdictOn (condition_at s b.parent) written → IsGood s (pruned a.decisions (Some written) refutation)
-  pruned_side_is_good a before written refutation b unrefuted refuted is =
+      → IsFoundRefuted (condition_at s a) refutation → IsVerdictOn (condition_at s b.parent) written → IsGood s (pruned a.decisions (Some written) refutation)
+  pruned_side_is_good a before written refutation b unrefuted found is =
       let w = parent_waits a before b in
       let side = side_at a before b in
       record {
         meaning = record {
           side = side;
-          refuted = subst (λ c. IsRefutedBy c refutation) (side_condition a before b) refuted;
+          refuted = subst (λ c. IsRefutedBy c refutation) (side_condition a before b) found.by;
           precedes = subst (λ c. MayPrecede c written) (sym (condition_there s b.parent w)) (verdict_precedes facts (condition_at s b.parent) written is);
         };
-        verdict = λ other.
-            let same_parent = snoc_same side.parent other.parent side.last other.last (sym side.joined ∙ other.joined) in
-            let same : way_at s b.parent w ≡ other.way = only_way s other.parent (way_at s b.parent w) other.way (subst (λ q. Leads s q (way_at s b.parent w)) same_parent (led s b.parent w)) other.leads in
-            subst (λ q. IsVerdictOn (condition_on s q) written) same (subst (λ c. IsVerdictOn c written) (sym (condition_there s b.parent w)) is);
+        verdict = (
+          (λ other.
+          let same_parent = snoc_same side.parent other.parent side.last other.last (sym side.joined ∙ other.joined) in
+          let same : way_at s b.parent w ≡ other.way = only_way s other.parent (way_at s b.parent w) other.way (subst (λ q. Leads s q (way_at s b.parent w)) same_parent (led s b.parent w)) other.leads in
+          subst (λ q. IsVerdictOn (condition_on s q) written) same (subst (λ c. IsVerdictOn c written) (sym (condition_there s b.parent w)) is)),
+          (side, subst (IsRefuted itself) (side_condition a before b) found.refuted),
+        );
         unrefuted = unrefuted;
       }
 
-  first_is_good : (a : Spot) (refutation : List Refute) → IsFirst s a → IsUnrefuted s a.decisions → IsRefutedBy (condition_at s a) refutation
+  first_is_good : (a : Spot) (refutation : List Refute) → IsFirst s a → IsUnrefuted s a.decisions → IsFoundRefuted (condition_at s a) refutation
       → IsGood s (pruned a.decisions None refutation)
-  first_is_good a refutation h unrefuted refuted = record {
-    meaning = (
-      h.decisions,
-      subst (λ c. IsRefutedBy c refutation)
-          (λ i. record { widths = h.widths i; entries = (ap (λ us. injection_tests s ++ us) h.tests ∙ append_nil (injection_tests s)) i }) refuted,
-    );
-    verdict = tt;
-    unrefuted = unrefuted;
-  }
+  first_is_good a refutation h unrefuted found =
+      let first : condition_at s a ≡ first_condition s =
+      λ i. record { widths = h.widths i; entries = (ap (λ us. injection_tests s ++ us) h.tests ∙ append_nil (injection_tests s)) i } in
+      record {
+        meaning = (h.decisions, subst (λ c. IsRefutedBy c refutation) first found.by);
+        verdict = (tt, subst (IsRefuted itself) first found.refuted);
+        unrefuted = unrefuted;
+      }
 
   pub pruned_is_good : (a : Spot) (before written : Option Verdict) (refutation : List Refute) → IsPending s a (to_decide before) → IsBefore s a before written
-      → IsRefutedBy (condition_at s a) refutation → IsGood s (pruned a.decisions written refutation)
-  pruned_is_good a None written refutation h is refuted =
-      subst (λ w. IsGood s (pruned a.decisions w refutation)) (sym is) (first_is_good a refutation h.found h.unrefuted refuted)
-  pruned_is_good a (Some before) None refutation h is refuted = absurd is
-  pruned_is_good a (Some before) (Some verdict) refutation h is refuted =
-      pruned_side_is_good a before verdict refutation h.found h.unrefuted refuted (is h.found)
+      → IsFoundRefuted (condition_at s a) refutation → IsGood s (pruned a.decisions written refutation)
+  pruned_is_good a None written refutation h is found =
+      subst (λ w. IsGood s (pruned a.decisions w refutation)) (sym is) (first_is_good a refutation h.found h.unrefuted found)
+  pruned_is_good a (Some before) None refutation h is found = absurd is
+  pruned_is_good a (Some before) (Some verdict) refutation h is found =
+      pruned_side_is_good a before verdict refutation h.found h.unrefuted found (is h.found)
 
   open_at : (a : Spot) (at : IsAt s a) → (r : Option SymRoute) → route a.tree [] ≡ r → IsSomeWay r → IsOpen s.tree a.decisions
   open_at a at None e some = absurd some

@@ -16,7 +16,7 @@ use Rattle.sefl_meaning.specs.Courses.{Asking, Progress}
 use Rattle.sefl_meaning.specs.Trees.{over, tests, splits, Copies}
 use Rattle.sefl_meaning.specs.Fields.{fields_of}
 use Rattle.sefl_meaning.specs.Order.{Has, Parts}
-use Rattle.exact_records.specs.Records.{HasMeaning, IsRefutedBy, IsVerdictOn, RecordTree, SymCondition, SymStart, SymTree, Takes, decisions_of, path, pruned, unexplored}
+use Rattle.exact_records.specs.Records.{HasMeaning, IsFoundRefuted, IsVerdictOn, RecordTree, SymCondition, SymStart, SymTree, Takes, decisions_of, path, pruned, unexplored}
 use Rattle.exact_records.specs.Exact.{AreExact, AreExactSoFar, AreExactUpTo, IsTried, IsUnexplored}
 use Rattle.exact_records.specs.Packets.{AreExactFor, AreExactSoFarFor, AreExactUpToFor, HasPacket, HasWalk, IsAlong, IsExplored, IsNotTaken}
 use Rattle.exact_records.specs.Spots.{Arrives, IsBefore, IsKnown, Known, Spot, Stands, Task, condition_at, copy_tasks, decided, filled_verdict, first_spot, side_tasks, to_decide}
@@ -31,7 +31,7 @@ pub record StepsStand (s : SymStart) : Type 0 where
       → Stands s limit done ((a, to_decide before) ∷ rest) → Stands s limit done ((a, decided verdict) ∷ rest)
   -- it is refuted
   pub prunes : (limit : ℕ) (done : List RecordTree) (a : Spot) (before written : Option Verdict) (refutation : List Refute) (rest : List Task)
-      → IsBefore s a before written → IsRefutedBy (condition_at s a) refutation
+      → IsBefore s a before written → IsFoundRefuted (condition_at s a) refutation
       → Stands s limit done ((a, to_decide before) ∷ rest) → Stands s limit (done ++ pruned a.decisions written refutation ∷ []) rest
   -- the run is over at its next node
   pub ends : (limit : ℕ) (done : List RecordTree) (a b : Spot) (verdict written : Verdict) (p : Progress LinearTerm) (end' : End) (rest : List Task)

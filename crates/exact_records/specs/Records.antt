@@ -1,9 +1,9 @@
 -- Records of an exploration, and what each means by itself.
-use Rattle.std.specs.Prelude.{ℕ, ◌≡◌, Bool, true, List, [], ◌∷◌, ◌++◌, map, Option, None, Some}
+use Rattle.std.specs.Prelude.{ℕ, ◌≡◌, ◌×◌, Bool, true, List, [], ◌∷◌, ◌++◌, map, Option, None, Some}
 use Rattle.lin_term.specs.Terms.{LinearTerm}
 use Rattle.path_formula.specs.Formulas.{FormulaTree}
 use Rattle.path_cond.specs.Seen.{ConditionOf, AllTyped, holds_at, itself}
-use Rattle.refutation_check.specs.Seen.{IsAccepted, IsLicensed, IsMetBy, IsUndecidedBy}
+use Rattle.refutation_check.specs.Seen.{IsAccepted, IsLicensed, IsMetBy, IsRefuted, IsUndecidedBy}
 use Rattle.refutation_check.specs.Longer.{with_entries}
 use Rattle.refutation_check.specs.declared.outcome.Verdict.{Verdict}
 use Rattle.refutation_check.specs.declared.outcome.Verdict.TheVariants.{Sat, Undecided}
@@ -55,6 +55,11 @@ Satisfy values c = holds_at itself c values ≡ true
 pub record IsRefutedBy (c : SymCondition) (refutation : List Refute) : Type 0 where
   pub accepted : IsAccepted itself c refutation
   pub typed : AllTyped itself c.widths c.entries
+
+-- decisions find it refuted, and by this
+pub record IsFoundRefuted (c : SymCondition) (refutation : List Refute) : Type 0 where
+  pub refuted : IsRefuted itself c
+  pub by : IsRefutedBy c refutation
 
 -- the condition has this verdict: it is met by these as its least values, or it is undecided by this cause
 abbrev pub IsVerdictOn : SymCondition → Verdict → Type 0
@@ -147,8 +152,13 @@ module _ (s : SymStart) where
   IsVerdictBefore ds None = Unit {0}
   IsVerdictBefore ds (Some before) = (side : EndsAtTest ds) → IsVerdictOn (condition_on side.way) before
 
+  -- decisions find the condition of a refuted side refuted, or that of the injection
+  abbrev pub IsRefutedAt : List Decision → Option Verdict → Type 0
+  IsRefutedAt ds None = IsRefuted itself first_condition
+  IsRefutedAt ds (Some before) = (side : EndsAtTest ds) × IsRefuted itself (with_test (condition_on side.way) side.test side.truth)
+
   -- the record's verdict is that of its condition
   abbrev pub HasVerdict : RecordTree → Type 0
   HasVerdict (path ds places end' fields verdict) = (way : SymRoute) → Leads ds way → IsVerdictOn (condition_on way) verdict
-  HasVerdict (pruned ds before refutation) = IsVerdictBefore ds before
+  HasVerdict (pruned ds before refutation) = IsVerdictBefore ds before × IsRefutedAt ds before
   HasVerdict (unexplored ds) = Unit {0}

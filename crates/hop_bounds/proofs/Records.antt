@@ -142,15 +142,21 @@ module _ (s t : SymStart) (unknowns : t.unknowns ≡ s.unknowns) (fs : t.tests �
     may_precede : (c d : SymCondition) → d ≡ c → (before : Verdict) → MayPrecede c before → MayPrecede d before
     may_precede c d e before h = subst (λ (x : SymCondition). MayPrecede x before) (sym e) h
 
-    means_side : (ds : List Decision) (before : Verdict) (refutation : List Refute) → IsPrunedSide s ds before refutation → IsPrunedSide t ds before refutation
-    means_side ds before refutation h =
-        let side = h.side in
+    -- a side of a test of both
+    pub record BothSides (ds : List Decision) (side : EndsAtTest s ds) : Type 0 where
+      pub other : EndsAtTest t ds
+      pub condition : condition_on t other.way ≡ condition_on s side.way
+      pub test : other.test ≡ side.test
+      pub truth : other.truth ≡ side.truth
+
+    both_sides : (ds : List Decision) (side : EndsAtTest s ds) → BothSides ds side
+    both_sides ds side =
         let b = both_ways side.parent side.way side.leads (uncut_test ds side) in
         let left : Longer side.way.left b.other.left = subst (λ (x : SymRoute). Longer side.way.left x.left) b.is b.same.left in
         let there : Longer (tests side.asking side.progress side.test side.held side.broken) b.other.left =
         subst (λ (x : SymTree). Longer x b.other.left) side.waits left in
         record {
-          side = record {
+          other = record {
             parent = side.parent;
             last = side.last;
             joined = side.joined;
@@ -165,8 +171,22 @@ module _ (s t : SymStart) (unknowns : t.unknowns ≡ s.unknowns) (fs : t.tests �
             truth = side.truth;
             offered = side.offered;
           };
-          refuted = subst (λ (c : SymCondition). IsRefutedBy (with_test c side.test side.truth) refutation) (sym b.condition) h.refuted;
-          precedes = may_precede (condition_on s side.way) (condition_on t b.other) b.condition before h.precedes;
+          condition = b.condition;
+          test = refl;
+          truth = refl;
+        }
+
+    same_side : (ds : List Decision) (side : EndsAtTest s ds) (b : BothSides ds side)
+        → with_test (condition_on t b.other.way) b.other.test b.other.truth ≡ with_test (condition_on s side.way) side.test side.truth
+    same_side ds side b = λ i. with_test (b.condition i) (b.test i) (b.truth i)
+
+    means_side : (ds : List Decision) (before : Verdict) (refutation : List Refute) → IsPrunedSide s ds before refutation → IsPrunedSide t ds before refutation
+    means_side ds before refutation h =
+        let b = both_sides ds h.side in
+        record {
+          side = b.other;
+          refuted = subst (λ (c : SymCondition). IsRefutedBy c refutation) (sym (same_side ds h.side b)) h.refuted;
+          precedes = may_precede (condition_on s h.side.way) (condition_on t b.other.way) b.condition before h.precedes;
         }
 
     means_pruned : (ds : List Decision) (before : Option Verdict) (refutation : List Refute) → IsPruned s ds before refutation → IsPruned t ds before refutation
@@ -180,13 +200,15 @@ module _ (s t : SymStart) (unknowns : t.unknowns ≡ s.unknowns) (fs : t.tests �
 
     verdict_before : (ds : List Decision) (before : Option Verdict) (refutation : List Refute) → IsPruned s ds before refutation
         → HasVerdict s (pruned ds before refutation) → HasVerdict t (pruned ds before refutation)
-    verdict_before ds None refutation h verdict = tt
-    verdict_before ds (Some before) refutation h verdict =
-        λ (other : EndsAtTest t ds).
-        let side = h.side in
-        let same : other.parent ≡ side.parent = same_parent other.parent side.parent other.last side.last (sym other.joined ∙ side.joined) in
-        on_condition (λ c. IsVerdictOn c before) side.parent side.way other.way side.leads (uncut_test ds side)
-        (subst (λ (ds : List Decision). Leads t ds other.way) same other.leads) (verdict side)
+    verdict_before ds None refutation h verdict = (tt, subst (IsRefuted itself) (sym same_first) verdict.1)
+    verdict_before ds (Some before) refutation h verdict = (
+      (λ (other : EndsAtTest t ds).
+      let side = h.side in
+      let same : other.parent ≡ side.parent = same_parent other.parent side.parent other.last side.last (sym other.joined ∙ side.joined) in
+      on_condition (λ c. IsVerdictOn c before) side.parent side.way other.way side.leads (uncut_test ds side)
+      (subst (λ (ds : List Decision). Leads t ds other.way) same other.leads) (verdict.0 side)),
+      (let b = both_sides ds verdict.1.0 in (b.other, subst (IsRefuted itself) (sym (same_side ds verdict.1.0 b)) verdict.1.1)),
+    )
 
     verdict_on : (x : RecordTree) → IsUncut x → HasMeaning s x → HasVerdict s x → HasVerdict t x
     verdict_on (path ds places end' fields verdict) uncut h is =

@@ -12,7 +12,7 @@ use Rattle.sefl_meaning.specs.Courses.{at_if, at_constrain, Progress}
 use Rattle.sefl_meaning.specs.Trees.{Tree, over, arrives, tests, splits, Copies, no_copies, copy_and}
 use Rattle.sefl_meaning.specs.Routes.{Splits}
 use Rattle.sefl_meaning.specs.Fields.{fields_of}
-use Rattle.exact_records.specs.Records.{IsRefutedBy, IsVerdictOn, RecordTree, SymStart, SymTree, decisions_of, path, pruned}
+use Rattle.exact_records.specs.Records.{IsFoundRefuted, IsVerdictOn, RecordTree, SymStart, SymTree, decisions_of, path, pruned}
 use Rattle.exact_records.specs.Exact.{IsTried}
 use Rattle.exact_records.specs.Spots.{Arrives, IsAt, IsKnown, IsPending, Known, Spot, Stands, Task, condition_at, copy_tasks, decided, filled_verdict, first_spot, node_of, to_decide}
 use Rattle.exact_records.specs.Work.{at_last, begun_at, count_of}
@@ -340,7 +340,7 @@ module _ {P O N D T : Type 0} (x : Views P O N D T) (below : StepsStand x.start)
 
   -- it is refuted
   pub keeps_pruned : (w : Work N D) (old mid : List (Work N D)) (made : T) (refutation : List Refute) (before : ℕ) (h : IsWork x w) → (IsFork w.offer → ⊥)
-      → IsRefutedBy (condition_at x.start (next_of x w h).spot) refutation
+      → IsFoundRefuted (condition_at x.start (next_of x w h).spot) refutation
       → IsMade x (pruned ((x.node_at w.node).decisions ++ offer_at w.offer w.taken ∷ []) (Some (filled_verdict (length (x.node_at w.node).widths) (x.verdict_of w.finding.value))) refutation) made
       → IsPut (record w { taken = suc w.taken }) old mid → Keeps x (tasks_of x w) old mid (Some made) before before
   keeps_pruned w old mid made refutation before h asks refuted is put =
@@ -356,7 +356,7 @@ module _ {P O N D T : Type 0} (x : Views P O N D T) (below : StepsStand x.start)
 
   -- ---- the first step
 
-  pub keeps_refuted : (made : T) (works : List (Work N D)) (refutation : List Refute) (before : ℕ) → IsRefutedBy (condition_at x.start (first_spot x.start)) refutation
+  pub keeps_refuted : (made : T) (works : List (Work N D)) (refutation : List Refute) (before : ℕ) → IsFoundRefuted (condition_at x.start (first_spot x.start)) refutation
       → IsMade x (pruned [] None refutation) made → Keeps x ((first_spot x.start, to_decide None) ∷ []) works works (Some made) before before
   keeps_refuted made works refutation before refuted is =
       keeps_made (first_spot x.start, to_decide None) works works made (pruned [] None refutation) before before 0 (omega arith) is (λ q. q) refl (omega arith)

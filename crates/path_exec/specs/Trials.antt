@@ -7,7 +7,7 @@ use Rattle.sefl_meaning.specs.declared.walk.End.{End}
 use Rattle.sefl_meaning.specs.Courses.{Progress}
 use Rattle.sefl_meaning.specs.Trees.{over}
 use Rattle.sefl_meaning.specs.Fields.{fields_of}
-use Rattle.exact_records.specs.Records.{IsRefutedBy, IsVerdictOn, path}
+use Rattle.exact_records.specs.Records.{IsFoundRefuted, IsVerdictOn, path}
 use Rattle.exact_records.specs.Spots.{Spot, condition_at, filled_verdict}
 use Rattle.path_exec.specs.declared.engine.Tried.{Tried}
 use Rattle.path_exec.specs.declared.engine.Tried.TheVariants.{Open, Refuted}
@@ -24,7 +24,7 @@ module _ {P O N D T : Type 0} (x : Views P O N D T) where
   -- the condition there was decided
   abbrev pub IsTrial : ℕ → Spot → Tried P D → Type 0
   IsTrial begun c (Open place finding) = IsOpenAt begun c place finding
-  IsTrial begun c (Refuted refutation) = IsRefutedBy (condition_at x.start c) refutation
+  IsTrial begun c (Refuted refutation) = IsFoundRefuted (condition_at x.start c) refutation
 
   -- the record of the path that is over there: the verdict has a value for each symbol
   abbrev pub IsPathOf : Spot → Verdict → T → Type 0

@@ -23,7 +23,7 @@ use Rattle.sefl_meaning.specs.Trees.{enter, over}
 use Rattle.term_values.specs.TermValues.{terms}
 use Rattle.code_frames.specs.Frames.{progress_at}
 use Rattle.sym_state.specs.Symbolic.{Symbolic}
-use Rattle.exact_records.specs.Records.{IsRefutedBy, IsVerdictOn, SymCondition, SymStart, SymTree, path, pruned}
+use Rattle.exact_records.specs.Records.{IsFoundRefuted, IsVerdictOn, SymCondition, SymStart, SymTree, path, pruned}
 use Rattle.exact_records.specs.Spots.{IsKnown, Spot, condition_at, filled_verdict, first_spot}
 use Rattle.path_exec.specs.Following.{IsLed}
 use Rattle.path_exec.specs.Handing.{IsListed, handed}
@@ -86,18 +86,18 @@ module _ (s : SymStart) (net : Network) (x : Symbolic) (stage : Stage) (begun : 
     verdict = subst (λ (k : SymCondition). IsVerdictOn k verdict) (sym condition_there) open'.verdict_is;
   }
 
-  pub refuted_there : (refutation : List Refute) → IsRefutedBy (condition_seen x) refutation → IsRefutedBy (condition_at s c) refutation
-  refuted_there refutation h = subst (λ (k : SymCondition). IsRefutedBy k refutation) (sym condition_there) h
+  pub refuted_there : (refutation : List Refute) → IsFoundRefuted (condition_seen x) refutation → IsFoundRefuted (condition_at s c) refutation
+  refuted_there refutation h = subst (λ (k : SymCondition). IsFoundRefuted k refutation) (sym condition_there) h
 
 -- the condition behind a decision is that of the state with it
 pub refuted_behind : (s : SymStart) (net : Network) (x y : Symbolic) (wait : Wait) (d : Decision) (begun : ℕ) (c : Spot) → IsRunOf s x → IsNoted wait x d y
-    → next_spot (spot_at begun (waiting_at s net x wait)) d ≡ Some c → (refutation : List Refute) → IsRefutedBy (condition_seen y) refutation
-    → IsRefutedBy (condition_at s c) refutation
+    → next_spot (spot_at begun (waiting_at s net x wait)) d ≡ Some c → (refutation : List Refute) → IsFoundRefuted (condition_seen y) refutation
+    → IsFoundRefuted (condition_at s c) refutation
 refuted_behind s net x y wait d begun c run noted e refutation h =
     let led = noted_spot s net x d y wait run noted begun c e in
     let there : condition_at s c ≡ condition_seen y =
     ap (condition_at s) (sym led.1) ∙ condition_here s y (λ n. led.0) begun (run_noted s wait x d y run noted) in
-    subst (λ (k : SymCondition). IsRefutedBy k refutation) (sym there) h
+    subst (λ (k : SymCondition). IsFoundRefuted k refutation) (sym there) h
 
 -- what is known at a node is known of the state's condition
 pub known_there : (s : SymStart) (net : Network) (x : Symbolic) (wait : Wait) (verdict : Verdict) → IsRunOf s x

@@ -4,7 +4,7 @@ use Rattle.path_cond.specs.Seen.{AllTyped, itself}
 use Rattle.refutation_check.specs.declared.outcome.Cause.TheVariants.{Outside, Cases, Coupled}
 use Rattle.refutation_check.specs.declared.outcome.Verdict.{Verdict}
 use Rattle.refutation_check.specs.declared.outcome.Verdict.TheVariants.{Sat, Undecided}
-use Rattle.exact_records.specs.Records.{IsRefutedBy, IsVerdictOn, SymCondition}
+use Rattle.exact_records.specs.Records.{IsFoundRefuted, IsVerdictOn, SymCondition}
 use Rattle.symbolic_engine.specs.declared.deciding.Judged.{Judged}
 use Rattle.symbolic_engine.specs.declared.deciding.Judged.TheVariants.{Open, Refuted}
 
@@ -15,7 +15,7 @@ pub record IsOpenBy (c : SymCondition) (verdict : Verdict) : Type 0 where
 
 abbrev pub IsFoundOf : SymCondition → Judged → Type 0
 IsFoundOf c (Open verdict) = IsOpenBy c verdict
-IsFoundOf c (Refuted refutation) = IsRefutedBy c refutation
+IsFoundOf c (Refuted refutation) = IsFoundRefuted c refutation
 
 -- the least values that a verdict tells
 abbrev pub values_in : Verdict → Option (List ℕ)
