@@ -1,5 +1,5 @@
 -- Records of an exploration, and what each means by itself.
-use Rattle.std.specs.Prelude.{ℕ, ◌≡◌, ◌×◌, Bool, true, List, [], ◌∷◌, ◌++◌, map, Option, None, Some}
+use Rattle.std.specs.Prelude.{ℕ, ◌≡◌, Bool, true, List, [], ◌∷◌, ◌++◌, map, Option, None, Some}
 use Rattle.lin_term.specs.Terms.{LinearTerm}
 use Rattle.path_formula.specs.Formulas.{FormulaTree}
 use Rattle.path_cond.specs.Seen.{ConditionOf, AllTyped, holds_at, itself}

@@ -108,7 +108,7 @@ impl<M: Mark> Asking<'_, M> {
 }
 
 impl<M: Mark> Observer for Asking<'_, M> {
-    ghost use Rattle.std.specs.Prelude.{◌×◌, map};
+    ghost use Rattle.std.specs.Prelude.{map};
     ghost use Rattle.path_questions.specs.Deciding.{entry_of, net_of};
     ghost use Rattle.symbolic_engine.specs.Exploring.{IsHandedBy};
     ghost use Rattle.symbolic_engine.specs.Finds.{handed_tree};
