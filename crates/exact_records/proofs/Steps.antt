@@ -118,9 +118,9 @@ module _ (facts : Facts) (s : SymStart) where
         };
         verdict = (
           (λ other.
-          let same_parent = snoc_same side.parent other.parent side.last other.last (sym side.joined ∙ other.joined) in
-          let same : way_at s b.parent w ≡ other.way = only_way s other.parent (way_at s b.parent w) other.way (subst (λ q. Leads s q (way_at s b.parent w)) same_parent (led s b.parent w)) other.leads in
-          subst (λ q. IsVerdictOn (condition_on s q) written) same (subst (λ c. IsVerdictOn c written) (sym (condition_there s b.parent w)) is)),
+              let same_parent = snoc_same side.parent other.parent side.last other.last (sym side.joined ∙ other.joined) in
+              let same : way_at s b.parent w ≡ other.way = only_way s other.parent (way_at s b.parent w) other.way (subst (λ q. Leads s q (way_at s b.parent w)) same_parent (led s b.parent w)) other.leads in
+              subst (λ q. IsVerdictOn (condition_on s q) written) same (subst (λ c. IsVerdictOn c written) (sym (condition_there s b.parent w)) is)),
           (side, subst (IsRefuted itself) (side_condition a before b) found.refuted),
         );
         unrefuted = unrefuted;

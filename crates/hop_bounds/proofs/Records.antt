@@ -203,10 +203,10 @@ module _ (s t : SymStart) (unknowns : t.unknowns ≡ s.unknowns) (fs : t.tests �
     verdict_before ds None refutation h verdict = (tt, subst (IsRefuted itself) (sym same_first) verdict.1)
     verdict_before ds (Some before) refutation h verdict = (
       (λ (other : EndsAtTest t ds).
-      let side = h.side in
-      let same : other.parent ≡ side.parent = same_parent other.parent side.parent other.last side.last (sym other.joined ∙ side.joined) in
-      on_condition (λ c. IsVerdictOn c before) side.parent side.way other.way side.leads (uncut_test ds side)
-      (subst (λ (ds : List Decision). Leads t ds other.way) same other.leads) (verdict.0 side)),
+          let side = h.side in
+          let same : other.parent ≡ side.parent = same_parent other.parent side.parent other.last side.last (sym other.joined ∙ side.joined) in
+          on_condition (λ c. IsVerdictOn c before) side.parent side.way other.way side.leads (uncut_test ds side)
+          (subst (λ (ds : List Decision). Leads t ds other.way) same other.leads) (verdict.0 side)),
       (let b = both_sides ds verdict.1.0 in (b.other, subst (IsRefuted itself) (sym (same_side ds verdict.1.0 b)) verdict.1.1)),
     )
 

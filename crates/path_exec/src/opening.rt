@@ -119,8 +119,10 @@ pub(crate) fn go_on<E: Engine, L: Ledger>(
     requires behind { course.now ≡ ((E.views engine.now).place_at place).decisions }
     requires listed { IsListed course.now }
     ensures keeps { IfOk result (λ made. Keeps (E.views engine.now)
-        ((behind_last (E.views engine.now).start ((E.views engine.now).place_at place),
-        decided ((E.views engine.now).verdict_of finding.value)) ∷ [])
+        ((
+          behind_last (E.views engine.now).start ((E.views engine.now).place_at place),
+          decided ((E.views engine.now).verdict_of finding.value),
+        ) ∷ [])
         works.old.items works.new.items (handed_if course.now made) steps.old steps.new) }
     ensures course { IfOk result (λ made. StaysOnCourse (E.views engine.now) course.now works.old.items course.now works.new.items) }
 {

@@ -233,7 +233,11 @@ pub(crate) fn see_found<'a>(
     ensures seen { IfOk result (IsSeenOf (net_of subject.now) (entry_of subject.now) subject.now.hops (found_tree found decisions.now)) }
 {
     match found {
-        Found::Path { state, end, verdict } => {
+        Found::Path {
+            state,
+            end,
+            verdict,
+        } => {
             drop(verdict);
             let run = run_of(alloc, subject, decisions, state, end)?;
             see_run(alloc, subject, questions, kept, run)
