@@ -1,9 +1,10 @@
 -- What `ask` writes of an accepted job.
-use Rattle.std.specs.Prelude.{ℕ, ◌≡◌, List, [], ◌∷◌, ◌++◌, ◌⊎◌, length}
+use Rattle.std.specs.Prelude.{ℕ, ◌≡◌, ◌≤◌, List, [], ◌∷◌, ◌++◌, ◌⊎◌, length}
 use Rattle.sefl_syntax.specs.Trees.{AskTree}
 use Rattle.net_check.specs.Network.{Network, Entry}
 use Rattle.exact_records.specs.Packets.{AreExactFor}
 use Rattle.exact_records.specs.Records.{RecordTree}
+use Rattle.hop_bounds.specs.Beyond.{AllUncut, GoBeyond}
 use Rattle.question_meaning.specs.Placing.{Asks, IsMisplaced, IsNotInjected}
 use Rattle.question_meaning.specs.Questions.{Question}
 use Rattle.queries.specs.Answers.{AreReplies, Reply}
@@ -44,9 +45,15 @@ module _ (net : Network) (i : Entry) where
   IsAskRefusal asks NoMemory = Unit {0}
   IsAskRefusal asks _ = ⊥
 
+-- Where no record was cut by the bound of hops, and none was left untried: under every larger bound each packet has the same walks,
+-- the records are exact, and each reply is right.
+abbrev pub HoldBeyond : ℕ → ℕ → Network → Entry → List RecordTree → List Question → List Reply → Type 0
+HoldBeyond hops limit net i records questions replies = AllUncut records → (more : ℕ) → hops ≤ more
+    → GoBeyond net i hops limit records more × AreReplies net i more records questions replies
+
 module _ (hops limit : ℕ) (net : Network) (i : Entry) (asks : List AskTree) where
   -- the words ask questions, the records of one exploration are exact and end so, and this is the text of one right answer to each
-  -- question over these records
+  -- question over these records; the answers hold for every larger bound of hops where no record was cut or left untried
   pub record IsAnswersText (ending : Ending) (whole : List ℕ) : Type 0 where
     pub questions : List Question
     pub asked : AllAsk net i asks questions
@@ -55,6 +62,7 @@ module _ (hops limit : ℕ) (net : Network) (i : Entry) (asks : List AskTree) wh
     pub ends : IsEnding ending records
     pub replies : List Reply
     pub right : AreReplies net i hops records questions replies
+    pub beyond : HoldBeyond hops limit net i records questions replies
     pub line : whole ≡ answers_text replies
 
   -- such a text, or the first question that is refused

@@ -13,6 +13,7 @@ ghost use Rattle.ask_command.specs.Answering.{AreAnswers, ending_of, fault_of};
 
 use crate::text::answers_text;
 use command_edge::{Ending, OwnFault};
+use hop_bounds::laws::{right_answers_go_beyond, uncut_records_go_beyond};
 use net_check::Accepted;
 use path_exec::Ended;
 use queries::{
@@ -118,6 +119,8 @@ pub(crate) fn text_of_answers(
         (map ask_tree job.now.asks.items) t.0 (string_bytes t.1)) }
     ensures refused { IfErr result (IsAskRefusal (network job.now.net) (entry job.now.injection) (map ask_tree job.now.asks.items)) }
 {
+    uncut_records_go_beyond();
+    right_answers_go_beyond();
     let questions = match questions_of(alloc, &job.net, &job.injection, &job.asks) {
         Ok(questions) => questions,
         Err(bad) => return Err(fault_of(bad)),

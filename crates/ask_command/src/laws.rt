@@ -10,7 +10,7 @@ ghost use Rattle.command_edge.specs.declared.ending.Ending.{Ending as EndingOf};
 ghost use Rattle.ask_command.specs.Asks.{AnswersOf, IsAnswersText};
 ghost use Rattle.ask_command.specs.Beyond.{AreTrueReplies};
 
-use hop_bounds::laws::{right_answers_go_beyond, truth_goes_beyond, uncut_records_go_beyond};
+use hop_bounds::laws::truth_goes_beyond;
 
 /// Where a question is refused, `ask` comes to that refusal alone: to no text, and to no refusal of another question.
 #[tactic(auto, using(crate::proofs::OnceLemmas::refused_alone))]
@@ -25,10 +25,7 @@ pub fn answers_over_uncut_records_hold_beyond()
     ensures { (hops limit : ℕ) (net : Network) (i : Entry) (asks : List AskTree) (ending : EndingOf) (whole : List ℕ)
         → (answers : IsAnswersText hops limit net i asks ending whole) → AllUncut answers.records → (more : ℕ) → hops ≤ more
         → IsAnswersText more limit net i asks ending whole }
-{
-    uncut_records_go_beyond();
-    right_answers_go_beyond();
-}
+{}
 
 /// Where each packet has the same walks under another bound of hops, the answers are true under that bound.
 pub fn answers_stay_true_where_walks_are_the_same()

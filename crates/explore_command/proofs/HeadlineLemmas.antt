@@ -1,16 +1,14 @@
--- The headline, of the report of a finished exploration.
+-- The headline, of the report of an exploration.
 use Rattle.std.proofs.Common.{◌≡◌, refl, sym, subst, ℕ, ◌<◌, ◌≤◌, ◌^◌, Bool, true, false, List, [], ◌∷◌, ◌++◌, Result, arith}
 use Rattle.std.proofs.lemmas.Fmt.{IsAscii-decimal}
 use Rattle.std.proofs.lemmas.Str.{IsUtf8-append, IsUtf8-from_ascii}
 use Rattle.std.specs.Prelude.{IsUtf8, codes, decimal}
 use Rattle.std.specs.List.{AllByRecursion}
 use Rattle.net_check.specs.Network.{Network, Entry}
-use Rattle.exact_records.specs.Exact.{IsGood}
-use Rattle.exact_records.specs.Records.{HasMeaning, RecordTree, SymStart, path, pruned, unexplored}
 use Rattle.exact_records.specs.View.{record_trees}
 use Rattle.exact_records.specs.Whole.{WalksHaveOnePath}
+use Rattle.hop_bounds.specs.Beyond.{UncutRecordsGoBeyond}
 use Rattle.command_edge.specs.declared.ending.Ending.{Ending}
-use Rattle.command_edge.specs.declared.ending.Ending.TheVariants.{Done}
 use Rattle.path_records.specs.declared.records.Record.{Record}
 use Rattle.path_records.specs.declared.records.Record.TheVariants.{Path, Pruned, Unexplored}
 use Rattle.record_text.specs.Reports.{head_text, report_line, state_text, tail_text}
@@ -23,18 +21,9 @@ use Rattle.record_lines.specs.Lines.{records_text, refuted_count, written_of}
 use Rattle.record_lines.specs.declared.lines.RefutedSides.{RefutedSides}
 use Rattle.record_lines.specs.declared.lines.RefutedSides.TheVariants.{Counted, Written}
 use Rattle.explore_command.specs.Explores.{IsReport, is_done, line_of}
-use Rattle.explore_command.specs.Headline.{IsHeadline, IsReadBack, IsRefuted, MayBeShown}
+use Rattle.explore_command.specs.Headline.{IsHeadline, IsReadBack, MayBeShown}
 use Rattle.explore_command.proofs.PutLemmas.{Joins}
-
-module _ (start : SymStart) where
-  refuted_of : (x : RecordTree) → HasMeaning start x → IsRefuted start x
-  refuted_of (path ds places ended fields verdict) h = tt
-  refuted_of (pruned ds before refutation) h = h
-  refuted_of (unexplored ds) h = tt
-
-  all_refuted : (rs : List RecordTree) → AllByRecursion (IsGood start) rs → AllByRecursion (IsRefuted start) rs
-  all_refuted [] h = tt
-  all_refuted (x ∷ rs) h = (refuted_of x h.0.meaning, all_refuted rs h.1)
+use Rattle.explore_command.proofs.ToldLemmas.{told}
 
 -- ---- the line is read back
 
@@ -98,20 +87,11 @@ report_read hops limit sides net i ending whole joins back shown report answer r
     read_so hops limit sides net ending report.records joins back shown report.found.few report.found.fit report.found.utf8 answer
     (subst (λ bytes. ReadsReport net bytes answer) report.line reads)
 
-pub headline_of : (hops limit : ℕ) (sides : RefutedSides) (net : Network) (i : Entry) (whole : List ℕ) → WalksHaveOnePath net i hops → Joins → ReadsBack
-    → IsReport hops limit sides net i Done whole → IsHeadline net i hops limit sides whole
-headline_of hops limit sides net i whole one joins back h =
-    let exact = h.found.exact in record {
-      records = h.records;
-      line = h.line;
-      tells = record {
-        walks = one limit (record_trees h.records) exact h.found.ends;
-        packets = exact.packets;
-        start = exact.start;
-        explored = exact.explored;
-        refuted = all_refuted exact.start (record_trees h.records) exact.exact.good;
-        not_taken = exact.refuted;
-        tried = h.found.ends;
-      };
-      read_back = λ shown. report_read hops limit sides net i Done whole joins back shown h;
-    }
+pub headline_of : (hops limit : ℕ) (sides : RefutedSides) (net : Network) (i : Entry) (ending : Ending) (whole : List ℕ) → WalksHaveOnePath net i hops
+    → UncutRecordsGoBeyond net i hops → Joins → ReadsBack → IsReport hops limit sides net i ending whole → IsHeadline net i hops limit sides ending whole
+headline_of hops limit sides net i ending whole one go joins back h = record {
+  records = h.records;
+  line = h.line;
+  tells = told net i hops limit one go (record_trees h.records) h.found.exact ending h.found.ends;
+  read_back = λ shown. report_read hops limit sides net i ending whole joins back shown h;
+}

@@ -2,3 +2,5 @@ pub mod CutLemmas
 pub mod HeadlineLemmas
 pub mod PutLemmas
 pub mod SoFarLemmas
+pub mod ToldLemmas
+pub mod VerdictLemmas

@@ -1,16 +1,20 @@
--- What the report of a finished exploration tells of the packets of a job.
-use Rattle.std.specs.Prelude.{ℕ, ◌≡◌, ◌≤◌, List, Result}
+-- What the report of an exploration tells of the packets of a job, by how it ends.
+use Rattle.std.specs.Prelude.{ℕ, ◌≡◌, ◌≤◌, ◌↔◌, List, length, Option, None, Some, Result}
 use Rattle.std.specs.List.{AllByRecursion}
+use Rattle.refutation_check.specs.declared.outcome.Verdict.{Verdict}
 use Rattle.net_check.specs.Network.{Network, Entry}
+use Rattle.sefl_meaning.specs.declared.walk.Decision.{Decision}
+use Rattle.sefl_meaning.specs.Order.{BeginsWith}
 use Rattle.sefl_meaning.specs.Walks.{Trail}
 use Rattle.path_records.specs.declared.records.Record.{Record}
-use Rattle.exact_records.specs.Exact.{ExactlyOne, IsTried}
+use Rattle.exact_records.specs.Exact.{AllBegun, ExactlyOne, IsCutOff, IsTried, IsUnrefuted, RecordsAscend}
 use Rattle.exact_records.specs.Packets.{HasPacket, IsExplored, IsNotTaken, IsWalkOf}
-use Rattle.exact_records.specs.Records.{IsPruned, RecordTree, SymStart, path, pruned, unexplored}
+use Rattle.exact_records.specs.Records.{EndsAtTest, HasMeaning, IsVerdictOn, Leads, RecordTree, SymCondition, SymRoute, SymStart, condition_on, decisions_of, path, pruned, unexplored}
 use Rattle.exact_records.specs.View.{record_trees}
 use Rattle.exact_records.specs.Whole.{IsPathOf}
+use Rattle.hop_bounds.specs.Beyond.{AllUncut, GoBeyond}
 use Rattle.command_edge.specs.declared.ending.Ending.{Ending}
-use Rattle.command_edge.specs.declared.ending.Ending.TheVariants.{Done}
+use Rattle.command_edge.specs.declared.ending.Ending.TheVariants.{Done, Partial}
 use Rattle.record_text.specs.declared.report.Report.{Report}
 use Rattle.record_lines.specs.Lines.{refuted_count, written_of}
 use Rattle.record_lines.specs.declared.lines.RefutedSides.{RefutedSides}
@@ -19,11 +23,28 @@ use Rattle.path_report.specs.Reading.{ReadsReport, Shows}
 use Rattle.path_report.specs.declared.report.ReportFault.{ReportFault}
 use Rattle.explore_command.specs.Explores.{is_done, line_of}
 
--- the checker accepts the refutation of a refuted side, for the condition of its decisions
-abbrev pub IsRefuted : SymStart → RecordTree → Type 0
-IsRefuted start (path ds places ended fields verdict) = Unit {0}
-IsRefuted start (pruned ds before refutation) = IsPruned start ds before refutation
-IsRefuted start (unexplored ds) = Unit {0}
+-- the condition has this verdict and no other: it is met, by these as its least values; or it is undecided, by this cause
+abbrev pub IsOnlyVerdictOn : SymCondition → Verdict → Type 0
+IsOnlyVerdictOn c verdict = (other : Verdict) → IsVerdictOn c other ↔ (other ≡ verdict)
+
+module _ (start : SymStart) where
+  -- of the condition before the last formula of a refuted side
+  abbrev pub IsOnlyVerdictBefore : List Decision → Option Verdict → Type 0
+  IsOnlyVerdictBefore ds None = Unit {0}
+  IsOnlyVerdictBefore ds (Some before) = (side : EndsAtTest start ds) → IsOnlyVerdictOn (condition_on start side.way) before
+
+  -- A path is satisfiable with the least values, or undecided with a cause, exactly where its condition is; and so is what stands
+  -- before the last formula of a refuted side.
+  abbrev pub HasOnlyVerdict : RecordTree → Type 0
+  HasOnlyVerdict (path ds places ended fields verdict) = (way : SymRoute) → Leads start ds way → IsOnlyVerdictOn (condition_on start way) verdict
+  HasOnlyVerdict (pruned ds before refutation) = IsOnlyVerdictBefore ds before
+  HasOnlyVerdict (unexplored ds) = Unit {0}
+
+-- the record of a walk: its path, or decisions that were not tried, by which it goes
+abbrev pub IsRecordOf : List ℕ → Trail → RecordTree → Type 0
+IsRecordOf v w (path ds places ended fields verdict) = IsPathOf v w (path ds places ended fields verdict)
+IsRecordOf v w (pruned ds before refutation) = ⊥
+IsRecordOf v w (unexplored ds) = BeginsWith ds w.decisions
 
 -- the hops and the limits that the words of a command may say
 abbrev pub MayBeShown : ℕ → ℕ → Type 0
@@ -36,22 +57,48 @@ IsReadBack net hops limit sides records ending whole = (answer : Result Report R
     → Shows (line_seen hops limit (written_of sides records) (refuted_count records) (is_done ending)) answer
 
 module _ (net : Network) (i : Entry) (hops : ℕ) where
-  -- Each packet that meets the injection walks, on every fork, exactly one of the paths: by the same ports, to the same end with
-  -- the same fault, and with the same tags and fields. Each path that is marked satisfiable has the values of a packet that
-  -- takes it. Each refuted side has a refutation that the checker accepts, and no packet takes it. Nothing was left out.
-  pub record TellsAll (rs : List RecordTree) : Type 0 where
-    pub walks : (v : List ℕ) (w : Trail) → IsWalkOf net i hops v w → ExactlyOne (IsPathOf v w) rs
-    pub packets : AllByRecursion (HasPacket net i hops) rs
+  -- What is so of the records of each report. They stand in the order of their decisions, and each decision that is offered along
+  -- one of them begins one. Each has its own meaning: a path is the one that its decisions lead along, with its ports, its end and
+  -- its fields, and a refuted side has a refutation that the checker accepts. The verdict of each is that of its condition, and no
+  -- condition on the way to it is refuted. Each path that is marked satisfiable has the values of a packet that takes it, and no
+  -- packet takes a refuted side.
+  pub record TellsEach (rs : List RecordTree) : Type 0 where
     pub start : SymStart
     pub explored : IsExplored net i hops start
-    pub refuted : AllByRecursion (IsRefuted start) rs
+    pub ascend : RecordsAscend rs
+    pub begun : AllBegun start (λ ds. Unit {0}) rs
+    pub means : AllByRecursion (HasMeaning start) rs
+    pub verdicts : AllByRecursion (HasOnlyVerdict start) rs
+    pub unrefuted : AllByRecursion (λ x. IsUnrefuted start (decisions_of x)) rs
+    pub packets : AllByRecursion (HasPacket net i hops) rs
     pub not_taken : AllByRecursion (IsNotTaken net i hops) rs
+
+  -- And nothing was left out: each packet that meets the injection walks, on every fork, exactly one of the paths, by the same
+  -- ports, to the same end with the same fault, and with the same tags and fields. Where no path was cut by the bound of hops, each
+  -- packet has the same walks under every larger bound, and the records are exact for it.
+  pub record TellsAll (limit : ℕ) (rs : List RecordTree) : Type 0 where
+    pub each : TellsEach rs
+    pub walks : (v : List ℕ) (w : Trail) → IsWalkOf net i hops v w → ExactlyOne (IsPathOf v w) rs
     pub tried : AllByRecursion IsTried rs
+    pub few : length rs ≤ limit
+    pub beyond : AllUncut rs → (more : ℕ) → hops ≤ more → GoBeyond net i hops limit rs more
+
+  -- Or the limit was met: there are as many paths and refuted sides, and then exactly the decisions that the last of these left
+  -- behind. Each packet that meets the injection walks, on every fork, exactly one of the records: a path as above, or decisions
+  -- that were not tried.
+  pub record TellsSome (limit : ℕ) (rs : List RecordTree) : Type 0 where
+    pub each : TellsEach rs
+    pub walks : (v : List ℕ) (w : Trail) → IsWalkOf net i hops v w → ExactlyOne (IsRecordOf v w) rs
+    pub cut_off : IsCutOff each.start limit rs
+
+  abbrev pub Tells : ℕ → Ending → List RecordTree → Type 0
+  Tells limit Done rs = TellsAll limit rs
+  Tells limit Partial rs = TellsSome limit rs
 
   -- The text is the report of records that tell all this: of each of them, where refuted sides are written; else of the others and
   -- of the number of these. `read_report` reads the text, and gives the records back that are written, with that number.
-  pub record IsHeadline (limit : ℕ) (sides : RefutedSides) (whole : List ℕ) : Type 0 where
+  pub record IsHeadline (limit : ℕ) (sides : RefutedSides) (ending : Ending) (whole : List ℕ) : Type 0 where
     pub records : List Record
-    pub line : whole ≡ line_of hops limit sides net Done records
-    pub tells : TellsAll (record_trees records)
-    pub read_back : MayBeShown hops limit → IsReadBack net hops limit sides records Done whole
+    pub line : whole ≡ line_of hops limit sides net ending records
+    pub tells : Tells limit ending (record_trees records)
+    pub read_back : MayBeShown hops limit → IsReadBack net hops limit sides records ending whole

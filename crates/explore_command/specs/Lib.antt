@@ -1,3 +1,4 @@
 pub mod Explores
 pub mod Headline
+pub mod Laws
 pub mod Putting

@@ -1,15 +1,8 @@
 //! Laws of what `explore` writes. Each is the contract of a function that does nothing.
 
-ghost use Rattle.std.specs.Prelude.{◌⊎◌, ◌≤◌, ℕ, List};
-ghost use Rattle.sn_edge.specs.Pieces.{IsPrefix};
+ghost use Rattle.std.specs.Prelude.{ℕ};
 ghost use Rattle.net_check.specs.Network.{Entry, Network};
-ghost use Rattle.record_lines.specs.declared.lines.RefutedSides.{RefutedSides as SidesOf};
-ghost use Rattle.command_edge.specs.declared.ending.Ending.{Ending as EndingOf};
-ghost use Rattle.command_edge.specs.declared.ending.Ending.TheVariants.{Done};
-ghost use Rattle.exact_records.specs.View.{record_trees};
-ghost use Rattle.hop_bounds.specs.Beyond.{AllUncut, GoBeyond};
-ghost use Rattle.explore_command.specs.Explores.{BehindHead, IsCut, IsReport, IsSoFar};
-ghost use Rattle.explore_command.specs.Headline.{IsHeadline, IsReadBack, MayBeShown};
+ghost use Rattle.explore_command.specs.Laws.{CutsAreBeginnings, ReportsAreReadBack, ReportsTellWalks, UncutReportsGoBeyond};
 
 use exact_records::laws::whole_records_have_one_path_a_walk;
 use hop_bounds::laws::uncut_records_go_beyond;
@@ -17,20 +10,20 @@ use path_report::laws::lines_are_read_back;
 use record_lines::laws::a_record_comes_behind_the_others;
 use record_text::laws::lines_join;
 
-/// The headline: where the report of a job is written whole and nothing was left out, it tells all walks of all packets that
-/// meet the injection; and it is read back.
-pub fn finished_reports_tell_all()
-    ensures { (hops limit : ℕ) (sides : SidesOf) (net : Network) (i : Entry) (whole : List ℕ) → IsReport hops limit sides net i Done whole → IsHeadline net i hops limit sides whole }
+/// The headline: where the report of a job is written whole, it tells the walks of all packets that meet the injection, each by
+/// exactly one path; or by one path or by decisions that were not tried, where something was left out. And it is read back.
+pub fn reports_tell_walks()
+    ensures { (net : Network) (i : Entry) (hops : ℕ) → ReportsTellWalks net i hops }
 {
     whole_records_have_one_path_a_walk();
+    uncut_records_go_beyond();
     lines_join();
     lines_are_read_back();
 }
 
 /// What is read of a report is a report of just its records that are written, with the number of its refuted sides.
 pub fn reports_are_read_back()
-    ensures { (hops limit : ℕ) (sides : SidesOf) (net : Network) (i : Entry) (ending : EndingOf) (whole : List ℕ) → MayBeShown hops limit
-        → (report : IsReport hops limit sides net i ending whole) → IsReadBack net hops limit sides report.records ending whole }
+    ensures { (net : Network) (i : Entry) (hops : ℕ) → ReportsAreReadBack net i hops }
 {
     lines_join();
     lines_are_read_back();
@@ -39,9 +32,7 @@ pub fn reports_are_read_back()
 /// What was written where the sink failed is a beginning of a report, or of the head and the pieces of records that are exact
 /// so far.
 pub fn cuts_are_beginnings()
-    ensures { (hops limit : ℕ) (sides : SidesOf) (net : Network) (i : Entry) (part : List ℕ) → IsCut hops limit sides net i part
-        → ((ending : EndingOf) × (whole : List ℕ) × IsReport hops limit sides net i ending whole × IsPrefix part whole)
-        ⊎ ((whole : List ℕ) × BehindHead hops limit (IsSoFar hops sides net i) whole × IsPrefix part whole) }
+    ensures { (net : Network) (i : Entry) (hops : ℕ) → CutsAreBeginnings net i hops }
 {
     lines_join();
     a_record_comes_behind_the_others();
@@ -50,9 +41,7 @@ pub fn cuts_are_beginnings()
 /// Where no path of a report was cut by the bound of hops, and nothing was left untried, each packet has the same walks under
 /// every larger bound, and the report's records are exact for it.
 pub fn uncut_reports_hold_beyond()
-    ensures { (hops limit : ℕ) (sides : SidesOf) (net : Network) (i : Entry) (ending : EndingOf) (whole : List ℕ)
-        → (report : IsReport hops limit sides net i ending whole) → AllUncut (record_trees report.records) → (more : ℕ) → hops ≤ more
-        → GoBeyond net i hops limit (record_trees report.records) more }
+    ensures { (net : Network) (i : Entry) (hops : ℕ) → UncutReportsGoBeyond net i hops }
 {
     uncut_records_go_beyond();
 }

@@ -81,7 +81,8 @@ fn explore_records<N: OfNet, M: Mark, K: Sink, L: Ledger>(
     requires parts { blank.parts ≡ L.parts }
     requires some { 0 < blank.parts }
     ensures out_kept { SinkKept (K.told out.old) (K.told out.new) }
-    ensures puts { PutsRecords hops limit sides (network job.now.net) (entry job.now.injection) M.known (K.told out.new).taken result }
+    ensures puts { PutsRecords hops limit sides (network job.now.net) (entry job.now.injection)
+        M.known (K.told out.new).taken result }
     ensures shows { IfErr result (StopShows (K.told out.old) (K.told out.new)) }
 {
     exact_records_fit();
@@ -127,7 +128,8 @@ fn put_records<N: OfNet, M: Mark, K: Sink, L: Ledger>(
     requires parts { blank.parts ≡ L.parts }
     requires some { 0 < blank.parts }
     ensures out_kept { SinkKept (K.told out.old) (K.told out.new) }
-    ensures puts { PutsRecords hops limit sides (network job.now.net) (entry job.now.injection) M.known (K.told out.new).taken result }
+    ensures puts { PutsRecords hops limit sides (network job.now.net) (entry job.now.injection)
+        M.known (K.told out.new).taken result }
     ensures shows { IfErr result (StopShows (K.told out.old) (K.told out.new)) }
 {
     let mut pieces: Pieces<'_, N> = Pieces::new(alloc, &job.net);

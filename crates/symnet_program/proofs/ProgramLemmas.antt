@@ -23,8 +23,8 @@ use Rattle.symnet_program.proofs.ToldLemmas.{first_told, all_told}
 use Rattle.run_answers.specs.Status.{input_status, own_status, status_of}
 use Rattle.symnet_program.specs.Told.{MayBeUnread}
 use Rattle.symnet_program.specs.Commands.{inputs, sides_of, work}
-use Rattle.explore_command.specs.Explores.{IsReport}
-use Rattle.explore_command.specs.Headline.{IsHeadline, MayBeShown}
+use Rattle.explore_command.specs.Headline.{MayBeShown}
+use Rattle.explore_command.specs.Laws.{ReportsTellWalks}
 use Rattle.symnet_program.specs.Headline.{TellsJob}
 use Rattle.command_words.specs.Commands.{Command, HasRanges, explore}
 use Rattle.command_words.specs.declared.command.Pruned.{Pruned}
@@ -198,18 +198,26 @@ module _ (is : List Input) (w : OwnWork) (p : World) (decides : Decides p) (faul
   exact_of (BadAsk number kind) h = none (refused (own.BadAsk number kind)) h
   exact_of (BadCompare kind one other) h = none (refused (own.BadCompare kind one other)) h
 
--- ---- what a finished exploration tells
+-- ---- what a report tells
 
 -- the hops and the limit of a command in its ranges may be shown
 shown_of : (c : Command) (job : List ℕ) (hops limit : ℕ) (pruned : Pruned) → c ≡ explore job hops limit pruned → HasRanges c → MayBeShown hops limit
 shown_of c job hops limit pruned is ranged = subst HasRanges is ranged
 
-module _ {S : Type 0} (o : Outside S) (u v : S) (hops limit : ℕ) (pruned : Pruned) (shown : MayBeShown hops limit)
-    (law : (net : Network) (i : Entry) (whole : List ℕ) → IsReport hops limit (sides_of pruned) net i ending.Done whole → IsHeadline net i hops limit (sides_of pruned) whole) where
-  pub job_told : (job whole : List ℕ) → MayWrite o u v (Some (explore job hops limit pruned)) Done whole → TellsJob o u v job hops limit (sides_of pruned) whole
-  job_told job whole (given, (g, m, (j, has, net, i, taken, is), rest, (none, last), all), comes) =
-      let told = law net i whole
-      (subst (λ gs. (work (explore job hops limit pruned)).comes gs (text ending.Done whole)) (all ∙ (ap (λ x. x ∷ rest) is ∙ ap (λ r. a_net net i j.asks ∷ r) none)) comes) in record {
+module _ {S : Type 0} (o : Outside S) (u v : S) (job : List ℕ) (hops limit : ℕ) (pruned : Pruned) where
+  -- what was written where the report was put whole, with either ending
+  abbrev Reports : Ending → List ℕ → Type 0
+  Reports ended whole = Comes o u v (inputs (explore job hops limit pruned)) (work (explore job hops limit pruned)) (text ended whole)
+
+  pub reported : (ended : Ending) (whole : List ℕ) → MayWrite o u v (Some (explore job hops limit pruned)) (status_of (Ok ended)) whole → Reports ended whole
+  reported ending.Done whole h = h
+  reported ending.Partial whole h = h
+
+  pub job_told : MayBeShown hops limit → ((net : Network) (i : Entry) (hops : ℕ) → ReportsTellWalks net i hops) → (ended : Ending) (whole : List ℕ)
+      → Reports ended whole → TellsJob o u v job hops limit (sides_of pruned) ended whole
+  job_told shown law ended whole (given, (g, m, (j, has, net, i, taken, is), rest, (none, last), all), comes) =
+      let told = law net i hops limit (sides_of pruned) ended whole
+      (subst (λ gs. (work (explore job hops limit pruned)).comes gs (text ended whole)) (all ∙ (ap (λ x. x ∷ rest) is ∙ ap (λ r. a_net net i j.asks ∷ r) none)) comes) in record {
         job = j;
         in_file = has;
         net = net;
@@ -252,17 +260,17 @@ module _ {S : Type 0} (files : Option (List ℕ → Option (List ℕ))) (pattern
         gained,
       )
 
-  pub headline_said : HasRanges c → (job : List ℕ) (hops limit : ℕ) (pruned : Pruned)
-      → ((net : Network) (i : Entry) (whole : List ℕ) → IsReport hops limit (sides_of pruned) net i ending.Done whole → IsHeadline net i hops limit (sides_of pruned) whole)
-      → said ≡ Some (explore job hops limit pruned) → status ≡ Done
-      → (whole : List ℕ) × TellsJob (outside files patterns gives) u v job hops limit (sides_of pruned) whole × (now ≡ append_known known whole)
-  headline_said ranged job hops limit pruned law is done =
+  pub headline_said : HasRanges c → ((net : Network) (i : Entry) (hops : ℕ) → ReportsTellWalks net i hops)
+      → (job : List ℕ) (hops limit : ℕ) (pruned : Pruned) (ended : Ending) → said ≡ Some (explore job hops limit pruned) → status ≡ status_of (Ok ended)
+      → (whole : List ℕ) × TellsJob (outside files patterns gives) u v job hops limit (sides_of pruned) ended whole × (now ≡ append_known known whole)
+  headline_said ranged law job hops limit pruned ended is done =
       let (part, writes, gained) = written_said in (
         part,
-        job_told (outside files patterns gives) u v hops limit pruned
-            (shown_of c job hops limit pruned (same_Some c (explore job hops limit pruned) (named ∙ is)) ranged) law job part
-            (subst (λ r. MayWrite (outside files patterns gives) u v r Done part) is
-            (subst (λ s. MayWrite (outside files patterns gives) u v said s part) done writes)),
+        job_told (outside files patterns gives) u v job hops limit pruned
+            (shown_of c job hops limit pruned (same_Some c (explore job hops limit pruned) (named ∙ is)) ranged) law ended part
+            (reported (outside files patterns gives) u v job hops limit pruned ended part
+            (subst (λ r. MayWrite (outside files patterns gives) u v r (status_of (Ok ended)) part) is
+            (subst (λ s. MayWrite (outside files patterns gives) u v said s part) done writes))),
         gained,
       )
 

@@ -8,7 +8,8 @@ ghost use Rattle.run_answers.specs.Outside.{Tells, World, outside, world};
 ghost use Rattle.run_answers.specs.Runs.{Runs, Shows};
 ghost use Rattle.run_answers.specs.Status.{input_status};
 ghost use Rattle.run_answers.specs.declared.status.Status.{Status as StatusOf};
-ghost use Rattle.run_answers.specs.declared.status.Status.TheVariants.{Done, Usage};
+ghost use Rattle.run_answers.specs.declared.status.Status.TheVariants.{Done, Partial, Usage};
+ghost use Rattle.command_edge.specs.declared.ending.Ending.TheVariants as ending;
 ghost use Rattle.command_edge.specs.declared.fault.InputFault.{InputFault as InputFaultOf};
 ghost use Rattle.symnet_program.specs.Commands.{detail_of, inputs, kind_of, list_style_of, sides_of, style_of, work};
 ghost use Rattle.symnet_program.specs.Headline.{TellsJob};
@@ -24,7 +25,7 @@ use command_edge::{Ending, FILE_LIMIT, Stop};
 use command_runs::{Both, ByteFile, Piece, run};
 use command_words::{Command, FilterStyle, LIMIT, Open, Pruned, Style, Table, reading};
 use compare_command::{BothJobs, Compare};
-use explore_command::laws::finished_reports_tell_all;
+use explore_command::laws::reports_tell_walks;
 use explore_command::{Explore, RecordLimit, RefutedSides};
 use grow_command::{Grow, GrownJob};
 use job_files::JobFile;
@@ -247,12 +248,19 @@ pub fn symnet<F: Folder, P: Patterns, K: Sink>(
         × ((K.told out.new).taken ≡ append_known (K.told out.old).taken part) }
 
     // The headline: with Done `explore` wrote the report of the job in the file, and this tells all walks of all packets that
-    // meet the injection; and what is read of it is a report of just its records that are written.
+    // meet the injection; and what is read of it is a report of just its records that are written. With Partial all this is so, but
+    // that walks may go on by decisions that were not tried, which the report names.
     ensures headline { (job : List ℕ) (hops limit : ℕ) (pruned : PrunedOf)
         → reading words.now ≡ Some (explore job hops limit pruned) → result ≡ Done
         → (whole : List ℕ)
         × TellsJob (outside (F.told folder.old).files P.told P.find_gives) patterns.old patterns.new job hops limit
-        (sides_of pruned) whole
+        (sides_of pruned) ending.Done whole
+        × ((K.told out.new).taken ≡ append_known (K.told out.old).taken whole) }
+    ensures partial { (job : List ℕ) (hops limit : ℕ) (pruned : PrunedOf)
+        → reading words.now ≡ Some (explore job hops limit pruned) → result ≡ Partial
+        → (whole : List ℕ)
+        × TellsJob (outside (F.told folder.old).files P.told P.find_gives) patterns.old patterns.new job hops limit
+        (sides_of pruned) ending.Partial whole
         × ((K.told out.new).taken ≡ append_known (K.told out.old).taken whole) }
 
     // Where the outside tells a world, the cause is one in that world; and an input that is refused there is refused, unless a file was
@@ -272,7 +280,7 @@ pub fn symnet<F: Folder, P: Patterns, K: Sink>(
         → IsAnswered result }
 {
     worlds_decide();
-    finished_reports_tell_all();
+    reports_tell_walks();
     match reading(alloc, words) {
         Ok(Some(command)) => status_of(run_command(alloc, command, folder, patterns, out)),
         Ok(None) => Status::Usage,

@@ -6,6 +6,7 @@ use Rattle.queries.specs.Answers.{answer_seen}
 use Rattle.ask_command.specs.Asks.{IsAskRefusal}
 use Rattle.ask_command.specs.Texts.{answers_text}
 use Rattle.ask_command.proofs.AnswerLemmas.{asked_all, bad_ask, own_of}
+use Rattle.ask_command.proofs.Further.{hold_beyond}
 use Rattle.ask_command.proofs.answering.text_of_answers.Goals as goal
 
 pub returns-in-Err-clause-refused : goal.returns-in-Err-clause-refused
@@ -40,5 +41,7 @@ returns-clause-text c =
       ends = are.ends;
       replies = map answer_seen c.in_ok-ending.answers.items;
       right = are.right;
+      beyond = hold_beyond net i c.args.hops c.args.limit are.records (map question_seen qs) (map answer_seen c.in_ok-ending.answers.items)
+          (c.uncut_records_go_beyond.ensures net i c.args.hops) (c.right_answers_go_beyond.ensures net i c.args.hops) are.exact are.right;
       line = c.in_ok-text.ensures ∙ ap (λ xs. answers_text (map answer_seen xs)) c.deref-2.ensures.value;
     }

@@ -1,6 +1,6 @@
 use Rattle.run_answers.specs.Outside.{outside, world}
+use Rattle.command_edge.specs.declared.ending.Ending.TheVariants.{Done, Partial}
 use Rattle.command_words.specs.Commands.{command_of, reading}
-use Rattle.symnet_program.specs.Commands.{sides_of}
 use Rattle.symnet_program.proofs.ProgramLemmas.{cause_said, complete_said, exact_said, headline_said, shown_said, told_said, unread, unwritten, written_said}
 use Rattle.symnet_program.proofs.program.symnet.Goals as goal
 
@@ -15,10 +15,16 @@ returns-in-Ok-Some-clause-written g c =
     (g.K.Sink.told c.args.out.now).taken (g.K.Sink.told c.run_command.new.out).taken _ (command_of c.in-Ok-Some.command) (rw c.in-Ok-Some.field-0-is at c.in-Ok-Some.ensures.command) c.run_command.result c.status_of.result c.status_of.ensures c.run_command.ensures.ran
 
 pub returns-in-Ok-Some-clause-headline : goal.returns-in-Ok-Some-clause-headline
-returns-in-Ok-Some-clause-headline g c job hops limit pruned named done =
+returns-in-Ok-Some-clause-headline g c job hops limit pruned named ended =
     headline_said (g.F.Folder.told c.args.folder.now).files g.P.Patterns.told g.P.Patterns.find_gives c.args.patterns.now c.run_command.new.patterns
     (g.K.Sink.told c.args.out.now).taken (g.K.Sink.told c.run_command.new.out).taken _ (command_of c.in-Ok-Some.command) (rw c.in-Ok-Some.field-0-is at c.in-Ok-Some.ensures.command) c.run_command.result c.status_of.result c.status_of.ensures c.run_command.ensures.ran
-    (rw c.in-Ok-Some.field-0-is at c.in-Ok-Some.ensures.ranges) job hops limit pruned (c.finished_reports_tell_all.ensures hops limit (sides_of pruned)) named done
+    (rw c.in-Ok-Some.field-0-is at c.in-Ok-Some.ensures.ranges) c.reports_tell_walks.ensures job hops limit pruned Done named ended
+
+pub returns-in-Ok-Some-clause-partial : goal.returns-in-Ok-Some-clause-partial
+returns-in-Ok-Some-clause-partial g c job hops limit pruned named ended =
+    headline_said (g.F.Folder.told c.args.folder.now).files g.P.Patterns.told g.P.Patterns.find_gives c.args.patterns.now c.run_command.new.patterns
+    (g.K.Sink.told c.args.out.now).taken (g.K.Sink.told c.run_command.new.out).taken _ (command_of c.in-Ok-Some.command) (rw c.in-Ok-Some.field-0-is at c.in-Ok-Some.ensures.command) c.run_command.result c.status_of.result c.status_of.ensures c.run_command.ensures.ran
+    (rw c.in-Ok-Some.field-0-is at c.in-Ok-Some.ensures.ranges) c.reports_tell_walks.ensures job hops limit pruned Partial named ended
 
 pub returns-in-Ok-Some-clause-told : goal.returns-in-Ok-Some-clause-told
 returns-in-Ok-Some-clause-told g c w told =
