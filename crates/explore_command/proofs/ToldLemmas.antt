@@ -78,19 +78,20 @@ module _ (v : List ℕ) (w : Trail) where
 
 module _ (net : Network) (i : Entry) (hops limit : ℕ) (one : WalksHaveOnePath net i hops) (go : UncutRecordsGoBeyond net i hops) (rs : List RecordTree)
     (exact : AreExactFor net i hops limit rs) where
-  each : TellsEach net i hops rs
-  each =
-      let start = exact.start in record {
-        start = start;
-        explored = exact.explored;
-        ascend = exact.exact.ascend;
-        begun = exact.exact.begun;
-        means = all_weaker (IsGood start) (HasMeaning start) rs (λ x (good : IsGood start x). good.meaning) exact.exact.good;
-        verdicts = all_weaker (IsGood start) (HasOnlyVerdict start) rs (λ x (good : IsGood start x). only_one start x good.verdict) exact.exact.good;
-        unrefuted = all_weaker (IsGood start) (λ x. IsUnrefuted start (decisions_of x)) rs (λ x (good : IsGood start x). good.unrefuted) exact.exact.good;
-        packets = exact.packets;
-        not_taken = exact.refuted;
-      }
+  abbrev each : TellsEach net i hops rs
+  each = record {
+    start = exact.start;
+    explored = exact.explored;
+    ascend = exact.exact.ascend;
+    begun = exact.exact.begun;
+    means = all_weaker (IsGood exact.start) (HasMeaning exact.start) rs (λ x (good : IsGood exact.start x). good.meaning) exact.exact.good;
+    verdicts = all_weaker (IsGood exact.start) (HasOnlyVerdict exact.start) rs (λ x (good : IsGood exact.start x). only_one exact.start x good.verdict)
+        exact.exact.good;
+    unrefuted = all_weaker (IsGood exact.start) (λ x. IsUnrefuted exact.start (decisions_of x)) rs (λ x (good : IsGood exact.start x). good.unrefuted)
+        exact.exact.good;
+    packets = exact.packets;
+    not_taken = exact.refuted;
+  }
 
   one_record : (v : List ℕ) (w : Trail) → IsWalkOf net i hops v w → ExactlyOne (IsRecordOf v w) rs
   one_record v w walk =
