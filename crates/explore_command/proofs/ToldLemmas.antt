@@ -27,7 +27,7 @@ module _ (start : SymStart) where
 
   only_one : (x : RecordTree) → HasVerdict start x → HasOnlyVerdict start x
   only_one (path ds places ended fields verdict) h = λ way leads. only_verdict (condition_on start way) verdict (h way leads)
-  only_one (pruned ds before refutation) h = only_before ds before h
+  only_one (pruned ds before refutation) h = (only_before ds before h.0, h.1)
   only_one (unexplored ds) h = tt
 
 -- ---- the limit

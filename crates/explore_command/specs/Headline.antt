@@ -9,7 +9,7 @@ use Rattle.sefl_meaning.specs.Walks.{Trail}
 use Rattle.path_records.specs.declared.records.Record.{Record}
 use Rattle.exact_records.specs.Exact.{AllBegun, ExactlyOne, IsCutOff, IsTried, IsUnrefuted, RecordsAscend}
 use Rattle.exact_records.specs.Packets.{HasPacket, IsExplored, IsNotTaken, IsWalkOf}
-use Rattle.exact_records.specs.Records.{EndsAtTest, HasMeaning, IsVerdictOn, Leads, RecordTree, SymCondition, SymRoute, SymStart, condition_on, decisions_of, path, pruned, unexplored}
+use Rattle.exact_records.specs.Records.{EndsAtTest, HasMeaning, IsRefutedAt, IsVerdictOn, Leads, RecordTree, SymCondition, SymRoute, SymStart, condition_on, decisions_of, path, pruned, unexplored}
 use Rattle.exact_records.specs.View.{record_trees}
 use Rattle.exact_records.specs.Whole.{IsPathOf}
 use Rattle.hop_bounds.specs.Beyond.{AllUncut, GoBeyond}
@@ -34,10 +34,10 @@ module _ (start : SymStart) where
   IsOnlyVerdictBefore ds (Some before) = (side : EndsAtTest start ds) → IsOnlyVerdictOn (condition_on start side.way) before
 
   -- A path is satisfiable with the least values, or undecided with a cause, exactly where its condition is; and so is what stands
-  -- before the last formula of a refuted side.
+  -- before the last formula of a refuted side. Decisions find the condition of a refuted side refuted.
   abbrev pub HasOnlyVerdict : RecordTree → Type 0
   HasOnlyVerdict (path ds places ended fields verdict) = (way : SymRoute) → Leads start ds way → IsOnlyVerdictOn (condition_on start way) verdict
-  HasOnlyVerdict (pruned ds before refutation) = IsOnlyVerdictBefore ds before
+  HasOnlyVerdict (pruned ds before refutation) = IsOnlyVerdictBefore ds before × IsRefutedAt start ds before
   HasOnlyVerdict (unexplored ds) = Unit {0}
 
 -- the record of a walk: its path, or decisions that were not tried, by which it goes
@@ -59,9 +59,9 @@ IsReadBack net hops limit sides records ending whole = (answer : Result Report R
 module _ (net : Network) (i : Entry) (hops : ℕ) where
   -- What is so of the records of each report. They stand in the order of their decisions, and each decision that is offered along
   -- one of them begins one. Each has its own meaning: a path is the one that its decisions lead along, with its ports, its end and
-  -- its fields, and a refuted side has a refutation that the checker accepts. The verdict of each is that of its condition, and no
-  -- condition on the way to it is refuted. Each path that is marked satisfiable has the values of a packet that takes it, and no
-  -- packet takes a refuted side.
+  -- its fields, and a refuted side has a refutation that the checker accepts. The verdict of each is that of its condition; decisions
+  -- find that of a refuted side refuted, and none on the way to a record. Each path that is marked satisfiable has the values of a
+  -- packet that takes it, and no packet takes a refuted side.
   pub record TellsEach (rs : List RecordTree) : Type 0 where
     pub start : SymStart
     pub explored : IsExplored net i hops start
