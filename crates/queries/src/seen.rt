@@ -172,7 +172,7 @@ fn see_run<'a>(
     requires job { AreOfOneJob (net_of subject.now) (entry_of subject.now) }
     requires path { IsPathRun (net_of subject.now) (entry_of subject.now) subject.now.hops run }
     ensures path { IfOk result (IsWellSeen (net_of subject.now) (entry_of subject.now) subject.now.hops) }
-    ensures seen { IfOk result (IsPathSeen (net_of subject.now) (entry_of subject.now) subject.now.hops run.decisions.now) }
+    ensures seen { IfOk result (IsPathSeen (net_of subject.now) (entry_of subject.now) subject.now.hops run.entry.decisions.now) }
 {
     let stops = stops_of(alloc, subject, questions, kept, &run)?;
     Ok(Seen::Path { run, stops })
