@@ -1,18 +1,14 @@
 -- A question has one right answer over the records that are exact for one limit.
-use Rattle.std.proofs.Common.{◌≡◌, ◌∙◌, ◌⊎◌, ℕ, suc, inl, inr, List, [], ◌∷◌, ◌++◌, length, map, refl, sym, ap, subst}
+use Rattle.std.proofs.Common.{◌≡◌, ◌∙◌, ℕ, suc, inl, inr, List, [], ◌∷◌, ◌++◌, length, map, refl, sym, ap, subst}
 use Rattle.std.specs.List.{AllByRecursion}
 use Rattle.path_cond.specs.Seen.{itself}
 use Rattle.path_solver.specs.Judged.{AreExact as VerdictsAreExact}
 use Rattle.sefl_meaning.specs.Network.{Network, Entry}
-use Rattle.sefl_meaning.specs.declared.walk.Decision.{Decision}
-use Rattle.exact_records.specs.Exact.{SomeOne}
 use Rattle.exact_records.specs.Records.{RecordTree, SymCondition, SymRoute, path, pruned, unexplored}
 use Rattle.exact_records.proofs.Arriving.{only_way}
-use Rattle.exact_records.proofs.Lists.{some_not}
-use Rattle.question_meaning.specs.Answers.{IsRight}
 use Rattle.question_meaning.specs.Formulas.{conditions_on, explored}
 use Rattle.question_meaning.specs.Questions.{Question}
-use Rattle.question_meaning.specs.Telling.{AreOpenBy, FirstMet, IsFirstHit, IsOutcome, IsUnmet, LeavesItOpen, Outcome, ShowsHit, ShowsNoHit, found, left_open, saying}
+use Rattle.question_meaning.specs.Telling.{AreOpenBy, FirstMet, IsOutcome, IsUnmet, LeavesItOpen, Outcome, ShowsHit, ShowsNoHit, found, left_open, saying}
 use Rattle.one_list.specs.Same.{AreAlike, RecordsAreOne, without_refutation}
 use Rattle.one_list.specs.Told.{RightAnswersAreOne}
 use Rattle.one_list.proofs.Judged.{one_values}

@@ -1,5 +1,5 @@
 -- Lists of decisions, one of which begins with the other.
-use Rattle.std.proofs.Common.{◌≡◌, ◌<◌, ◌⊎◌, inl, inr, List, [], ◌∷◌, ◌++◌, refl, sym, subst, ◌∙◌, arith}
+use Rattle.std.proofs.Common.{◌<◌, ◌⊎◌, inl, inr, List, [], ◌∷◌, ◌++◌, refl, sym, subst, ◌∙◌, arith}
 use Rattle.sefl_meaning.specs.declared.walk.Decision.{Decision}
 use Rattle.sefl_meaning.specs.Order.{BeginsWith, Parts, rank}
 use Rattle.exact_records.proofs.Begins.{parts_apart, parts_apart_back, parts_longer}

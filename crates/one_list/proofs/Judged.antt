@@ -1,5 +1,5 @@
 -- A condition has one verdict.
-use Rattle.std.proofs.Common.{◌≡◌, ◌∙◌, ℕ, List, refl, sym, ap, arith}
+use Rattle.std.proofs.Common.{◌≡◌, ◌∙◌, ℕ, List, sym, ap, arith}
 use Rattle.path_cond.specs.Seen.{itself}
 use Rattle.refutation_check.specs.Seen.{IsMetBy, IsRefuted, IsUndecidedBy, first_broken_outside}
 use Rattle.refutation_check.specs.declared.outcome.Cause.{Cause}

@@ -1,8 +1,6 @@
 -- Two good records of one start whose decisions meet are of one kind, and the same except for a refutation.
-use Rattle.std.proofs.Common.{◌≡◌, ◌∙◌, ◌<◌, ℕ, inl, inr, List, [], ◌∷◌, ◌++◌, map, refl, sym, ap, subst, append_assoc, Option, Some, None, option_map, arith}
-use Rattle.std.specs.List.{AllByRecursion}
+use Rattle.std.proofs.Common.{◌≡◌, ◌∙◌, ◌<◌, inl, inr, List, [], ◌∷◌, ◌++◌, refl, sym, ap, subst, append_assoc, Option, Some, None, option_map, arith}
 use Rattle.lin_term.specs.Terms.{LinearTerm}
-use Rattle.path_formula.specs.Formulas.{FormulaTree}
 use Rattle.path_cond.specs.Seen.{itself}
 use Rattle.refutation_check.specs.Longer.{WidenFreely}
 use Rattle.refutation_check.specs.declared.outcome.Verdict.{Verdict}
@@ -16,7 +14,7 @@ use Rattle.sefl_meaning.specs.Fields.{Fields, fields_of}
 use Rattle.sefl_meaning.specs.Order.{BeginsWith, rank}
 use Rattle.sefl_meaning.specs.Routes.{IsOpen, behind, places_on, route}
 use Rattle.sefl_meaning.specs.Trees.{Tree, over}
-use Rattle.exact_records.specs.Records.{EndsAtTest, IsVerdictOn, Leads, RecordTree, SymRoute, SymStart, SymTree, condition_on, decisions_of, path, pruned, unexplored}
+use Rattle.exact_records.specs.Records.{Leads, RecordTree, SymRoute, SymStart, SymTree, condition_on, decisions_of, path, pruned, unexplored}
 use Rattle.exact_records.specs.Exact.{IsGood, IsLeftBehind, IsTried, IsUnexplored}
 use Rattle.exact_records.proofs.Lists.{append_nil, cancel, same_first, split_last}
 use Rattle.exact_records.proofs.Arriving.{only_way}

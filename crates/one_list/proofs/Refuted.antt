@@ -1,7 +1,5 @@
 -- Where the decisions of a refuted side lead, the condition is refuted.
-use Rattle.std.proofs.Common.{◌≡◌, ◌∙◌, ℕ, zero, suc, inl, inr, Bool, true, false, List, [], ◌∷◌, ◌++◌, refl, sym, ap, subst, append_assoc, Option, Some, None, option_map, if◌then◌else◌}
-use Rattle.lin_term.specs.Terms.{LinearTerm}
-use Rattle.path_formula.specs.Formulas.{FormulaTree}
+use Rattle.std.proofs.Common.{◌≡◌, ◌∙◌, ℕ, zero, suc, inl, inr, Bool, true, false, List, [], ◌∷◌, ◌++◌, sym, ap, subst, append_assoc, Option, Some, None, option_map, if◌then◌else◌}
 use Rattle.path_cond.specs.Seen.{AllTyped, itself}
 use Rattle.refutation_check.specs.Longer.{WidenFreely, with_widths}
 use Rattle.refutation_check.specs.Seen.{IsRefuted}

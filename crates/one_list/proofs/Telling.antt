@@ -5,7 +5,7 @@ use Rattle.std.specs.List.{AllByRecursion}
 use Rattle.exact_records.specs.Exact.{IsTried, IsUnexplored, SomeOne}
 use Rattle.exact_records.specs.Records.{RecordTree, path, pruned, unexplored}
 use Rattle.one_list.specs.Same.{AreAlike, without_refutation}
-use Rattle.one_list.specs.Told.{AlikeTellTheSame, SeesNoRefutation, TellTheSame}
+use Rattle.one_list.specs.Told.{AlikeTellTheSame, SeesNoRefutation}
 
 -- ---- what sees no refutation
 

@@ -1,5 +1,5 @@
 -- Two lists that are exact of one start go together, record by record.
-use Rattle.std.proofs.Common.{◌≡◌, ◌∙◌, ◌<◌, ◌≤◌, ◌⊎◌, ℕ, zero, suc, inl, inr, List, [], ◌∷◌, ◌++◌, length, map, refl, sym, ap, subst, Some, option_map, arith}
+use Rattle.std.proofs.Common.{◌≡◌, ◌∙◌, ◌≤◌, ◌⊎◌, ℕ, zero, suc, inl, inr, List, [], ◌∷◌, ◌++◌, length, map, refl, sym, ap, subst, Some, option_map, arith}
 use Rattle.std.specs.List.{AllByRecursion}
 use Rattle.path_cond.specs.Seen.{itself}
 use Rattle.refutation_check.specs.Longer.{WidenFreely}
@@ -186,8 +186,7 @@ module _ (verdicts : VerdictsAreExact itself) (widen : WidenFreely itself)
     left_go last [] (y ∷ vs) a b p q un non l m = absurd (none_missing rs y vs b.good.0 a.reaches p)
     left_go last (x ∷ us) [] a b p q un non l m = absurd (none_missing qs x us a.good.0 b.reaches q)
     left_go last (x ∷ us) (y ∷ vs) a b p q un non l m =
-        let same = left_is_one s last (decisions_of x) (decisions_of y) l.0 m.0 (next_meet x y us vs a b p q) in
-        (
+        let same = left_is_one s last (decisions_of x) (decisions_of y) l.0 m.0 (next_meet x y us vs a b p q) in (
           same_left x y un.0 non.0 same,
           left_go last us vs (rest_one s rs us x a) (rest_one s qs vs y b) (passed_one rs us vs x y same b.ascend p)
               (passed_one qs vs us y x (sym same) a.ascend q) un.1 non.1 l.1 m.1,
