@@ -1,5 +1,5 @@
 mod Commuting
-mod Growing
+pub mod Growing
 mod Lists
 mod Typing
 mod Right

@@ -1,0 +1,9 @@
+pub mod Asking
+pub mod Comparing
+pub mod Judged
+pub mod Members
+pub mod Pairs
+pub mod Refuted
+pub mod Starts
+pub mod Telling
+pub mod Together
