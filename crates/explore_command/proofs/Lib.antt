@@ -1,4 +1,5 @@
 pub mod CutLemmas
 pub mod HeadlineLemmas
+pub mod OnceLemmas
 pub mod PutLemmas
 pub mod SoFarLemmas
