@@ -1,3 +1,4 @@
 mod AnswerLemmas
 pub mod OnceLemmas
 pub mod Further
+pub mod OneAnswer

@@ -10,7 +10,9 @@ ghost use Rattle.command_edge.specs.declared.ending.Ending.{Ending as EndingOf};
 ghost use Rattle.ask_command.specs.Asks.{AnswersOf, IsAnswersText};
 ghost use Rattle.ask_command.specs.Beyond.{AreTrueReplies};
 
+use explore_command::laws::explorations_have_one_ending;
 use hop_bounds::laws::truth_goes_beyond;
+use one_list::laws::right_answers_are_one;
 
 /// Where a question is refused, `ask` comes to that refusal alone: to no text, and to no refusal of another question.
 #[tactic(auto, using(crate::proofs::OnceLemmas::refused_alone))]
@@ -34,4 +36,13 @@ pub fn answers_stay_true_where_walks_are_the_same()
         → AreTrueReplies net i more answers.records answers.questions answers.replies }
 {
     truth_goes_beyond();
+}
+
+/// What `ask` comes to of a job is one thing: a text, or one refusal.
+pub fn answers_have_one_outcome()
+    ensures { (hops limit : ℕ) (net : Network) (i : Entry) (asks : List AskTree) (a b : Outcome)
+        → AnswersOf hops limit net i asks a → AnswersOf hops limit net i asks b → a ≡ b }
+{
+    explorations_have_one_ending();
+    right_answers_are_one();
 }

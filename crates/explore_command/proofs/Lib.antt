@@ -1,5 +1,6 @@
 pub mod CutLemmas
 pub mod HeadlineLemmas
+pub mod OnceLemmas
 pub mod PutLemmas
 pub mod SoFarLemmas
 pub mod ToldLemmas

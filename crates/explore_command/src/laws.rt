@@ -1,11 +1,18 @@
 //! Laws of what `explore` writes. Each is the contract of a function that does nothing.
 
-ghost use Rattle.std.specs.Prelude.{ℕ};
+ghost use Rattle.std.specs.Prelude.{◌≡◌, ℕ, List};
 ghost use Rattle.net_check.specs.Network.{Entry, Network};
+ghost use Rattle.record_lines.specs.declared.lines.RefutedSides.TheVariants.{Counted};
+ghost use Rattle.command_edge.specs.Puts.{Outcome};
+ghost use Rattle.command_edge.specs.declared.ending.Ending.{Ending as EndingOf};
+ghost use Rattle.exact_records.specs.Packets.{AreExactFor};
+ghost use Rattle.exact_records.specs.Records.{RecordTree};
+ghost use Rattle.explore_command.specs.Explores.{IsEnding, ReportsOf};
 ghost use Rattle.explore_command.specs.Laws.{CutsAreBeginnings, ReportsAreReadBack, ReportsTellWalks, UncutReportsGoBeyond};
 
 use exact_records::laws::whole_records_have_one_path_a_walk;
 use hop_bounds::laws::uncut_records_go_beyond;
+use one_list::laws::{alike_records_tell_the_same, exact_records_are_one};
 use path_report::laws::lines_are_read_back;
 use record_lines::laws::a_record_comes_behind_the_others;
 use record_text::laws::lines_join;
@@ -44,4 +51,23 @@ pub fn uncut_reports_hold_beyond()
     ensures { (net : Network) (i : Entry) (hops : ℕ) → UncutReportsGoBeyond net i hops }
 {
     uncut_records_go_beyond();
+}
+
+/// Lists of records that are exact for one net, injection, hops and limit end alike: something was left untried in all of them, or
+/// in none.
+pub fn explorations_have_one_ending()
+    ensures { (hops limit : ℕ) (net : Network) (i : Entry) (rs qs : List RecordTree) (a b : EndingOf) → AreExactFor net i hops limit rs
+        → AreExactFor net i hops limit qs → IsEnding a rs → IsEnding b qs → a ≡ b }
+{
+    alike_records_tell_the_same();
+    exact_records_are_one();
+}
+
+/// Where refuted sides are only counted, `explore` of a job comes to one report.
+pub fn counted_reports_have_one_outcome()
+    ensures { (hops limit : ℕ) (net : Network) (i : Entry) (a b : Outcome)
+        → ReportsOf hops limit Counted net i a → ReportsOf hops limit Counted net i b → a ≡ b }
+{
+    alike_records_tell_the_same();
+    exact_records_are_one();
 }

@@ -4,6 +4,7 @@
 mod counts;
 mod grow;
 mod grown_job;
+pub mod laws;
 mod summary;
 
 pub use counts::{Counts, Tally};
