@@ -8,7 +8,8 @@ use Rattle.run_answers.specs.Inputs.{FirstFails, IsSettled}
 use Rattle.run_answers.specs.Outside.{Outside, World, outside, world}
 use Rattle.run_answers.specs.Status.{input_status, number_of}
 use Rattle.run_answers.specs.declared.status.Status.{Status}
-use Rattle.run_answers.specs.declared.status.Status.TheVariants.{Done, NoFile, ReadFault, WriteFault, TooBig, BadPattern}
+use Rattle.run_answers.specs.declared.status.Status.TheVariants.{Done, Partial, NoFile, ReadFault, WriteFault, TooBig, BadPattern}
+use Rattle.command_edge.specs.declared.ending.Ending.TheVariants as ending
 use Rattle.command_edge.specs.declared.fault.InputFault.{InputFault}
 use Rattle.command_words.specs.Commands.{Command, explore, read_command}
 use Rattle.command_words.specs.declared.command.Pruned.{Pruned}
@@ -55,7 +56,9 @@ pub record RanAfter (before : ℕ) (words : List (List ℕ)) (entries : List (Li
   pub shown : IsShown before refusals status
   pub writes : MayWrite (around entries) before refusals (read_command words) status written
   pub headline : (job : List ℕ) (hops limit : ℕ) (pruned : Pruned) → read_command words ≡ Some (explore job hops limit pruned) → status ≡ Done
-      → TellsJob (around entries) before refusals job hops limit (sides_of pruned) written
+      → TellsJob (around entries) before refusals job hops limit (sides_of pruned) ending.Done written
+  pub partial : (job : List ℕ) (hops limit : ℕ) (pruned : Pruned) → read_command words ≡ Some (explore job hops limit pruned) → status ≡ Partial
+      → TellsJob (around entries) before refusals job hops limit (sides_of pruned) ending.Partial written
   pub told : IsCaused (world (listed_world entries)) tt tt (read_command words) status
   pub exact : (command : Command) (fault : InputFault) → read_command words ≡ Some command
       → FirstFails (world (listed_world entries)) tt (inputs command) fault tt → IsSettled (listed_world entries) fault
