@@ -20,6 +20,11 @@ def crates(text):
     return found
 
 
+def lines(text, wanted):
+    """The lines of a crates.txt that are of these crates, with their settings."""
+    return [line for line in (it.partition("#")[0].strip() for it in text.splitlines()) if line and line.partition(":")[0].split()[0] in wanted]
+
+
 def closure(every, name):
     """The crate and all crates below it with what each depends on, in the order of `every`."""
     wanted, left = set(), [name]

@@ -60,7 +60,7 @@ def copy(top, to, below):
     shutil.rmtree(to, ignore_errors=True)
     # the gate runs at the top of a repository
     (to / ".git").mkdir(parents=True)
-    (to / "crates.txt").write_text("".join(f"{name}: {' '.join(deps)}\n" for name, deps in below.items()))
+    (to / "crates.txt").write_text("".join(f"{line}\n" for line in build_plan.lines((top / "crates.txt").read_text(), below)))
     if (top / "HANDLES").is_file():
         shutil.copyfile(top / "HANDLES", to / "HANDLES")
     for name in below:
@@ -162,13 +162,14 @@ def told(text, is_built):
     return shown + block
 
 
-def take(repo, crate, top, began):
-    """Puts the program into the checkout, as old as what it was built of."""
-    made, to = repo / "crates" / crate / "out" / crate, top / "crates" / crate / "out" / crate
+def take(repo, crate, top, began, file=None):
+    """Puts the program, or another file that was made of the crate, into the checkout, as old as what it was built of."""
+    name = file or crate
+    made, to = repo / "crates" / crate / "out" / name, top / "crates" / crate / "out" / name
     if not made.is_file():
         return False
     to.parent.mkdir(exist_ok=True)
-    new = to.with_name(f"{crate}.new")
+    new = to.with_name(f"{name}.new")
     shutil.copyfile(made, new)
     new.chmod(0o755)
     os.utime(new, (began, began))
@@ -176,23 +177,22 @@ def take(repo, crate, top, began):
     return True
 
 
-def build(crate, room, lock, then):
-    """Builds the program in a folder, and returns whether it is built. `then` is called with the copy of the crates, as they are proved, where it is."""
+def build(crate, room, lock, product="program", make=take):
+    """Builds the program in a folder, and returns whether it is built; with `make` what is made of the crate there once it is proved."""
     began, started = time.time(), time.monotonic()
     below = build_plan.closure(build_plan.crates((TOP / "crates.txt").read_text()), crate)
     progress = build_plan.Progress(below, build_plan.measured(build_plan.SECONDS.read_text()), lanes())
-    say(f"building the program: its {len(below)} crates are proved, {progress.lanes} at a time. What is proved is kept, so a build that")
+    say(f"building the {product}: its {len(below)} crates are proved, {progress.lanes} at a time. What is proved is kept, so a build that")
     say("is interrupted goes on where it was. `symnet --unproved WORDS` answers in minutes, without any proof.")
     copy(TOP, room / "repo", below)
     with open(room / "log", "w+", encoding="utf-8") as log:
         status, most = gate(room / "repo", log, progress, lock)
         log.seek(0)
-        is_built = status == 0 and take(room / "repo", crate, TOP, began)
+        is_built = status == 0 and make(room / "repo", crate, TOP, began)
         for it in told(log.read(), is_built):
             print(it, file=sys.stderr)
     if is_built:
-        say(f"the program is built, after {int(time.monotonic() - started) // 60} minutes, with at most {most / 1e9:.1f} GB of memory")
-        then(room / "repo")
+        say(f"the {product} is built, after {int(time.monotonic() - started) // 60} minutes, with at most {most / 1e9:.1f} GB of memory")
     return is_built
 
 
@@ -200,8 +200,8 @@ def interrupted(number, _frame):
     sys.exit(128 + number)
 
 
-def built(crate, then=lambda repo: None):
-    """Builds the program, behind other builds of this checkout, and returns whether it is built."""
+def build_alone(crate, product="program", make=take):
+    """Builds the program in the folder of this checkout, once no other build is at work there; returns whether it is built."""
     if not shutil.which("rt"):
         say("there is no `rt` on the path: the README, \"The kit\", says what has to be there")
         return False
@@ -216,7 +216,7 @@ def built(crate, then=lambda repo: None):
             say("another build of this checkout is at work; waiting for it")
             fcntl.flock(lock, fcntl.LOCK_EX)
         try:
-            return build(crate, room, lock.fileno(), then)
+            return build(crate, room, lock.fileno(), product, make)
         finally:
             shutil.rmtree(room / "repo", ignore_errors=True)
 
@@ -225,7 +225,7 @@ def main(words):
     if len(words) > 1 or any(it.startswith("-") for it in words):
         print(__doc__, end="", file=sys.stderr)
         return 2
-    return 0 if built(words[0] if words else "symnet_cli") else 1
+    return 0 if build_alone(words[0] if words else "symnet_cli") else 1
 
 
 if __name__ == "__main__":

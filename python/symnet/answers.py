@@ -1,10 +1,15 @@
 """Reads the answers of `symnet ask`, `rules`, `loops` and `compare`, and shows them in words, with names for fields and values as people write them."""
 
-from dataclasses import dataclass
-from typing import Dict, List, Optional, Sequence, Tuple
+from dataclasses import dataclass, field
+from typing import Any, Callable, Dict, List, Optional, Sequence, Tuple, TypeVar
 
-from symnet_fields import code_text, kind_of, name_of, range_text, value_text
-from symnet_inputs import LIST_FIELDS, Job, Ranges, Rule, has_packet, has_part
+from .fields import code_text, kind_of, name_of, range_text, value_text
+from .inputs import LIST_FIELDS, Job, Ranges, Rule, has_packet, has_part
+from .picture import Pictured, Texts
+
+Made = TypeVar("Made")
+# An object of JSON.
+Written = Dict[str, Any]
 
 
 class NotAnswer(Exception):
@@ -52,16 +57,19 @@ class Visit:
 
 
 @dataclass(frozen=True)
-class Loops:
+class Loops(Pictured):
     """Cut paths by the numbers of their records: those that go round for ever, each with the place where a round begins, and the others, each with
     its visits where they are told."""
 
     first: Dict[int, int]
     open: Dict[int, Tuple[Visit, ...]]
+    # False where the exploration ended at its limit, so that more paths may be cut.
+    complete: bool = True
+    shown: Optional[Texts] = field(default=None, repr=False, compare=False)
 
 
 @dataclass(frozen=True)
-class Compared:
+class Compared(Pictured):
     """What a comparison says: same, other, unknown or partial; the path and the packet that show a difference; the undecided paths of both sides."""
 
     answer: str
@@ -70,6 +78,7 @@ class Compared:
     values: Tuple[int, ...] = ()
     left: Tuple[int, ...] = ()
     right: Tuple[int, ...] = ()
+    shown: Optional[Texts] = field(default=None, repr=False, compare=False)
 
 
 def _count(value: object) -> int:
@@ -91,7 +100,7 @@ def _values(values: object) -> Tuple[int, ...]:
     return tuple(int(value) if isinstance(value, str) and value.isdecimal() else _count(value) for value in values)
 
 
-def _asked(answer: dict) -> Answer:
+def _asked(answer: Written) -> Answer:
     said = answer["answer"]
     if said == "unknown":
         return Answer(said, open=_counts(answer["numbers"]))
@@ -100,12 +109,12 @@ def _asked(answer: dict) -> Answer:
     return Answer(said, _count(answer["number"]), _values(answer["values"])) if "number" in answer else Answer(said)
 
 
-def read_asked(whole: dict) -> List[Answer]:
+def read_asked(whole: Written) -> List[Answer]:
     """The answers of `ask`, one for each question."""
     return [_each("answer", number, _asked, answer) for number, answer in enumerate(_list(whole["answers"]))]
 
 
-def _visit(visit: dict) -> Visit:
+def _visit(visit: Written) -> Visit:
     place, why = _count(visit["place"]), visit["why"]
     if why in ("choice", "layout"):
         return Visit(place, why)
@@ -123,7 +132,7 @@ def _open(path: object) -> Tuple[int, Tuple[Visit, ...]]:
     return _count(path), ()
 
 
-def read_loops(whole: dict) -> Loops:
+def read_loops(whole: Written) -> Loops:
     """The answer of `loops`."""
     try:
         first = {_count(loop["number"]): _count(loop["first"]) for loop in _list(whole["loops"])}
@@ -132,7 +141,7 @@ def read_loops(whole: dict) -> Loops:
         raise NotAnswer(f"the answer of loops has not its form: {error!r}") from None
 
 
-def read_compared(whole: dict) -> Compared:
+def read_compared(whole: Written) -> Compared:
     """The answer of `compare`."""
     said = whole["answer"]
     try:
@@ -147,7 +156,7 @@ def read_compared(whole: dict) -> Compared:
     raise NotAnswer("the answer of compare is none of same, other, unknown and partial")
 
 
-def read_rules(whole: dict, rules: Optional[Sequence[Rule]] = None) -> List[Fate]:
+def read_rules(whole: Written, rules: Optional[Sequence[Rule]] = None) -> List[Fate]:
     """The answer of `rules`; with the filter list, if it is given, NotAnswer where the answer is of another list."""
     fates = _list(whole["rules"])
     if rules is not None and len(rules) != len(fates):
@@ -155,7 +164,7 @@ def read_rules(whole: dict, rules: Optional[Sequence[Rule]] = None) -> List[Fate
     return [_each("rule", number, _fate, fate, number, rules) for number, fate in enumerate(fates)]
 
 
-def _fate(fate: dict, number: int, rules: Optional[Sequence[Rule]]) -> Fate:
+def _fate(fate: Written, number: int, rules: Optional[Sequence[Rule]]) -> Fate:
     if fate["rule"] == "decides":
         values = _counts(fate["values"])
         if len(values) != len(LIST_FIELDS):
@@ -176,7 +185,7 @@ def _fate(fate: dict, number: int, rules: Optional[Sequence[Rule]]) -> Fate:
     return Fate(None, parts)
 
 
-def _parts(cover: list, whole: Ranges, number: int) -> Tuple[Part, ...]:
+def _parts(cover: List[Any], whole: Ranges, number: int) -> Tuple[Part, ...]:
     """The parts that a cover tells apart: each step is of the first part that is left."""
     left, parts = [whole], []
     for step in cover:
@@ -207,13 +216,13 @@ def _side(part: Ranges, field: int, low: int, high: int) -> Ranges:
     return part[:field] + ((low, high),) + part[field + 1:]
 
 
-def _list(value: object) -> list:
+def _list(value: object) -> List[Any]:
     if isinstance(value, list):
         return value
     raise NotAnswer(f"{type(value).__name__} where a list should be")
 
 
-def _each(what: str, number: int, read, *parts):
+def _each(what: str, number: int, read: Callable[..., Made], *parts: object) -> Made:
     """What `read` makes of one of several; the number of the one that has not its form is told."""
     try:
         return read(*parts)

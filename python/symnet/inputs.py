@@ -192,7 +192,7 @@ def _ranges(words: List[str], where: str) -> Ranges:
 
 def read_list(text: str) -> List[Rule]:
     """The rules of the filter list in their order (docs/filter-lists.md has the form); NotInput at the first line that breaks it."""
-    rules = []
+    rules: List[Rule] = []
     lines = text.split("\n")
     for number, line in enumerate(lines, 1):
         if number < len(lines) and line.endswith("\r"):

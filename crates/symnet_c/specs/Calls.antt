@@ -1,0 +1,106 @@
+-- What a call answers, and what it leaves in the rooms for the output and for the message.
+use Rattle.std.specs.Prelude.{ℕ, ◌≡◌, ◌⊎◌, ◌<◌, List, ◌++◌, length, take, drop, Some, None}
+use Rattle.sn_edge.specs.MemFolder.{file_at}
+use Rattle.sn_edge.specs.Told.{PatternsTold}
+use Rattle.sn_edge.specs.declared.patterns.Found.{Found}
+use Rattle.regex_patterns.specs.Found.{IsFoundByRegex, finds_match, refusals_after}
+use Rattle.run_answers.specs.Inputs.{FirstFails, IsSettled}
+use Rattle.run_answers.specs.Outside.{Outside, World, outside, world}
+use Rattle.run_answers.specs.Status.{input_status, number_of}
+use Rattle.run_answers.specs.declared.status.Status.{Status}
+use Rattle.run_answers.specs.declared.status.Status.TheVariants.{Done, Partial, NoFile, ReadFault, WriteFault, TooBig, BadPattern}
+use Rattle.command_edge.specs.declared.ending.Ending.TheVariants as ending
+use Rattle.command_edge.specs.declared.fault.InputFault.{InputFault}
+use Rattle.command_words.specs.Commands.{Command, explore, read_command}
+use Rattle.command_words.specs.declared.command.Pruned.{Pruned}
+use Rattle.symnet_program.specs.Commands.{inputs, sides_of, work}
+use Rattle.symnet_program.specs.Headline.{TellsJob}
+use Rattle.symnet_program.specs.Program.{Cause, IsAnswered, IsCaused, MayWrite, RefusesInput}
+use Rattle.symnet_program.specs.Told.{MayBeUnread}
+use Rattle.caller_edge.specs.Lists.{HasFiles, HasTexts}
+
+-- what patterns by `regex` tell and answer, by how many of them were refused
+abbrev pub regex_told : ℕ → PatternsTold
+regex_told refusals = record { matches = Some finds_match; bad = None; refusals = refusals }
+
+abbrev pub regex_gives : ℕ → List ℕ → List ℕ → Found → ℕ → Type 0
+regex_gives old pattern name answer new = IsFoundByRegex pattern name answer × (new ≡ refusals_after old answer)
+
+-- nothing failed outside, and a pattern is blamed only where one was refused
+abbrev pub IsShown : ℕ → ℕ → Status → Type 0
+IsShown before after (ReadFault name) = ⊥
+IsShown before after WriteFault = ⊥
+IsShown before after (BadPattern site) = before < after
+IsShown before after _ = Unit {0}
+
+-- a file that is absent or too large, or an input that is refused, is to blame
+abbrev pub BlamesInput : Status → Type 0
+BlamesInput (NoFile name) = Unit {0}
+BlamesInput (TooBig name) = Unit {0}
+BlamesInput status = RefusesInput status
+
+module _ (entries : List (List ℕ × List ℕ)) where
+  -- the outside of a call: these files, and patterns by `regex`
+  abbrev pub around : Outside ℕ
+  around = outside (Some (file_at entries)) regex_told regex_gives
+
+  -- the same as a world
+  abbrev pub listed_world : World
+  listed_world = record { at = file_at entries; finds = Some finds_match; is_bad = None }
+
+-- The program ran on these words over these files, after this many patterns had been refused: why it ended with this status, and wrote this.
+pub record RanAfter (before : ℕ) (words : List (List ℕ)) (entries : List (List ℕ × List ℕ)) (status : Status) (written : List ℕ) : Type 0 where
+  -- how many patterns were refused then
+  pub refusals : ℕ
+  pub cause : IsCaused (around entries) before refusals (read_command words) status
+  pub shown : IsShown before refusals status
+  pub writes : MayWrite (around entries) before refusals (read_command words) status written
+  pub headline : (job : List ℕ) (hops limit : ℕ) (pruned : Pruned) → read_command words ≡ Some (explore job hops limit pruned) → status ≡ Done
+      → TellsJob (around entries) before refusals job hops limit (sides_of pruned) ending.Done written
+  pub partial : (job : List ℕ) (hops limit : ℕ) (pruned : Pruned) → read_command words ≡ Some (explore job hops limit pruned) → status ≡ Partial
+      → TellsJob (around entries) before refusals job hops limit (sides_of pruned) ending.Partial written
+  pub told : IsCaused (world (listed_world entries)) tt tt (read_command words) status
+  pub exact : (command : Command) (fault : InputFault) → read_command words ≡ Some command
+      → FirstFails (world (listed_world entries)) tt (inputs command) fault tt → IsSettled (listed_world entries) fault
+      → (status ≡ input_status fault) ⊎ MayBeUnread (listed_world entries) status
+  -- where no input is to blame, the command ran to its end, except for want of memory
+  pub complete : (command : Command) → read_command words ≡ Some command
+      → ((blamed : Status) → BlamesInput blamed → Cause (around entries) before refusals (inputs command) (work command) blamed → ⊥) → IsAnswered status
+
+abbrev pub Ran : List (List ℕ) → List (List ℕ × List ℕ) → Status → List ℕ → Type 0
+Ran words entries status written = RanAfter 0 words entries status written
+
+-- As many bytes as are wanted were put into the room: the first of them begin it, and behind them it is as it was.
+pub record IsPut (bytes : List ℕ) (wanted : ℕ) (before after : List ℕ) : Type 0 where
+  pub is_wanted : wanted ≡ length bytes
+  pub is_put : after ≡ take (length before) bytes ++ drop (length bytes) before
+
+-- some bytes were
+abbrev pub HasPut : ℕ → List ℕ → List ℕ → Type 0
+HasPut wanted before after = (bytes : List ℕ) × IsPut bytes wanted before after
+
+-- The program ran on these words over these files and ended with the status of this number, and what it wrote was put into the room.
+pub record IsAnswer (words : List (List ℕ)) (entries : List (List ℕ × List ℕ)) (number wanted : ℕ) (before after : List ℕ) : Type 0 where
+  pub status : Status
+  pub written : List ℕ
+  pub ran : Ran words entries status written
+  pub is_number : number ≡ number_of status
+  pub put : IsPut written wanted before after
+
+-- the words and the files were read as lists, and the program ran on them
+pub record Answers (words listed : List ℕ) (number wanted : ℕ) (before after : List ℕ) : Type 0 where
+  pub texts : List (List ℕ)
+  pub entries : List (List ℕ × List ℕ)
+  pub of_words : HasTexts words texts
+  pub of_files : HasFiles listed entries
+  pub answer : IsAnswer texts entries number wanted before after
+
+-- no words and files are what these bytes have
+abbrev pub AreNoLists : List ℕ → List ℕ → Type 0
+AreNoLists words listed = (texts : List (List ℕ)) (entries : List (List ℕ × List ℕ)) → HasTexts words texts → HasFiles listed entries → ⊥
+
+-- they are no lists, or there was no memory to read them; and nothing was put into the room
+pub record IsUnread (number wanted : ℕ) (before after : List ℕ) : Type 0 where
+  pub is_number : (number ≡ 256) ⊎ (number ≡ 1)
+  pub is_wanted : wanted ≡ 0
+  pub is_put : after ≡ before

@@ -1,0 +1,157 @@
+"""The commands over texts in memory. docs/questions.md, docs/formats.md and docs/language.md of the repository say what each asks and answers.
+
+A text is `str` or `bytes`. `files` has what a job names in its text, its tables, by those names; nothing is read from the disk. An option that is not
+given has the value of the command line. Each command raises `Refusal` where it ends without a whole text.
+"""
+
+import json
+from dataclasses import dataclass, field, replace
+from typing import Dict, List, Literal, Mapping, Optional, Sequence, Tuple, Union
+
+from .answers import Answer, Compared, Fate, Loops, read_asked, read_compared, read_loops, read_rules
+from .inputs import read_list
+from .library import Ended, Files as AnyFiles, Text, as_bytes, call
+from .picture import Pictured, Texts
+from .refusal import PARTIAL, written
+from .report import Report, read_report, read_written
+
+Files = Mapping[str, Text]
+
+
+@dataclass(frozen=True)
+class Asked(Pictured):
+    """The answers to a job's questions, in their order; `complete` is False where the exploration ended at its limit of records, so that more of
+    them may be unknown: yes and no are right all the same."""
+
+    answers: Tuple[Answer, ...]
+    complete: bool = True
+    shown: Optional[Texts] = field(default=None, repr=False, compare=False)
+
+
+@dataclass(frozen=True)
+class Rules(Pictured):
+    """What becomes of each rule of a filter list, in their order."""
+
+    fates: Tuple[Fate, ...]
+    shown: Optional[Texts] = field(default=None, repr=False, compare=False)
+
+
+@dataclass(frozen=True)
+class Confirmed:
+    """How many records of a report were confirmed: paths that a packet takes, undecided paths, refuted sides, decisions that were not tried."""
+
+    sat: int
+    undecided: int
+    pruned: int
+    unexplored: int
+
+
+@dataclass(frozen=True)
+class Grown:
+    """The counts of the records of a job that was made from a seed."""
+
+    seed: int
+    nodes: int
+    sat: int
+    undecided: int
+    pruned: int
+    unexplored: int
+    delivered: int
+    stopped: int
+    failed: int
+    cut: int
+
+
+def run(words: Sequence[Text], files: Optional[AnyFiles] = None) -> Ended:
+    """Runs the words of a command line over these files, and returns the status, the output and what is said for people; raises no Refusal."""
+    none: Dict[str, Text] = {}
+    return call(words, none if files is None else files)
+
+
+def _options(**given: Union[int, str, None]) -> List[str]:
+    return [f"--{name}={value}" for name, value in given.items() if value is not None]
+
+
+def _with(files: Optional[Files], **texts: Text) -> Tuple[Dict[str, Text], Dict[str, str]]:
+    """The files and these texts, each under a name that no file has, and these names."""
+    whole: Dict[str, Text] = {**(files or {})}
+    names: Dict[str, str] = {}
+    for kind, text in texts.items():
+        name = f"the {kind}"
+        while name in whole:
+            name += "'"
+        whole[name], names[kind] = text, name
+    return whole, names
+
+
+def _shown(files: Mapping[str, Text], others: Optional[Mapping[str, Text]] = None) -> Texts:
+    return Texts({name: as_bytes(text) for name, text in files.items()}, {name: as_bytes(text) for name, text in (others or {}).items()})
+
+
+def _counts(text: bytes) -> Dict[str, int]:
+    """The counts that a command writes: all of its answer besides its form."""
+    return {name: int(count) for name, count in json.loads(text).items() if name != "symnet"}
+
+
+def explore(job: Text, *, files: Optional[Files] = None, hops: Optional[int] = None, limit: Optional[int] = None,
+            pruned: Optional[Literal["all", "count"]] = None) -> Report:
+    """The report of all packets of a job."""
+    whole, names = _with(files, job=job)
+    text = written(run(["explore", names["job"], *_options(hops=hops, limit=limit, pruned=pruned)], whole))
+    return replace(read_report(text), text=text, shown=_shown({"report": text, "job": job}))
+
+
+def walk(job: Text, packet: Union[Text, Sequence[int]], *, files: Optional[Files] = None, hops: Optional[int] = None,
+         limit: Optional[int] = None) -> Report:
+    """All walks of one packet: its text, or its numbers, one for each unknown field of the injection and each choice on the way."""
+    given = packet if isinstance(packet, (str, bytes)) else "\n".join(map(str, packet))
+    whole, names = _with(files, job=job, packet=given)
+    text = written(run(["walk", names["job"], names["packet"], *_options(hops=hops, limit=limit)], whole))
+    return replace(read_report(text), text=text, shown=_shown({"walks": text, "job": job}))
+
+
+def replay(job: Text, report: Union[Text, Report], *, files: Optional[Files] = None) -> Confirmed:
+    """The counts of a report's records, where each was confirmed for the job: of a text, or of what `explore` returned."""
+    whole, names = _with(files, job=job, report=report.text if isinstance(report, Report) else report)
+    return Confirmed(**_counts(written(run(["replay", names["job"], names["report"]], whole))))
+
+
+def ask(job: Text, *, files: Optional[Files] = None, hops: Optional[int] = None) -> Asked:
+    """The answers to the questions of a job."""
+    whole, names = _with(files, job=job)
+    ended = run(["ask", names["job"], *_options(hops=hops)], whole)
+    text = written(ended)
+    return Asked(tuple(read_asked(read_written(text))), ended.status != PARTIAL, _shown({"answer": text, "job": job}))
+
+
+def loops(job: Text, *, files: Optional[Files] = None, hops: Optional[int] = None, open: Optional[Literal["numbers", "visits"]] = None) -> Loops:
+    """Which paths of a job that are cut go round for ever."""
+    whole, names = _with(files, job=job)
+    ended = run(["loops", names["job"], *_options(hops=hops, open=open)], whole)
+    text = written(ended)
+    return replace(read_loops(read_written(text)), complete=ended.status != PARTIAL, shown=_shown({"answer": text, "job": job}))
+
+
+def compare(job: Text, other: Text, *, files: Optional[Files] = None, hops: Optional[int] = None) -> Compared:
+    """Whether two jobs deliver the same, or a packet that shows a difference."""
+    whole, names = _with(files, job=job, other=other)
+    text = written(run(["compare", names["job"], names["other"], *_options(hops=hops)], whole))
+    return replace(read_compared(read_written(text)), shown=_shown({"answer": text, "job": job}, {"job": other}))
+
+
+def model(kind: Literal["mac", "fib", "click", "acl"], file: Text, *, style: Optional[Literal["chain", "grouped", "egress"]] = None) -> str:
+    """The node of a switch's or a router's table or of a filter list, or the nodes and links of a Click configuration, as a job has them."""
+    whole, names = _with(None, file=file)
+    return written(run(["model", kind, names["file"], *_options(style=style)], whole)).decode()
+
+
+def rules(file: Text) -> Rules:
+    """For each rule of a filter list a packet that it decides, or the earlier rules that hide it."""
+    whole, names = _with(None, file=file)
+    text = written(run(["rules", names["file"]], whole))
+    return Rules(tuple(read_rules(read_written(text), read_list(as_bytes(file).decode()))), _shown({"answer": text, "list.acl": file}))
+
+
+def grow(seed: int, nodes: int) -> Grown:
+    """The counts of the records of a job that is made from a seed."""
+    return Grown(**_counts(written(run(["grow", str(seed), str(nodes)]))))

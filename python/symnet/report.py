@@ -1,0 +1,271 @@
+"""Reads what symnet writes into plain objects, and prints it for people.
+
+    python -m symnet.report WRITTEN [FILE ..] [--pruned]
+    tools/symnet_report.py WRITTEN [FILE ..] [--pruned]      the same, where the package is not installed
+
+WRITTEN is a report of `symnet explore`, the walks of `symnet walk`, or an answer of `symnet ask`, `rules`, `loops` or `compare`; `-` reads it from
+standard input. A FILE is what belongs to it: the job, the filter list of `rules`, or the report whose paths `loops` speaks of. Fields are shown by
+their names and with their values as people write them, where the job is given. Only the standard library is used. Whole numbers keep all their
+digits; a value above 2^64 - 1, which is written as a text of digits, becomes a number too.
+
+    symnet ask office.sefl | tools/symnet_report.py - office.sefl
+    symnet rules border.acl | tools/symnet_report.py - border.acl
+"""
+
+import json
+import signal
+import sys
+from dataclasses import dataclass, field
+from typing import Any, Dict, List, Optional, Tuple, Union
+
+from .answers import (NotAnswer, Written, asked_lines, columns, compared_lines, loops_lines, packet_words, read_asked, read_compared, read_loops,
+                      read_rules, rules_lines)
+from .inputs import Job, NotInput, Rule, is_list, read_job, read_list
+from .picture import Pictured, Texts
+
+FAULTS = {
+    1: "no such tag", 2: "address out of range", 3: "no field at the address", 4: "field of another width",
+    5: "fields that overlap", 6: "field that is not set", 7: "no such metadata", 8: "constraint not met", 9: "fail",
+}
+
+
+class NotReport(Exception):
+    """The text is no report and no list of walks; the message says where."""
+
+
+@dataclass(frozen=True)
+class Cell:
+    """A cell of `width` bits: unset where `constant` is None, else constant + sum of coefficient * symbol, modulo 2^width."""
+
+    width: int
+    constant: Optional[int]
+    parts: Tuple[Tuple[int, int], ...] = ()
+
+    def value(self, values: List[int]) -> Optional[int]:
+        """The number that it holds for the packet with these numbers, one for each symbol."""
+        if self.constant is None:
+            return None
+        total = self.constant + sum(coefficient * values[symbol] for symbol, coefficient in self.parts)
+        return total % (1 << self.width)
+
+
+@dataclass(frozen=True)
+class Fields:
+    """What is carried at the end: tags with bit addresses, header cells by address, metadata by owner (None: global) and name."""
+
+    tags: Tuple[Tuple[str, int], ...]
+    heads: Tuple[Tuple[int, Tuple[Cell, ...]], ...]
+    metas: Tuple[Tuple[Optional[str], str, Tuple[Cell, ...]], ...]
+
+
+@dataclass(frozen=True)
+class Path:
+    """A path, or a walk of one packet; `values` are those of its least packet, None where it is undecided or a walk."""
+
+    decisions: Tuple[Union[str, int], ...]
+    places: Tuple[str, ...]
+    end: str
+    fields: Fields
+    values: Optional[Tuple[int, ...]] = None
+    undecided: Optional[str] = None
+
+
+@dataclass(frozen=True)
+class Pruned:
+    """A side that no packet takes, with the refutation's steps as they are written."""
+
+    decisions: Tuple[Union[str, int], ...]
+    refutation: Tuple[List[Any], ...]
+
+
+@dataclass(frozen=True)
+class Unexplored:
+    """A decision that was open when the limit was reached."""
+
+    decisions: Tuple[Union[str, int], ...]
+
+
+Record = Union[Path, Pruned, Unexplored]
+
+
+@dataclass(frozen=True)
+class Report(Pictured):
+    """All records in order; `refuted` is how many refuted sides are only counted, and `complete` says that nothing was left unexplored. Walks have none
+    of hops, limit and refuted sides. `text` is what was read, as `replay` takes it, where it is kept."""
+
+    records: Tuple[Record, ...]
+    hops: Optional[int] = None
+    limit: Optional[int] = None
+    refuted: int = 0
+    complete: bool = True
+    text: bytes = field(default=b"", repr=False, compare=False)
+    shown: Optional[Texts] = field(default=None, repr=False, compare=False)
+
+    @property
+    def paths(self) -> List[Path]:
+        return [record for record in self.records if isinstance(record, Path)]
+
+
+def _cell(parts: List[Any]) -> Cell:
+    width = int(parts[0])
+    if len(parts) == 1:
+        return Cell(width, None)
+    members = tuple((int(symbol), int(coefficient)) for symbol, coefficient in (parts[2] if len(parts) == 3 else []))
+    return Cell(width, int(parts[1]), members)
+
+
+def _fields(whole: Written) -> Fields:
+    return Fields(
+        tags=tuple((name, int(address)) for name, address in whole["tags"]),
+        heads=tuple((int(address), tuple(_cell(cell) for cell in cells)) for address, cells in whole["heads"]),
+        metas=tuple((owner, name, tuple(_cell(cell) for cell in cells)) for owner, name, cells in whole["metas"]),
+    )
+
+
+def _end(end: Union[str, Written]) -> str:
+    if isinstance(end, str):
+        return end
+    if end["fault"] == 9:
+        return f'failed at {end["site"]}: {end["text"]}'
+    return f'failed at {end["site"]}: {FAULTS.get(end["fault"], "unknown fault")}'
+
+
+def _path(record: Written) -> Path:
+    verdict = record.get("verdict") or {}
+    values = tuple(int(value) for value in verdict["sat"]) if "sat" in verdict else None
+    undecided = verdict["undecided"]["cause"] if "undecided" in verdict else None
+    return Path(tuple(record["decisions"]), tuple(record["places"]), _end(record["end"]), _fields(record["fields"]), values, undecided)
+
+
+def _record(record: Written) -> Record:
+    kind = record.get("kind", "path")
+    if kind == "path":
+        return _path(record)
+    if kind == "pruned":
+        return Pruned(tuple(record["decisions"]), tuple(record["refutation"]))
+    if kind == "unexplored":
+        return Unexplored(tuple(record["decisions"]))
+    raise NotReport(f"a record of the unknown kind {kind!r}")
+
+
+def read_written(text: Union[str, bytes]) -> Written:
+    try:
+        whole = json.loads(text)
+    except (ValueError, RecursionError) as error:
+        raise NotReport(f"no JSON: {error}") from None
+    if not isinstance(whole, dict) or whole.get("symnet") != 1:
+        raise NotReport("no report: it is no object with the key symnet 1")
+    return whole
+
+
+def read_report(text: Union[str, bytes]) -> Report:
+    """The report, or the walks, of this text; NotReport where it is neither."""
+    return _report(read_written(text))
+
+
+def _report(whole: Written) -> Report:
+    listed = whole.get("records", whole.get("walks"))
+    if not isinstance(listed, list):
+        raise NotReport("no report: it has neither records nor walks")
+    records = tuple(_numbered(number, record) for number, record in enumerate(listed))
+    return Report(records, whole.get("hops"), whole.get("limit"), whole.get("refuted", 0), whole.get("state", "done") == "done")
+
+
+def _numbered(number: int, record: Written) -> Record:
+    try:
+        return _record(record)
+    except (KeyError, IndexError, TypeError, ValueError, AttributeError) as error:
+        raise NotReport(f"record {number} has not the form of one: {error!r}") from None
+
+
+def table(report: Report, with_pruned: bool = False, job: Optional[Job] = None) -> str:
+    """A line for each path: its number, its end, the ports, the least packet; with the pruned sides where they are asked for."""
+    lines = []
+    for number, record in enumerate(report.records):
+        if isinstance(record, Path):
+            lines.append((str(number), record.end, " ".join(map(str, record.decisions)), " > ".join(record.places), _packet(record, job)))
+        elif isinstance(record, Unexplored):
+            lines.append((str(number), "unexplored", " ".join(map(str, record.decisions)), "", ""))
+        elif with_pruned:
+            lines.append((str(number), "pruned", " ".join(map(str, record.decisions)), "", ""))
+    return "\n".join(columns([("record", "end", "decisions", "places", "packet"), *lines]))
+
+
+def _packet(path: Path, job: Optional[Job]) -> str:
+    if path.values is None:
+        return path.undecided or "-"
+    return " ".join(map(str, path.values)) if job is None else packet_words(path.values, job)
+
+
+@dataclass
+class Inputs:
+    """The files that belong to what was written, as far as they are given."""
+
+    job: Optional[Job] = None
+    rules: Optional[List[Rule]] = None
+    report: Optional[Report] = None
+
+    def add(self, name: str, data: bytes) -> None:
+        """Takes a file for what its text is."""
+        text = data.decode("utf-8", "replace")
+        if text.lstrip().startswith("{"):
+            self.report = read_report(text)
+        elif is_list(name, text):
+            self.rules = read_list(text)
+        else:
+            self.job = read_job(text)
+
+    def cut_paths(self) -> Optional[Dict[int, Tuple[str, ...]]]:
+        """The places of each cut path of the report, by the number of its record."""
+        if self.report is None:
+            return None
+        return {number: record.places for number, record in enumerate(self.report.records) if isinstance(record, Path) and record.end == "cut"}
+
+
+def shown(text: Union[str, bytes], inputs: Inputs, with_pruned: bool = False) -> str:
+    """What is written, in words; NotReport or NotAnswer where it is nothing that symnet writes, or not of these inputs."""
+    whole = read_written(text)
+    if "answers" in whole:
+        return "\n".join(asked_lines(read_asked(whole), inputs.job))
+    if "rules" in whole:
+        return "\n".join(rules_lines(read_rules(whole, inputs.rules), inputs.rules))
+    if "loops" in whole:
+        return "\n".join(loops_lines(read_loops(whole), inputs.cut_paths(), inputs.job))
+    if "answer" in whole:
+        return "\n".join(compared_lines(read_compared(whole), inputs.job))
+    return table(_report(whole), with_pruned, inputs.job)
+
+
+def _bytes_of(name: str) -> bytes:
+    if name == "-":
+        return sys.stdin.buffer.read()
+    with open(name, "rb") as file:
+        return file.read()
+
+
+def main(words: List[str]) -> int:
+    names = [word for word in words if word == "-" or not word.startswith("-")]
+    if not names or "-" in names[1:] or any(word not in ("-", "--pruned") for word in words if word.startswith("-")):
+        print("usage: symnet_report.py WRITTEN [FILE ..] [--pruned]", file=sys.stderr)
+        return 2
+    inputs = Inputs()
+    name = names[0]
+    try:
+        for name in names[1:]:
+            inputs.add(name, _bytes_of(name))
+        name = names[0]
+        print(shown(_bytes_of(name), inputs, "--pruned" in words))
+    except OSError as error:
+        print(f"symnet_report: {error}", file=sys.stderr)
+        return 3
+    except (NotReport, NotAnswer, NotInput) as error:
+        print(f"symnet_report: {name}: {error}", file=sys.stderr)
+        return 14
+    return 0
+
+
+if __name__ == "__main__":
+    # A reader that has seen enough, as `head`, ends this program quietly.
+    if hasattr(signal, "SIGPIPE"):
+        signal.signal(signal.SIGPIPE, signal.SIG_DFL)
+    sys.exit(main(sys.argv[1:]))
