@@ -85,7 +85,7 @@ def _parts(files: Files) -> Iterator[bytes]:
 
 
 def _room(size: int) -> "ctypes.Array[ctypes.c_char]":
-    """Room for at least so many bytes, which the next call in this thread takes over where it is not too large to be kept."""
+    """Room for at least this many bytes, which the next call in this thread takes over where it is not too large to be kept."""
     room = getattr(_rooms, "output", None)
     if room is None or len(room) < size:
         room = ctypes.create_string_buffer(max(size, _ROOM))
