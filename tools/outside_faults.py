@@ -169,7 +169,7 @@ def short_file(program, folder):
 
 def little_memory(program, folder):
     """A job whose table in style chain wants more than there is."""
-    rows = "".join(f"10.{n >> 8 & 255}.{n & 255}.0/24 {n % 2}\n" for n in range(60_000))
+    rows = "".join(f"10.{n >> 16}.{n >> 8 & 255}.{n & 255}/32 {n % 2}\n" for n in range(150_000))
     written(folder, job=NAMED.format("t").replace("mac", "fib").replace("L2+0:48", "L3+128:32").replace("L2", "L3").encode(),
             t=f"ports 2\n{rows}".encode())
     ran = run(program, folder, ["explore", "job"], preexec_fn=limited(resource.RLIMIT_AS, 48 << 20))
@@ -183,8 +183,18 @@ def little_stack(program, folder):
     return ends(0, b"", whole)(ran), ran
 
 
-# A stack that serves every job whose code and conditions are nested little.
-STACK = 64 << 10
+def nested(code):
+    """A job whose code or condition is nested as deep as a job may be, with a stack that serves every job."""
+    def case(program, folder):
+        written(folder, job=f"symnet 1;\nnode r 1 -> 1 {{ in 0 {{ {code} }} }}\ninject r.0 {{ tag L3 = 0; field head L3+64:8; }}\n".encode())
+        whole = run(program, folder, ["explore", "job"]).output
+        ran = run(program, folder, ["explore", "job"], preexec_fn=limited(resource.RLIMIT_STACK, DEEP_STACK))
+        return ends(0, b"", whole)(ran) and whole != b"", ran
+    return case
+
+
+# A stack that serves a job with no pattern whose code and conditions are nested little, and one that serves every job.
+STACK, DEEP_STACK = 64 << 10, 512 << 10
 
 JOB, LONG_REPORT = 67_108_864, 268_435_456
 
@@ -221,6 +231,11 @@ CASES = {
     "a file that may not grow": short_file,
     "little memory": little_memory,
     "little stack": little_stack,
+    "a stack for nested ifs": nested("if true { " * 62 + "forward 0;" + " } else { forward 0; }" * 62),
+    "a stack for nested brackets": nested("constrain " + "[" * 62 + "head L3+64:8 <= 1" + "]" * 62 + "; forward 0;"),
+    "a stack for negations": nested("constrain " + "not " * 60 + "head L3+64:8 <= 1; forward 0;"),
+    "a stack for nested blocks": nested("{ " * 62 + "forward 0;" + " }" * 62),
+    "a stack for a nested pattern": nested('allocate global abc:8; for n in "' + "[" * 200 + "a" + "]" * 200 + '" { noop; } forward 0;'),
 }
 
 

@@ -7,12 +7,18 @@ const DESK = JSON.parse(byId("desk-data").textContent);
 
 // ---------------------------------------------------------------- engines: run(words, files) gives a status and what was written, as texts
 
-class Stopped extends Error {}
+// Why an output is not taken: a browser ends a page that takes some GB.
+const tooMuch = () => new Error(`the run was ended, since it wrote more than ${desk.bytes.toLocaleString("en")} bytes: ask for less by --limit or --pruned count, or let ./symnet write into a file`);
+
+class Stopped extends Error {
+  constructor(words = "the run was stopped") { super(words); }
+}
 
 // The module of this page, in a worker. Each run has a new instance; a run that is stopped ends with its worker.
 class ModuleEngine {
   constructor() {
-    const code = `${byId("engine-code").textContent}\nonmessage = ({ data }) => postMessage(runEngine(data.module, data.words, data.files));`;
+    const code = `${byId("engine-code").textContent}
+onmessage = ({ data }) => { const came = runEngine(data.module, data.words, data.files, data.most); postMessage(came, [came.output.buffer, came.error.buffer]); };`;
     this.address = URL.createObjectURL(new Blob([code], { type: "text/javascript" }));
     this.worker = null;
     this.stopRun = () => {};
@@ -32,26 +38,27 @@ class ModuleEngine {
 
   async run(words, files) {
     const { stops } = this, module = await this.module();
-    if (stops !== this.stops) throw new Stopped();
+    if (stops !== this.stops) throw this.why;
     if (!this.worker) this.worker = new Worker(this.address);
-    const { worker } = this;
-    const bytes = new Map([...files].map(([name, text]) => [name, new TextEncoder().encode(text)]));
+    const bytes = new Map([...files].map(([name, text]) => [name, bytesOf(text)]));
     const came = await new Promise((resolve, reject) => {
-      this.stopRun = () => reject(new Stopped());
-      worker.onmessage = ({ data }) => resolve(data);
-      worker.onerror = (event) => reject(new Error(`the engine broke off: ${event.message}`));
-      worker.postMessage({ module, words, files: bytes });
+      this.stopRun = reject;
+      this.worker.onmessage = ({ data }) => resolve(data);
+      this.worker.onerror = (event) => this.stop(new Error(`the engine broke off, and there is no answer: ${event.message}`));
+      this.worker.onmessageerror = () => this.stop(new Error("the engine broke off, and there is no answer: what it wrote did not come over"));
+      this.worker.postMessage({ module, words, files: bytes, most: desk.bytes });
     });
-    this.stopRun = () => {};
+    if (came.isTooMuch) throw tooMuch();
     const text = (part) => new TextDecoder().decode(part);
     return { status: came.status, output: text(came.output), error: text(came.error) };
   }
 
-  stop() {
+  stop(why) {
     this.stops += 1;
+    this.why = why;
     if (this.worker) this.worker.terminate();
     this.worker = null;
-    this.stopRun();
+    this.stopRun(why);
   }
 }
 
@@ -59,19 +66,49 @@ class ModuleEngine {
 class ServedEngine {
   async run(words, files) {
     this.asked = new AbortController();
-    try {
-      const how = { method: "POST", headers: { "Content-Type": "application/json" }, body: JSON.stringify({ words, files: Object.fromEntries(files) }), signal: this.asked.signal };
-      const answer = await fetch("run", how);
-      if (!answer.ok) throw new Error(`the server refuses the run: ${await answer.text()}`);
-      return await answer.json();
-    } catch (error) {
-      throw error.name === "AbortError" ? new Stopped() : error;
-    }
+    const how = { method: "POST", headers: { "Content-Type": "application/json" }, body: JSON.stringify({ words, files: Object.fromEntries(files) }), signal: this.asked.signal };
+    const answer = await fetch("run", how);
+    if (!answer.ok) throw new Error(`the server refuses the run: ${await answer.text()}`);
+    const came = await answer.json();
+    if (came.output.length > desk.bytes) throw tooMuch();
+    return came;
   }
 
-  stop() {
-    if (this.asked) this.asked.abort();
+  stop(why) {
+    if (this.asked) this.asked.abort(why);
   }
+}
+
+// ---------------------------------------------------------------- files as texts and as bytes
+
+const BYTE = 0xdc00; // with a byte of 128 or more added, half of a pair of UTF-16 that stands alone, as in no UTF-8
+const STEP = 8192;
+
+// The text of a file. Where its bytes are no UTF-8 each byte stays one by itself, so that the program is given the file as it is.
+function textOfBytes(bytes) {
+  try {
+    return new TextDecoder("utf-8", { fatal: true, ignoreBOM: true }).decode(bytes);
+  } catch {
+    const parts = [];
+    for (let at = 0; at < bytes.length; at += STEP) parts.push(String.fromCharCode(...Array.from(bytes.subarray(at, at + STEP), (byte) => (byte < 128 ? byte : BYTE + byte))));
+    return parts.join("");
+  }
+}
+
+// Whether a character, by its number, is one byte of a file.
+const isByte = (code) => code < 128 || (code >= BYTE + 128 && code <= BYTE + 255);
+
+// The bytes of a text, as `textOfBytes` takes them.
+function bytesOf(text) {
+  const encoder = new TextEncoder();
+  if (!/[\udc80-\udcff]/u.test(text)) return encoder.encode(text);
+  const bytes = new Uint8Array(3 * text.length);
+  let at = 0;
+  for (const sign of text) {
+    const code = sign.codePointAt(0);
+    if (isByte(code)) { bytes[at] = code & 255; at += 1; } else at += encoder.encodeInto(sign, bytes.subarray(at)).written;
+  }
+  return bytes.slice(0, at);
 }
 
 // ---------------------------------------------------------------- commands
@@ -79,7 +116,7 @@ class ServedEngine {
 const isJobName = (name) => name.endsWith(".sefl"), isPacketName = (name) => name.endsWith(".packet"), isListName = (name) => name.endsWith(".acl");
 const wrote = (end) => end.status === 0 || end.status === 12;
 const hopsOf = (options) => options.filter((word, index) => /^--hops(=|$)/.test(word) || options[index - 1] === "--hops");
-const hasQuestions = (text) => /^\s*ask\b/m.test(text);
+const hasQuestions = (text) => /\bask\s+(reach|invariant|visible)\b/.test(text);
 
 // Each command: which files it takes, and its plan. A plan runs the program by `call`, and gives the ends of its runs, the command's own first, and what the
 // page shows: files by name, and those of the second network.
@@ -145,7 +182,14 @@ function placeOf(error) {
 
 // The number of characters before a column, which counts bytes from 1.
 function charactersBefore(line, column) {
-  return new TextDecoder().decode(new TextEncoder().encode(line).subarray(0, column - 1)).length;
+  let bytes = 1, count = 0;
+  for (const sign of line) {
+    if (bytes >= column) break;
+    const code = sign.codePointAt(0);
+    bytes += isByte(code) ? 1 : code < 0x800 ? 2 : code < 0x10000 ? 3 : 4;
+    count += sign.length;
+  }
+  return count;
 }
 
 // ---------------------------------------------------------------- colours, by the grammar of tools/sefl.tmLanguage.json
@@ -169,15 +213,17 @@ function colouredParts(line) {
 }
 
 function partsOfLine(line) {
-  const parts = [];
+  // what each rule finds next, so that none looks through the line more than once
+  const parts = [], next = RULES.map(() => ({ index: -1 }));
   let at = 0;
   while (at < line.length) {
     let best = null;
-    for (const rule of RULES) {
+    RULES.forEach((rule, number) => {
       rule.pattern.lastIndex = at;
-      const found = rule.pattern.exec(line);
+      if (next[number] && next[number].index < at) next[number] = rule.pattern.exec(line);
+      const found = next[number];
       if (found && found[0] !== "" && (!best || found.index < best.found.index)) best = { rule, found };
-    }
+    });
     if (!best) break;
     const { rule, found } = best;
     if (rule.scope) parts.push([found.index, found.index + found[0].length, classOf(rule.scope)]);
@@ -199,11 +245,14 @@ function colouredLine(line) {
 
 // ---------------------------------------------------------------- the desk
 
-const COLOURED = 200000; // the length of a text that is coloured at most
+const COLOURED = 100000; // the length of a text that is coloured at most
+const SHOWN = 300000, SHOWN_LINES = 10000; // the length of a text, and its lines, that are shown at most
 const PAUSE = 350; // milliseconds from the last key to the run
 
 // The files, which of them is open, which the command takes, what the last run said, and how many runs were begun.
-const desk = { files: new Map(), open: "", names: [], place: null, answers: new Map(), runs: 0, timer: 0, engine: DESK.engine === "served" ? new ServedEngine() : new ModuleEngine() };
+const desk = { files: new Map(), open: "", names: [], place: null, answers: new Map(), runs: 0, timer: 0, engine: DESK.engine === "served" ? new ServedEngine() : new ModuleEngine(),
+  // the seconds after which a run is ended that a key or an example began (one that the button began is ended by hand alone), and the most bytes that a run writes
+  seconds: 60, bytes: 128 << 20 };
 
 const DESK_PARTS = `
   <div class="row"><label>example <select id="example"></select></label><label>open files <input type="file" id="opened" multiple></label></div>
@@ -218,6 +267,8 @@ const DESK_PARTS = `
 
 const optionWords = () => byId("options").value.split(/\s+/).filter((word) => word !== "");
 const textOf = (name) => desk.files.get(name) || "";
+// Whether a text is too long to be shown and written in. It runs all the same.
+const isLong = (text) => text.length > SHOWN || text.split("\n", SHOWN_LINES + 1).length > SHOWN_LINES;
 
 // The files that the command takes: those that are chosen, where they are there, else those whose names fit it, the open one first.
 function namesFor(command, chosen) {
@@ -250,15 +301,28 @@ function showTabs() {
   byId("tabs").replaceChildren(...tabs, ...(desk.open === "" ? [] : [gone]), name);
 }
 
+// Puts texts and elements in place of what an element has: one by one, since a call takes only so many, and texts side by side as one.
+function fill(to, parts) {
+  const made = document.createDocumentFragment();
+  let text = "";
+  for (const part of parts) {
+    if (typeof part === "string") { text += part; continue; }
+    made.append(text, part);
+    text = "";
+  }
+  made.append(text);
+  to.replaceChildren(made);
+}
+
 // Shows the open file's colours, the numbers of its lines with the answers to questions beside them, and the place that the last run blames.
 function showText() {
   const text = byId("text").value, lines = text.split("\n");
-  const place = desk.place && desk.place.name === desk.open ? desk.place : null;
+  const place = desk.place && desk.place.name === desk.open && !isLong(textOf(desk.open)) ? desk.place : null;
   const isColoured = isJobName(desk.open) && text.length <= COLOURED;
-  byId("colours").replaceChildren(...lines.flatMap((line, index) => [...(isColoured ? colouredLine(line) : [line]),
+  fill(byId("colours"), lines.flatMap((line, index) => [...(isColoured ? colouredLine(line) : [line]),
     ...(place && place.line === index + 1 ? [element("span", { class: "said" }, place.words)] : []), "\n"]));
   const answers = desk.names[0] === desk.open ? desk.answers : new Map();
-  byId("gutter").firstChild.replaceChildren(...lines.flatMap((_, index) => {
+  fill(byId("gutter").firstChild, lines.flatMap((_, index) => {
     const answer = answers.get(index + 1);
     return [...(answer ? [element("span", { class: SHADES[answer] }, `${answer} `)] : []), `${index + 1}\n`];
   }));
@@ -278,9 +342,11 @@ function follow() {
 }
 
 function openFile(name) {
+  const text = textOf(name), isHidden = isLong(text);
   desk.open = name;
-  byId("text").value = textOf(name);
-  byId("text").disabled = name === "";
+  byId("text").value = isHidden ? "" : text;
+  byId("text").disabled = name === "" || isHidden;
+  byId("text").placeholder = isHidden ? `This file has ${text.length.toLocaleString("en")} characters, which is too long to be shown here. It runs as it is.` : "";
   const fits = COMMANDS[byId("command").value].takes;
   if (fits.length === 1 && fits[0](name) && desk.names[0] !== name) { desk.names = [name]; runSoon(0); }
   showTaken();
@@ -293,6 +359,7 @@ function goToPlace() {
   const { place } = desk;
   if (!place || !desk.files.has(place.name)) return;
   openFile(place.name);
+  if (byId("text").disabled) return;
   const lines = byId("text").value.split("\n").slice(0, place.line), last = lines.pop();
   const at = lines.reduce((sum, line) => sum + line.length + 1, 0) + charactersBefore(last, place.column);
   byId("text").setSelectionRange(at, at);
@@ -318,34 +385,48 @@ function runSoon(pause = PAUSE) {
   clearTimeout(desk.timer);
   desk.runs += 1;
   document.body.dataset.ran = "no";
-  desk.timer = setTimeout(runNow, pause);
+  desk.timer = setTimeout(() => runNow(), pause);
 }
 
-async function runNow() {
+// `isAsked` says that the button began the run.
+async function runNow(isAsked = false) {
   clearTimeout(desk.timer);
-  desk.engine.stop();
+  desk.engine.stop(new Stopped());
   desk.runs += 1;
   const run = desk.runs, command = byId("command").value, started = performance.now();
+  const seconds = () => (performance.now() - started) / 1000;
   document.body.dataset.ran = "no";
   byId("run").textContent = "stop";
-  const call = async (words, more = []) => {
-    byId("ran").textContent = `${words.join(" ")} ..`;
+  let words = [];
+  const tell = () => { byId("ran").textContent = `${words.join(" ")} .. ${seconds() < 1 ? "" : `${Math.floor(seconds())} s`}`; };
+  const clock = setInterval(() => {
+    if (run === desk.runs) tell();
+    if (run !== desk.runs || isAsked || seconds() <= desk.seconds) return;
+    desk.engine.stop(new Stopped(`the run was ended after ${desk.seconds} seconds: one that the button begins goes on until it is stopped`));
+  }, 200);
+  const call = async (asked, more = []) => {
+    words = asked;
+    tell();
     const end = await desk.engine.run(words, new Map([...desk.files, ...more]));
     if (run !== desk.runs) throw new Stopped();
-    return { ...end, words };
+    return { ...end, words: asked };
   };
   try {
     const seen = await COMMANDS[command].plan(call, { names: [...desk.names], options: optionWords(), textOf });
     if (run !== desk.runs) return;
     showRun(seen);
-    byId("ran").textContent = `${seen.ends.map(({ words }) => words.join(" ")).join("; ")}: ${((performance.now() - started) / 1000).toFixed(1)} s`;
+    byId("ran").textContent = `${seen.ends.map((end) => end.words.join(" ")).join("; ")}: ${seconds().toFixed(1)} s`;
   } catch (error) {
     if (run !== desk.runs) return;
-    showRefusal([{ status: 1, error: error instanceof Stopped ? "the run was stopped" : error.message }]);
+    showRefusal([{ status: null, error: error.message }]);
     showText();
+  } finally {
+    clearInterval(clock);
+    if (run === desk.runs) {
+      byId("run").textContent = "run";
+      document.body.dataset.ran = "yes";
+    }
   }
-  byId("run").textContent = "run";
-  document.body.dataset.ran = "yes";
 }
 
 // Shows what a plan gave: what standard error says, at its place, and the files that were written, where the command wrote them.
@@ -384,12 +465,19 @@ function takeExample(value) {
 
 // Files that are dropped: what symnet wrote is shown, with what is dropped beside it; others come onto the desk.
 async function takeOntoDesk(files) {
-  const texts = await textsOf(files);
+  const texts = await Promise.all([...files].map(async (file) => [file.name, textOfBytes(new Uint8Array(await file.arrayBuffer()))]));
   if (texts.some(([name, text]) => isWritten(name, text))) showOnly(texts);
   else addFiles(texts);
 }
 
+// Says that the page itself failed, which nothing else would show.
+function showFault(error) {
+  complain(`This page has a fault, and what it shows may be of an earlier run: ${error && error.message ? error.message : error}`);
+}
+
 function beginDesk() {
+  addEventListener("error", (event) => showFault(event.error || event.message));
+  addEventListener("unhandledrejection", (event) => showFault(event.reason));
   document.body.classList.add("desk");
   document.querySelector("h1").textContent = "SymNet";
   byId("message").after(element("section", { id: "desk" }));
@@ -404,7 +492,7 @@ function beginDesk() {
   byId("options").addEventListener("input", () => runSoon());
   byId("text").addEventListener("input", () => { desk.files.set(desk.open, byId("text").value); showText(); runSoon(); });
   byId("text").addEventListener("scroll", follow);
-  byId("run").addEventListener("click", () => { if (byId("run").textContent === "stop") { desk.engine.stop(); } else runNow(); });
+  byId("run").addEventListener("click", () => { if (byId("run").textContent === "stop") { desk.engine.stop(new Stopped()); } else runNow(true); });
   byId("refusal").addEventListener("click", goToPlace);
   takeDropped = takeOntoDesk;
   takeExample(byId("example").value);

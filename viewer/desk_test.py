@@ -1,14 +1,17 @@
-"""Tests of the desk for viewer/test: all worked rows through the engine in node; the page in Chromium, with the engine inside and behind tools/serve,
-where a job is typed, run, broken and mended; and what the server refuses."""
+"""Tests of the desk for viewer/test: all worked rows through the engine in node, with inputs that are none, and little memory; the page in Chromium,
+with the engine inside and behind tools/serve, where a job is typed, run, broken and mended, and given inputs that are none; and what the server refuses."""
 
+import base64
 import contextlib
 import http.client
+import http.server
 import importlib.machinery
 import importlib.util
 import json
 import shutil
 import subprocess
 import threading
+from functools import partial
 
 from browser import Browser, PageError
 from checkout import PROGRAM, TOP
@@ -35,36 +38,90 @@ def script(name, file):
 # ---- rows in node
 
 
+DEEP = 1_000_000
+# Inputs that are none: empty, cut off, nested deep, no text, with numbers of any size. Of each the status, its name, and its words, of which "a" is the file.
+BAD = (
+    (7, "an empty job", b"", "explore a"), (7, "a job that is cut off", JOB[:JOB.index("dead") + 2].encode(), "explore a"), (7, "half of a job", JOB[:len(JOB) // 2].encode(), "ask a"),
+    (7, "a million open brackets", f"{JOB[:JOB.index('head')]}{'not [' * DEEP}".encode(), "explore a"), (7, "a million blocks", b"symnet 2; node a 1 -> 1 { in 0 { " + b"if 1 == 1 { " * DEEP, "loops a"),
+    (7, "no text", bytes(it * 89 & 255 for it in range(DEEP)), "explore a"), (7, "bytes that are no UTF-8", JOB.replace("dead", "t\udcf4t").encode(errors="surrogateescape"), "explore a"),
+    (7, "zeros", b"\0" * DEEP, "explore a"), (7, "a million lines", b"\n" * DEEP, "explore a"), (7, "a huge number", JOB.replace("112", "9" * DEEP).encode(), "explore a"),
+    (7, "a huge width", JOB.replace("64:8", "64:4294967297").encode(), "explore a"), (7, "a long name", JOB.replace("node r", f"node {'r' * DEEP}").encode(), "explore a"),
+    (2, "huge hops", JOB.encode(), f"explore a --hops {'9' * 60}"), (6, "a file that is too large", b" " * (1 + (64 << 20)), "explore a"),
+    (10, "a list that is cut off", b"permit any 0.0.0.0/0", "rules a"), (10, "a list of no text", b"\xff\xfe", "rules a"), (10, "a huge port", b"permit any 0.0.0.0/0 0.0.0.0/0 any " + b"9" * DEEP, "rules a"),
+)
+
+
+def rows():
+    """Each worked row that needs no failing outside, each input that is none, and a job that is cut off at each byte, as viewer/engine_rows.js takes them:
+    name, words, files, statuses, the line of standard error and the output, or None for any."""
+    for table in row_tables.names():
+        for row in (it for it in row_tables.read(table).values() if not it.is_staged):
+            yield f"{table}: {row.name}", row.words, row.files, [row.status], row.error, row.output
+    for status, name, text, words in BAD:
+        yield name, words.split(), {"a": text}, [status], None, b""
+    for size in range(len(JOB)):
+        yield f"the first {size} bytes of a job", ["explore", "a"], {"a": JOB[:size].encode()}, [0, 7, 9], None, None
+
+
 def give_rows(to):
-    """Writes each worked row that needs no failing outside as viewer/engine_rows.js reads it, and returns how many there are."""
-    count = 0
+    """Writes the rows as viewer/engine_rows.js reads them, and returns how many there are, and how many of these are worked rows."""
+    count = worked = 0
     with contextlib.suppress(BrokenPipeError), to:
-        for table in row_tables.names():
-            for row in (it for it in row_tables.read(table).values() if not it.is_staged):
-                told = {"name": f"{table}: {row.name}", "words": row.words, "files": [[name, len(text)] for name, text in row.files.items()],
-                        "status": row.status, "error": row.error, "output": len(row.output)}
-                text = json.dumps(told).encode()
-                for part in (b"%010d" % len(text), text, *row.files.values(), row.output):
-                    to.write(part)
-                count += 1
-    return count
+        for name, words, files, statuses, error, output in rows():
+            told = {"name": name, "words": words, "files": [[name, len(text)] for name, text in files.items()],
+                    "statuses": statuses, "error": error, "output": None if output is None else len(output)}
+            text = json.dumps(told).encode()
+            for part in (b"%010d" % len(text), text, *files.values(), output or b""):
+                to.write(part)
+            count += 1
+            worked += error is not None
+    return count, worked
+
+
+# Whether WebAssembly has a 64-bit memory, asked of a module that has one and nothing else.
+KNOWS = "WebAssembly.validate(Uint8Array.of(0, 97, 115, 109, 1, 0, 0, 0, 5, 3, 1, 4, 1))"
+
+
+def node_words():
+    """The words that call node with a 64-bit memory, which some versions know behind a flag; or why there are none."""
+    node = shutil.which("node")
+    if node is None:
+        return None, "which is not installed"
+    for flags in ([], ["--experimental-wasm-memory64"]):
+        if subprocess.run([node, *flags, "-e", f"process.exit({KNOWS} ? 0 : 1)"], stdout=subprocess.DEVNULL, stderr=subprocess.DEVNULL, check=False).returncode == 0:
+            return [node, *flags], ""
+    return None, "which knows no 64-bit memory here"
+
+
+def in_node(node, name, *words):
+    """Starts a script of viewer/ in node."""
+    return subprocess.Popen([*node, str(TOP / "viewer" / name), *map(str, words)], stdin=subprocess.PIPE, stdout=subprocess.PIPE, stderr=subprocess.STDOUT)
 
 
 def test_rows(expect, module, node):
-    """Each worked row ends in the engine as wanted."""
-    words = [node, "--experimental-wasm-memory64", str(TOP / "viewer/engine_rows.js"), str(module)]
-    ran = subprocess.Popen(words, stdin=subprocess.PIPE, stdout=subprocess.PIPE, stderr=subprocess.STDOUT)
+    """Each row ends in the engine as wanted."""
+    ran = in_node(node, "engine_rows.js", module)
     said = []
     reader = threading.Thread(target=lambda: said.append(ran.stdout.read().decode(errors="replace")))
     reader.start()
-    count = give_rows(ran.stdin)
+    count, worked = give_rows(ran.stdin)
     reader.join()
     ran.wait()
     *others, last = said[0].rstrip("\n").split("\n")
     for line in others[:20]:
         expect("a row in the engine", line, "")
     expect("rows in the engine", last, f"{count} of {count} rows")
-    print(f"viewer: the engine in node: {last}")
+    print(f"viewer: the engine in node: {last}, {worked} of them worked rows")
+
+
+def test_faults(expect, module, node):
+    """What comes of a module that breaks off, and of little memory."""
+    *others, last = in_node(node, "engine_faults.js", module, TOP / "examples/fabric/fabric.sefl").communicate()[0].decode(errors="replace").rstrip("\n").split("\n")
+    for line in others[:20]:
+        expect("a run in node", line, "")
+    count = last.split()[0]
+    expect("runs with little memory, and of broken modules", last, f"{count} of {count} runs")
+    print(f"viewer: the engine in node, with little memory, and broken: {last}")
 
 
 # ---- the page in Chromium
@@ -107,6 +164,60 @@ def test_typing(expect, page, name):
     expect(f"{name}: its line is blamed", page.value("[byId('caret') && byId('caret').dataset.line, desk.open, byId('refusal').textContent.split('\\n')[0]]"), ["2", "t.fib", "symnet: bad table t.fib:2 1"])
 
 
+def run_of(page, expression):
+    """Evaluates an expression that begins a run, waits for its end, and returns the first line of what is said of it."""
+    page.value(f"(() => {{ document.body.dataset.ran = 'no'; {expression}; }})()")
+    return page.until("document.body.dataset.ran === 'yes'") and page.value("byId('refusal').textContent.split('\\n')[0]")
+
+
+def test_bad_inputs(expect, page, name):
+    """Inputs that are none are refused by their status as in the program, the page is at work all the while, and the next run is right."""
+    kinds = {2: "symnet: usage", 6: "symnet: too big", 7: "symnet: syntax ", 10: "symnet: bad table "}
+    for status, what, text, words in (it for it in BAD if it[3].split()[0] in ("explore", "rules") and len(it[2]) < 16 << 20):
+        command, file, *options = words.split()
+        ending = "acl" if command == "rules" else "sefl"
+        page.value("desk.files.clear()")
+        page.value(f"byId('options').value = {json.dumps(' '.join(options))}")
+        dropped = f"takeOntoDesk([new File([Uint8Array.from(atob('{base64.b64encode(text).decode()}'), (sign) => sign.charCodeAt(0))], 'bad.{ending}')])"
+        found = run_of(page, dropped)
+        expect(f"{name}: {what}: {found}", bool(found) and found.startswith(kinds[status]), True)
+        expect(f"{name}: {what}: a fault of the page", page.value("byId('message').textContent"), "")
+    page.value("byId('options').value = ''")
+    expect(f"{name}: a file that is too long to be shown", page.value("desk.files.clear()") or run_of(page, f"addFiles([['long.sefl', {json.dumps(JOB)} + ' '.repeat(400000)]])"), "")
+    expect(f"{name}: its paths", page.value("[byId('text').disabled, byId('text').placeholder.includes('too long'), document.querySelectorAll('.record').length]"), [True, True, 2])
+    page.value("desk.bytes = 100")
+    found = run_of(page, "runSoon(0)")
+    expect(f"{name}: more output than is drawn: {found}", bool(found) and found.startswith("the run was ended, since it wrote more than 100 bytes"), True)
+    page.value("desk.bytes = 128 << 20")
+    expect(f"{name}: a fault of the page", page.value("setTimeout(() => { throw new Error('a trial'); })") and page.until("byId('message').textContent.includes('a trial')"), True)
+    expect(f"{name}: the next run", (page.value("desk.files.clear()") or run_of(page, f"addFiles([['mine.sefl', {json.dumps(JOB)}]])"), page.value("byId('message').textContent")), ("", ""))
+
+
+# The page's own module, in the page.
+MODULE = "new Uint8Array(await new Response(new Blob([Uint8Array.from(atob(byId('engine-module').textContent.trim()), (sign) => sign.charCodeAt(0))]).stream().pipeThrough(new DecompressionStream('gzip'))).arrayBuffer())"
+
+
+def test_broken_engine(expect, page, name):
+    """A module that breaks off, or never ends, or has no memory: each is told in a line, and the next run is right."""
+    page.value((TOP / "viewer/engine_faults.js").read_text().replace('"use strict";', "", 1) + "; window.brokenModule = brokenModule; window.withMemory = withMemory; 0")
+    take = "(async () => { window.whole = window.whole || await desk.engine.module(); desk.engine.compiled = await WebAssembly.compile(%s); })()"
+    begun = "runSoon(0)"
+    for deed, part in (("trap", "to which no proved run comes"), ("deep", "too little stack")):
+        page.value(take % f"brokenModule('{deed}')")
+        found = run_of(page, begun)
+        expect(f"{name}: {deed}: {found}", bool(found) and found.startswith("the engine broke off, and there is no answer: ") and part in found, True)
+    page.value(take % f"withMemory({MODULE}, 0)")
+    expect(f"{name}: no memory", run_of(page, begun), "symnet: out of memory")
+    page.value(take % "brokenModule('endless')")
+    page.value("desk.seconds = 1")
+    expect(f"{name}: a run without an end", run_of(page, begun), "the run was ended after 1 seconds: one that the button begins goes on until it is stopped")
+    page.value("byId('run').click()")
+    expect(f"{name}: one that the button begins", page.until("/ [2-9] s$/.test(byId('ran').textContent)") and page.value("byId('run').textContent"), "stop")
+    expect(f"{name}: it is stopped", run_of(page, "byId('run').click()"), "the run was stopped")
+    page.value("(() => { desk.seconds = 60; desk.engine.compiled = window.whole; })()")
+    expect(f"{name}: the whole engine again", run_of(page, begun), "")
+
+
 def test_stop(expect, page, name):
     """A run is stopped, and the next one goes on as if there had been none."""
     page.value("(() => { byId('example').value = [...byId('example').options].find((it) => it.text.startsWith('ask fabric')).value; byId('example').dispatchEvent(new Event('change')); })()")
@@ -140,8 +251,35 @@ def test_desk(expect, page, name, unproved):
             expect(f"{name}: the walks of the packet in both networks", page.value("[...document.querySelectorAll('#both .side > p')].map((it) => it.textContent)"),
                    ['fail "partner" (item 17) at in filter.0', "delivered at out filter.0"])
     test_typing(expect, page, name)
+    test_bad_inputs(expect, page, name)
+    if page.value("DESK.engine") == "module":
+        test_broken_engine(expect, page, name)
     test_stop(expect, page, name)
     test_drop(expect, page, name)
+
+
+@contextlib.contextmanager
+def handed_out(folder):
+    """The address of a server on this machine alone, with the files of a folder."""
+    class Quiet(http.server.SimpleHTTPRequestHandler):
+        def log_message(self, *_):
+            pass
+
+    made = http.server.ThreadingHTTPServer(("127.0.0.1", 0), partial(Quiet, directory=str(folder)))
+    threading.Thread(target=made.serve_forever, daemon=True).start()
+    try:
+        yield f"http://127.0.0.1:{made.server_address[1]}"
+    finally:
+        made.shutdown()
+        made.server_close()
+
+
+def test_handed_out(expect, page):
+    """The page with the engine, as any server hands it out, runs its first example."""
+    with handed_out(OUT) as address:
+        page.open(f"{address}/tested.html")
+        expect("the page by http: the first example", page.until("location.protocol === 'http:' && document.body && document.body.dataset.ran === 'yes'"), True)
+        expect("the page by http: its paths", page.value("[document.querySelectorAll('.record').length > 0, byId('refusal').textContent]"), [True, ""])
 
 
 def test_pages(expect, browser, pages):
@@ -149,9 +287,14 @@ def test_pages(expect, browser, pages):
     page = Browser(browser)
     try:
         for name, address, unproved in pages:
+            if address.startswith("file:") and not page.value(KNOWS):
+                print("viewer: the page with the engine is not tested, since this Chromium knows no 64-bit memory")
+                continue
             page.open(address)
             try:
                 test_desk(expect, page, name, unproved)
+                if address.startswith("file:"):
+                    test_handed_out(expect, page)
             except PageError as error:
                 expect(name, f"{error}", "no error")
     finally:
@@ -204,13 +347,14 @@ def served():
 def test(expect, browser):
     """All of this, as far as engine, node, Chromium and the built program are there; a line says what is not."""
     build = script("viewer_build", TOP / "viewer/build")
-    engine, node, pages = build.engine(), shutil.which("node"), []
+    engine, (node, reason), pages = build.engine(), node_words(), []
     if engine is None:
         print("viewer: the engine is not tested, since viewer/build has not made it of these sources")
     elif node is None:
-        print("viewer: the engine is not tested in node, which is not installed")
+        print(f"viewer: the engine is not tested in node, {reason}")
     else:
         test_rows(expect, OUT / "symnet.wasm", node)
+        test_faults(expect, OUT / "symnet.wasm", node)
     if engine is not None:
         (OUT / "tested.html").write_text(build.page_of(*engine))
         pages.append(("the page with the engine", f"file://{OUT}/tested.html", "proved"))

@@ -6,11 +6,14 @@
 const ABSENT = 2, BAD_NUMBER = 9, DENIED = 13, TOO_MANY_OPEN = 24; // numbers of errors, as Linux has them
 const OPEN_LIMIT = 1024;
 
-// The functions that the module calls; addresses and sizes are BigInts. `memory` gives the module's memory, once it is there.
-function outsideOf(words, files, written, memory) {
+class TooMuch extends Error {}
+
+// The functions that the module calls; addresses and sizes are BigInts. `memory` gives the module's memory, once it is there. A run that writes more than
+// `most` bytes is ended by a TooMuch.
+function outsideOf(words, files, written, most, memory) {
   const given = ["symnet", ...words].map((word) => new TextEncoder().encode(word));
   const opened = new Map();
-  let error = 0;
+  let error = 0, room = most;
   const bytesAt = (at, count) => new Uint8Array(memory().buffer, Number(at), Number(count));
   const fails = (number) => { error = number; return -1; };
   const textAt = (at) => {
@@ -51,6 +54,8 @@ function outsideOf(words, files, written, memory) {
     },
     write(number, at, count) {
       if (written[number] === undefined) return BigInt(fails(BAD_NUMBER));
+      room -= Number(count);
+      if (room < 0) throw new TooMuch();
       written[number].push(bytesAt(at, count).slice());
       return count;
     },
@@ -65,19 +70,27 @@ function joined(parts) {
   return whole;
 }
 
+// What is said where the browser ends a run. No proof speaks of its stack and its memory.
+function brokenOff(error) {
+  const why = error instanceof RangeError ? "the browser gave it too little stack or memory"
+    : error instanceof WebAssembly.RuntimeError ? "its own stack was too small, or it came to a place to which no proved run comes" : "the browser refused it";
+  return `the engine broke off, and there is no answer: ${why} (${error.message})\n`;
+}
+
 // Runs the program once, in a new instance of the module: the words behind `symnet`, and a Map of files by name. Returns the exit status, and the
-// bytes of standard output and of standard error. The status is null where the browser ended the run, for want of stack, say.
-function runEngine(module, words, files) {
+// bytes of standard output and of standard error. The status is null where the engine broke off, or where the run wrote too much.
+function runEngine(module, words, files, most = Infinity) {
   const written = { 1: [], 2: [] };
-  let exports = null, status = null;
-  const outside = outsideOf(words, files, written, () => exports.memory);
+  let exports = null, status = null, isTooMuch = false;
+  const outside = outsideOf(words, files, written, most, () => exports.memory);
   try {
     exports = new WebAssembly.Instance(module, { env: outside }).exports;
     status = exports.main(0, 0n);
   } catch (error) {
-    written[2].push(new TextEncoder().encode(`the engine broke off: ${error.message}\n`));
+    isTooMuch = error instanceof TooMuch;
+    written[2].push(new TextEncoder().encode(isTooMuch ? "the run wrote too much\n" : brokenOff(error)));
   }
-  return { status, output: joined(written[1]), error: joined(written[2]) };
+  return { status, isTooMuch, output: joined(written[1]), error: joined(written[2]) };
 }
 
 if (typeof module === "object") module.exports = { runEngine };

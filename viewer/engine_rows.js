@@ -5,8 +5,8 @@
 //     node --experimental-wasm-memory64 viewer/engine_rows.js MODULE
 //
 // Standard input has for each row the size of a text of JSON in ten digits, and that text: the row's name, its words, the names and sizes of its files,
-// its status, the first line of standard error and the size of its output. Then come the bytes of the files and of the output. Prints a line for each row
-// that ends otherwise, and last `N of M rows`.
+// the statuses that it may end with, the first line of standard error or null where any will do, and the size of its output, or null. Then come the bytes
+// of the files and of the output. Prints a line for each row that ends otherwise, and last `N of M rows`.
 
 const fs = require("fs");
 const { runEngine } = require("./engine.js");
@@ -29,7 +29,7 @@ function nextRow() {
   if (size.length < 10) return null;
   const row = JSON.parse(bytes(Number(size)).toString("utf8"));
   row.files = new Map(row.files.map(([name, count]) => [name, new Uint8Array(bytes(count))]));
-  row.output = bytes(row.output);
+  row.output = row.output === null ? null : bytes(row.output);
   return row;
 }
 
@@ -39,8 +39,8 @@ for (let row = nextRow(); row !== null; row = nextRow()) {
   count += 1;
   const came = runEngine(engine, row.words, row.files);
   const error = Buffer.from(came.error).toString("utf8").split("\n", 1)[0];
-  const isSame = Buffer.from(came.output).equals(row.output);
-  if (came.status === row.status && error === row.error && isSame) right += 1;
-  else console.log(`${row.name}: status ${came.status} (wanted ${row.status}), ${JSON.stringify(error)} (wanted ${JSON.stringify(row.error)}), output ${isSame ? "as wanted" : "otherwise"}`);
+  const isSame = row.output === null || Buffer.from(came.output).equals(row.output);
+  if (row.statuses.includes(came.status) && (row.error === null || error === row.error) && isSame) { right += 1; continue; }
+  console.log(`${row.name}: status ${came.status} (wanted ${row.statuses.join(" or ")}), ${JSON.stringify(error)} (wanted ${JSON.stringify(row.error)}), output ${isSame ? "as wanted" : "otherwise"}`);
 }
 console.log(`${right} of ${count} rows`);

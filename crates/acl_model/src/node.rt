@@ -25,8 +25,7 @@ fn range_test(alloc: Global, field: Field, range: (u32, u32)) -> Result<Cond, No
     ensures { IfOk result (λ test. cond_tree test ≡ range_test field range) }
 {
     let value = Expr::Read(cell(alloc, field)?);
-    let mut ranges = Vec::new(alloc);
-    ranges.push((Num::from(range.0), Num::from(range.1)))?;
+    let ranges = vec![in alloc; (Num::from(range.0), Num::from(range.1))]?;
     Cond::member(alloc, value, ranges)
 }
 
@@ -42,7 +41,7 @@ fn add_test(tests: &mut Vec<Cond>, test: Cond) -> Result<(), NoMemory>
 fn rule_test(alloc: Global, rule: &Rule) -> Result<Cond, NoMemory>
     ensures { IfOk result (λ test. cond_tree test ≡ rule_test rule.now) }
 {
-    let mut tests = Vec::new(alloc);
+    let mut tests = Vec::with_capacity(alloc, FIELDS.len())?;
     for index in 0..5 {
         add_test(
             &mut tests,

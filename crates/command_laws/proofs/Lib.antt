@@ -1,2 +1,3 @@
 pub mod Confirmed
+pub mod Alike
 pub mod Followed

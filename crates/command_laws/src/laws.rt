@@ -15,6 +15,7 @@ ghost use Rattle.replay_command.specs.Replays.{ReplayOf};
 ghost use Rattle.command_laws.specs.Following.{HitsAreFollowed, PathsAreFollowed};
 
 use explore_command::laws::reports_are_read_back;
+use one_list::laws::{alike_records_tell_the_same, exact_records_are_one};
 use path_replay::laws::one_answer_for_a_net;
 
 /// What `explore` wrote of a job with its refuted sides, whole or partial, `replay` of that job confirms: it comes to the counts
@@ -26,6 +27,24 @@ pub fn replays_confirm_what_explore_wrote()
 {
     reports_are_read_back();
     one_answer_for_a_net();
+}
+
+/// Two reports that `explore` wrote of one job with its refuted sides, by the same hops and limit, have the same counts: `replay` of
+/// that job comes to one text of both.
+pub fn replays_of_one_job_count_alike()
+    ensures counts { (hops limit : ℕ) (net : Network) (i : Entry) (one other : EndingOf) (whole line : List ℕ)
+        → (report : IsReport hops limit Written net i one whole)
+        → (again : IsReport hops limit Written net i other line)
+        → counts_of (record_trees report.records) ≡ counts_of (record_trees again.records) }
+    ensures replays { (hops limit : ℕ) (net : Network) (i : Entry) (one other : EndingOf) (whole line : List ℕ)
+        (a b : Outcome)
+        → MayBeShown hops limit → IsReport hops limit Written net i one whole
+        → IsReport hops limit Written net i other line
+        → ReplayOf net i whole a → ReplayOf net i line b → a ≡ b }
+{
+    replays_confirm_what_explore_wrote();
+    alike_records_tell_the_same();
+    exact_records_are_one();
 }
 
 /// What `walk` writes of the packet that a path carries has a walk along that path, with the same hops.

@@ -113,6 +113,12 @@ const APART: Atom = Compare(Symbol(0), Rel::Ne, Symbol(1));
 /// `x < y`.
 const LESS: Atom = Compare(Symbol(0), Rel::Lt, Symbol(1));
 
+/// `x <= y`.
+const AT_MOST: Atom = Compare(Symbol(0), Rel::Le, Symbol(1));
+
+/// `y < z`.
+const SECOND_LESS: Atom = Compare(Symbol(1), Rel::Lt, Symbol(2));
+
 /// `x == y`.
 const EQUAL: Atom = Compare(Symbol(0), Rel::Eq, Symbol(1));
 
@@ -147,6 +153,47 @@ const ORDERS: &[Row] = &[
         symbols: 2,
         atoms: &[LOW, APART, Compare(Symbol(0), Rel::Gt, Number(2))],
         decision: Met(&[3, 0]),
+    },
+    // orders in a row, met by raising each symbol past the one before
+    Row {
+        bits: 32,
+        symbols: 3,
+        atoms: &[SECOND_LESS, LESS],
+        decision: Met(&[0, 1, 2]),
+    },
+    // a circle whose bounds sum to zero
+    Row {
+        bits: 32,
+        symbols: 2,
+        atoms: &[AT_MOST, Compare(Symbol(1), Rel::Le, Symbol(0))],
+        decision: Met(&[0, 0]),
+    },
+    // a circle below zero, behind a symbol that is not in it
+    Row {
+        bits: 32,
+        symbols: 3,
+        atoms: &[SECOND_LESS, AT_MOST, Compare(Symbol(2), Rel::Le, Symbol(1))],
+        decision: Refuted,
+    },
+    // from a least value to a greatest one
+    Row {
+        bits: 8,
+        symbols: 3,
+        atoms: &[SECOND_LESS, LESS, Compare(Symbol(2), Rel::Le, Number(1))],
+        decision: Refuted,
+    },
+    Row {
+        bits: 8,
+        symbols: 2,
+        atoms: &[LESS, Compare(Symbol(0), Rel::Ge, Number(255))],
+        decision: Refuted,
+    },
+    // a value that is left out
+    Row {
+        bits: 8,
+        symbols: 2,
+        atoms: &[LESS, Compare(Symbol(1), Rel::Ne, Number(1))],
+        decision: Met(&[0, 2]),
     },
     // sums wrap
     Row {

@@ -1,5 +1,7 @@
+pub mod Circles
 pub mod Gathered
 pub mod Limits
+pub mod Rising
 pub mod Solutions
 pub mod Steps
 pub mod Sums

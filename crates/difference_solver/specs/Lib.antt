@@ -4,6 +4,7 @@ pub mod Elimination
 pub mod Gather
 pub mod Given
 pub mod Kept
+pub mod Raising
 pub mod Table
 pub mod Values
 pub mod Verdict

@@ -6,7 +6,8 @@ ghost use Rattle.regex_patterns.specs.Found.{refusals_after};
 use crate::disk::{Disk, Fault, Sevens};
 use regex_patterns::RegexPatterns;
 use sn_edge::{
-    DirFolder, Folder, Found, Loaded, MemFolder, MemPatterns, MemSink, OutSink, Patterns, Put, Sink,
+    DirFolder, Folder, Found, Loaded, MemFolder, MemPatterns, MemSink, OutSink, Patterns, Printed,
+    Put, Sink,
 };
 use std::alloc::Global;
 use std::cell::RefCell;
@@ -304,7 +305,7 @@ fn out_sink_writes_the_whole_piece_or_fails(rt: HostRuntime) {
     let output = Narrow {
         bytes: RefCell::new(Vec::new(rt.alloc())),
     };
-    let mut sink = OutSink::new(&output);
+    let mut sink = OutSink::new(Printed::new(&output));
     for (piece, answer) in [
         (b"abc".as_slice(), Put::All),
         (b"", Put::All),
@@ -315,5 +316,10 @@ fn out_sink_writes_the_whole_piece_or_fails(rt: HostRuntime) {
     }
     let bytes = output.bytes.into_inner();
     same(&rt, bytes.as_slice(), b"abcde");
-    check_put(&rt, &mut OutSink::new(&rt), b"sn_edge\n", Put::All);
+    check_put(
+        &rt,
+        &mut OutSink::new(Printed::new(&rt)),
+        b"sn_edge\n",
+        Put::All,
+    );
 }

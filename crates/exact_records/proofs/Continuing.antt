@@ -12,7 +12,7 @@ use Rattle.sefl_meaning.specs.Routes.{Splits}
 use Rattle.sefl_meaning.specs.Order.{BeginsWith, Parts}
 use Rattle.exact_records.specs.Below.{Facts}
 use Rattle.exact_records.specs.Records.{RecordTree, SymStart, Takes, decisions_of, pruned}
-use Rattle.exact_records.specs.Exact.{AreExact, AreExactUpTo, ExactlyOne, IsCutOff, IsGood, IsTried, IsUpTo, IsWhole, RecordsAscend, SomeOne}
+use Rattle.exact_records.specs.Exact.{AreExact, AreExactUpTo, ExactlyOne, IsCutOff, IsGood, IsTried, IsUpTo, IsWhole, IsWithin, RecordsAscend, SomeOne}
 use Rattle.exact_records.specs.Shapes.{BeginsTried, Continues, CoverAll, CoverCopies, Covers, Joined, Piece, SideOf}
 use Rattle.exact_records.specs.Spots.{node_of}
 use Rattle.exact_records.proofs.Lists.{append_nil, all_first, all_weaker, one_of_first, some_first, some_later, some_either}
@@ -168,9 +168,9 @@ module _ (facts : Facts) (s : SymStart) where
   side_shown rs h v ds t = side_once [] ds rs _ (λ m. covers_once s.tree [] rs m ds t.way t.progress t.end' t.leads t.ended) h
 
   -- records that are done, with others behind them that stand for what is left
-  so_far : (done : List RecordTree) (last : RecordTree) (rest : List RecordTree) → Splits s.tree → SideOf s.tree [] ((done ++ last ∷ []) ++ rest)
-      → AllByRecursion (IsGood s) (done ++ last ∷ []) → AreExactUpTo s done last
-  so_far done last rest spl h good =
+  so_far : (limit : ℕ) (done : List RecordTree) (last : RecordTree) (rest : List RecordTree) → Splits s.tree → SideOf s.tree [] ((done ++ last ∷ []) ++ rest)
+      → AllByRecursion (IsGood s) (done ++ last ∷ []) → IsWithin limit (done ++ last ∷ []) → AreExactUpTo s limit done last
+  so_far limit done last rest spl h good within' =
       let order = side_of_ascends s.tree [] ((done ++ last ∷ []) ++ rest) h in
       let after = comes_after done last rest order in
       record {
@@ -185,14 +185,15 @@ module _ (facts : Facts) (s : SymStart) where
               | inl k ↦ k
               | inr k ↦ some_later _ done (last ∷ []) (inl (among last rest (p ++ d ∷ []) within k after))
             ];
+        within = within';
       }
 
   -- at each moment
   pub exact_so_far : (limit : ℕ) (done : List RecordTree) (last : RecordTree) (left : List (Piece LinearTerm FormulaTree)) → Splits s.tree → Continues s.tree limit (done ++ last ∷ []) left
-      → AllByRecursion (IsGood s) (done ++ last ∷ []) → AreExactUpTo s done last
-  exact_so_far limit done last left spl h good =
+      → AllByRecursion (IsGood s) (done ++ last ∷ []) → IsWithin limit (done ++ last ∷ []) → AreExactUpTo s limit done last
+  exact_so_far limit done last left spl h good within =
       let k = can_go_on s.tree limit (done ++ last ∷ []) left h in
-      so_far done last k.0 spl k.1 good
+      so_far limit done last k.0 spl k.1 good within
 
   -- the last record comes before the next piece
   pub exact_apart : (limit : ℕ) (done : List RecordTree) (last : RecordTree) (piece : Piece LinearTerm FormulaTree) (left : List (Piece LinearTerm FormulaTree))

@@ -14,10 +14,10 @@ use Rattle.exact_records.proofs.Continuing.{exact_apart, exact_so_far, exact_who
 use Rattle.exact_records.proofs.Cutting.{exact_cut}
 
 module _ (facts : Facts) (s : SymStart) (copies : Splits s.tree) where
-  up_to : (limit : ℕ) (done : List RecordTree) (last : RecordTree) (tasks : List Task) → Stands s limit (done ++ last ∷ []) tasks → AreExactUpTo s done last
-  up_to limit done last tasks h = exact_so_far facts s limit done last (pieces_of tasks) copies h.continues h.good
+  up_to : (limit : ℕ) (done : List RecordTree) (last : RecordTree) (tasks : List Task) → Stands s limit (done ++ last ∷ []) tasks → AreExactUpTo s limit done last
+  up_to limit done last tasks h = exact_so_far facts s limit done last (pieces_of tasks) copies h.continues h.good h.within
 
-  so_far : (limit : ℕ) (done : List RecordTree) (tasks : List Task) → Stands s limit done tasks → AreExactSoFar s done
+  so_far : (limit : ℕ) (done : List RecordTree) (tasks : List Task) → Stands s limit done tasks → AreExactSoFar s limit done
   so_far limit done tasks h = record {
     is = elim (last_of done) [
       | inl e ↦ inl e

@@ -8,6 +8,7 @@ pub mod Steps
 pub mod Shown
 pub mod Continuing
 pub mod Cutting
+pub mod Within
 pub mod Standing
 pub mod Ending
 pub mod Packets

@@ -348,9 +348,9 @@ module _ (facts : Facts) (means : Meanings) (net : Network) (i : Entry) (hops : 
     refuted = none_taken facts means net i hops start explored rs h.good;
   }
 
-  exact_up_to : (start : SymStart) (done : List RecordTree) (last : RecordTree) → IsExplored net i hops start → AreExactUpTo start done last
-      → AreExactUpToFor net i hops done last
-  exact_up_to start done last explored h = record {
+  exact_up_to : (start : SymStart) (limit : ℕ) (done : List RecordTree) (last : RecordTree) → IsExplored net i hops start
+      → AreExactUpTo start limit done last → AreExactUpToFor net i hops limit done last
+  exact_up_to start limit done last explored h = record {
     start = start;
     explored = explored;
     exact = h;
@@ -361,11 +361,12 @@ module _ (facts : Facts) (means : Meanings) (net : Network) (i : Entry) (hops : 
     refuted = none_taken facts means net i hops start explored (done ++ last ∷ []) h.good;
   }
 
-  exact_so_far : (start : SymStart) (rs : List RecordTree) → IsExplored net i hops start → AreExactSoFar start rs → AreExactSoFarFor net i hops rs
-  exact_so_far start rs explored h = record {
+  exact_so_far : (start : SymStart) (limit : ℕ) (rs : List RecordTree) → IsExplored net i hops start → AreExactSoFar start limit rs
+      → AreExactSoFarFor net i hops limit rs
+  exact_so_far start limit rs explored h = record {
     is = elim h.is [
       | inl e ↦ inl e
-      | inr k ↦ inr (k.0, k.1, k.2, exact_up_to start k.0 k.1 explored k.3)
+      | inr k ↦ inr (k.0, k.1, k.2, exact_up_to start limit k.0 k.1 explored k.3)
     ];
   }
 

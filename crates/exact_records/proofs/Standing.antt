@@ -14,11 +14,12 @@ use Rattle.sefl_meaning.specs.Trees.{over, tests, splits, Copies, no_copies, cop
 use Rattle.sefl_meaning.specs.Fields.{fields_of}
 use Rattle.exact_records.specs.Below.{Facts}
 use Rattle.exact_records.specs.Records.{IsFoundRefuted, IsVerdictOn, RecordTree, SymStart, SymTree, path, pruned, unexplored}
-use Rattle.exact_records.specs.Exact.{IsGood, IsTried, IsUnrefuted}
+use Rattle.exact_records.specs.Exact.{IsGood, IsTried, IsUnrefuted, IsWithin}
 use Rattle.exact_records.specs.Shapes.{Continues, Covers, IsPathAt, SideOf}
 use Rattle.exact_records.specs.Spots.{Arrives, IsBefore, IsKnown, IsPending, Known, Spot, Stands, Task, condition_at, copy_at, copy_tasks, decided, first_spot, node_of, piece_of, pieces_of, side_tasks, to_decide}
 use Rattle.exact_records.specs.Laws.{StepsStand}
 use Rattle.exact_records.proofs.Lists.{all_append}
+use Rattle.exact_records.proofs.Within.{none_within, within_left, within_made}
 use Rattle.exact_records.proofs.Arriving.{IsWaiting, waits_next}
 use Rattle.exact_records.proofs.Judging.{just_known, known_next}
 use Rattle.exact_records.proofs.Steps.{copy_pends, path_is_good, pruned_is_good, side_pends, start_pends, unexplored_is_good}
@@ -29,7 +30,7 @@ module _ (facts : Facts) (s : SymStart) where
   Pending task = IsPending s task.0 task.1
 
   begins : (limit : ℕ) → Stands s limit [] ((first_spot s, to_decide None) ∷ [])
-  begins limit = record { continues = continue_start s.tree limit; good = tt; pending = (start_pends s, tt) }
+  begins limit = record { continues = continue_start s.tree limit; good = tt; pending = (start_pends s, tt); within = none_within limit }
 
   decides : (limit : ℕ) (done : List RecordTree) (a : Spot) (before : Option Verdict) (verdict : Verdict) (rest : List Task)
       → AllTyped itself a.widths (condition_at s a).entries → IsVerdictOn (condition_at s a) verdict
@@ -38,23 +39,27 @@ module _ (facts : Facts) (s : SymStart) where
     continues = h.continues;
     good = h.good;
     pending = (record { at = h.pending.0.at; unrefuted = h.pending.0.unrefuted; found = just_known (condition_at s a) verdict typed is }, h.pending.1);
+    within = h.within;
   }
 
   made : (limit : ℕ) (done : List RecordTree) (a : Spot) (known : Known) (x : RecordTree) (rest : List Task)
-      → SideOf a.tree a.decisions (x ∷ []) → (length done < limit → IsTried x) → IsGood s x → Stands s limit done ((a, known) ∷ rest) → Stands s limit (done ++ x ∷ []) rest
-  made limit done a known x rest side tried good h = record {
+      → SideOf a.tree a.decisions (x ∷ []) → (length done < limit → IsTried x) → IsGood s x → (IsWithin limit done → IsWithin limit (done ++ x ∷ []))
+      → Stands s limit done ((a, known) ∷ rest) → Stands s limit (done ++ x ∷ []) rest
+  made limit done a known x rest side tried good within h = record {
     continues = continue_made s.tree limit done (piece_of a) (pieces_of rest) x side tried h.continues;
     good = all_append _ done (x ∷ []) h.good (good, tt);
     pending = h.pending.1;
+    within = within h.within;
   }
 
   prunes : (limit : ℕ) (done : List RecordTree) (a : Spot) (before written : Option Verdict) (refutation : List Refute) (rest : List Task)
-      → IsBefore s a before written → IsFoundRefuted (condition_at s a) refutation
+      → length done < limit → IsBefore s a before written → IsFoundRefuted (condition_at s a) refutation
       → Stands s limit done ((a, to_decide before) ∷ rest) → Stands s limit (done ++ pruned a.decisions written refutation ∷ []) rest
-  prunes limit done a before written refutation rest is refuted h =
+  prunes limit done a before written refutation rest below is refuted h =
       made limit done a (to_decide before) (pruned a.decisions written refutation) rest
       (inl (record { it = pruned a.decisions written refutation; is = refl; has = refl })) (λ b k. k)
-      (pruned_is_good facts s a before written refutation h.pending.0 is refuted) h
+      (pruned_is_good facts s a before written refutation h.pending.0 is refuted)
+      (within_made limit done (pruned a.decisions written refutation) below (λ k. k)) h
 
   over_covers : (t u : SymTree) (p : Progress LinearTerm) (end' : End) (ds : List Decision) (x : RecordTree) → u ≡ node_of t → u ≡ over p end' → IsPathAt ds x → Covers t ds (x ∷ [])
   over_covers t u p end' ds x e k h =
@@ -64,13 +69,14 @@ module _ (facts : Facts) (s : SymStart) where
   unrefuted_next a b n h = subst (IsUnrefuted s) (sym n.decisions) h
 
   ends : (limit : ℕ) (done : List RecordTree) (a b : Spot) (verdict written : Verdict) (p : Progress LinearTerm) (end' : End) (rest : List Task)
-      → Arrives s a b → b.tree ≡ over p end' → IsVerdictOn (condition_at s b) written
+      → length done < limit → Arrives s a b → b.tree ≡ over p end' → IsVerdictOn (condition_at s b) written
       → Stands s limit done ((a, decided verdict) ∷ rest) → Stands s limit (done ++ path b.decisions b.places end' (fields_of p.state) written ∷ []) rest
-  ends limit done a b verdict written p end' rest n e is h =
+  ends limit done a b verdict written p end' rest below n e is h =
       let x : RecordTree = path b.decisions b.places end' (fields_of p.state) written in
       made limit done a (decided verdict) x rest
       (inr (λ k. k, over_covers a.tree b.tree p end' a.decisions x n.tree e n.decisions)) (λ b k. k)
-      (path_is_good facts s b p end' written (waits_next s a b h.pending.0.at n) e (unrefuted_next a b n h.pending.0.unrefuted) is) h
+      (path_is_good facts s b p end' written (waits_next s a b h.pending.0.at n) e (unrefuted_next a b n h.pending.0.unrefuted) is)
+      (within_made limit done x below (λ k. k)) h
 
   asks : (limit : ℕ) (done : List RecordTree) (a b : Spot) (verdict : Verdict) (asking : Asking) (p : Progress LinearTerm) (test : FormulaTree)
       (held broken : SymTree) (rest : List Task) → length done < limit → Arrives s a b → b.tree ≡ tests asking p test held broken
@@ -85,6 +91,7 @@ module _ (facts : Facts) (s : SymStart) where
             below h.continues;
         good = h.good;
         pending = (side_pends facts s b verdict asking p test held broken true w e un known, (side_pends facts s b verdict asking p test held broken false w e un known, h.pending.1));
+        within = h.within;
       }
 
   copy_pieces : (b : Spot) (verdict : Verdict) (number : ℕ) (branches : Copies LinearTerm FormulaTree) (rest : List Task)
@@ -115,13 +122,15 @@ module _ (facts : Facts) (s : SymStart) where
             below h.continues);
         good = h.good;
         pending = all_append Pending (copy_tasks b verdict 0 branches) rest (copies_pend b verdict p branches 0 branches (λ m t k. subst (λ (i : ℕ). copy_at branches i ≡ Some t) (omega arith) k) w e un known) h.pending.1;
+        within = h.within;
       }
 
   leaves : (limit : ℕ) (done : List RecordTree) (a : Spot) (known : Known) (rest : List Task) → limit ≤ length done
       → Stands s limit done ((a, known) ∷ rest) → Stands s limit (done ++ unexplored a.decisions ∷ []) rest
   leaves limit done a known rest above h =
       made limit done a known (unexplored a.decisions) rest (inl (record { it = unexplored a.decisions; is = refl; has = refl })) (λ b. absurd (omega (arith, b, above)))
-      (unexplored_is_good facts s a h.pending.0.at h.pending.0.unrefuted) h
+      (unexplored_is_good facts s a h.pending.0.at h.pending.0.unrefuted)
+      (within_left limit done (unexplored a.decisions) above tt) h
 
   pub steps_stand : StepsStand s
   steps_stand = record { begins = begins; decides = decides; prunes = prunes; ends = ends; asks = asks; forks = forks; leaves = leaves }

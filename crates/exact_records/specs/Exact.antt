@@ -49,6 +49,16 @@ pub record IsShownOnce (ds : List Decision) (rs : List RecordTree) : Type 0 wher
 abbrev pub IsBegun : List Decision → List RecordTree → Type 0
 IsBegun ds rs = SomeOne (λ x. BeginsWith ds (decisions_of x)) rs
 
+-- at most as many paths and refuted sides as the limit, and what was not tried stands only behind that many
+pub record IsWithin (limit : ℕ) (rs : List RecordTree) : Type 0 where
+  pub done : List RecordTree
+  pub left : List RecordTree
+  pub joined : rs ≡ done ++ left
+  pub tried : AllByRecursion IsTried done
+  pub count : length done ≤ limit
+  pub untried : AllByRecursion IsUnexplored left
+  pub met : (left ≡ []) ⊎ (length done ≡ limit)
+
 -- nothing was left, and no more records than the limit are there
 pub record IsWhole (limit : ℕ) (rs : List RecordTree) : Type 0 where
   pub tried : AllByRecursion IsTried rs
@@ -105,14 +115,15 @@ module _ (s : SymStart) where
     pub some : rs ≡ [] → ⊥
     pub begun : AllBegun (λ ds. Unit {0}) rs
 
-  -- the records that were handed over until now, up to the last one
-  pub record AreExactUpTo (done : List RecordTree) (last : RecordTree) : Type 0 where
+  -- the records that were handed over until now, up to the last one; the limit is kept
+  pub record AreExactUpTo (limit : ℕ) (done : List RecordTree) (last : RecordTree) : Type 0 where
     pub ascend : RecordsAscend (done ++ last ∷ [])
     pub good : AllByRecursion IsGood (done ++ last ∷ [])
     pub once : (v : List ℕ) (ds : List Decision) → Takes s v ds → BeginsWith (decisions_of last) ds ⊎ IsUpTo ds (decisions_of last)
         → IsShownOnce ds (done ++ last ∷ [])
     pub begun : AllBegun (λ ds. IsUpTo ds (decisions_of last)) (done ++ last ∷ [])
+    pub within : IsWithin limit (done ++ last ∷ [])
 
   -- none yet, or exact up to the last one
-  pub record AreExactSoFar (rs : List RecordTree) : Type 0 where
-    pub is : (rs ≡ []) ⊎ ((done : List RecordTree) × (last : RecordTree) × (rs ≡ done ++ last ∷ []) × AreExactUpTo done last)
+  pub record AreExactSoFar (limit : ℕ) (rs : List RecordTree) : Type 0 where
+    pub is : (rs ≡ []) ⊎ ((done : List RecordTree) × (last : RecordTree) × (rs ≡ done ++ last ∷ []) × AreExactUpTo limit done last)

@@ -31,11 +31,11 @@ pub record StepsStand (s : SymStart) : Type 0 where
       → Stands s limit done ((a, to_decide before) ∷ rest) → Stands s limit done ((a, decided verdict) ∷ rest)
   -- it is refuted
   pub prunes : (limit : ℕ) (done : List RecordTree) (a : Spot) (before written : Option Verdict) (refutation : List Refute) (rest : List Task)
-      → IsBefore s a before written → IsFoundRefuted (condition_at s a) refutation
+      → length done < limit → IsBefore s a before written → IsFoundRefuted (condition_at s a) refutation
       → Stands s limit done ((a, to_decide before) ∷ rest) → Stands s limit (done ++ pruned a.decisions written refutation ∷ []) rest
   -- the run is over at its next node
   pub ends : (limit : ℕ) (done : List RecordTree) (a b : Spot) (verdict written : Verdict) (p : Progress LinearTerm) (end' : End) (rest : List Task)
-      → Arrives s a b → b.tree ≡ over p end' → IsVerdictOn (condition_at s b) written
+      → length done < limit → Arrives s a b → b.tree ≡ over p end' → IsVerdictOn (condition_at s b) written
       → Stands s limit done ((a, decided verdict) ∷ rest) → Stands s limit (done ++ path b.decisions b.places end' (fields_of p.state) written ∷ []) rest
   -- it asks a test there
   pub asks : (limit : ℕ) (done : List RecordTree) (a b : Spot) (verdict : Verdict) (asking : Asking) (p : Progress LinearTerm) (test : FormulaTree)
@@ -59,8 +59,8 @@ pub record VerdictsStay (s : SymStart) : Type 0 where
 
 -- records that stand are exact: so far at each moment, and all in the end
 pub record StandingIsExact (s : SymStart) : Type 0 where
-  pub so_far : (limit : ℕ) (done : List RecordTree) (tasks : List Task) → Stands s limit done tasks → AreExactSoFar s done
-  pub up_to : (limit : ℕ) (done : List RecordTree) (last : RecordTree) (tasks : List Task) → Stands s limit (done ++ last ∷ []) tasks → AreExactUpTo s done last
+  pub so_far : (limit : ℕ) (done : List RecordTree) (tasks : List Task) → Stands s limit done tasks → AreExactSoFar s limit done
+  pub up_to : (limit : ℕ) (done : List RecordTree) (last : RecordTree) (tasks : List Task) → Stands s limit (done ++ last ∷ []) tasks → AreExactUpTo s limit done last
   -- nothing is left, and nothing was left out
   pub whole : (limit : ℕ) (done : List RecordTree) → Stands s limit done [] → AllByRecursion IsTried done → length done ≤ limit → AreExact s limit done
   -- nothing is left but what was left out, behind as many records as the limit allows
@@ -92,6 +92,7 @@ module _ (net : Network) (i : Entry) (hops : ℕ) where
   pub record ExactRecordsShowWalks : Type 0 where
     pub exact : (start : SymStart) (limit : ℕ) (rs : List RecordTree) → IsExplored net i hops start → AreExact start limit rs
         → AreExactFor net i hops limit rs
-    pub up_to : (start : SymStart) (done : List RecordTree) (last : RecordTree) → IsExplored net i hops start → AreExactUpTo start done last
-        → AreExactUpToFor net i hops done last
-    pub so_far : (start : SymStart) (rs : List RecordTree) → IsExplored net i hops start → AreExactSoFar start rs → AreExactSoFarFor net i hops rs
+    pub up_to : (start : SymStart) (limit : ℕ) (done : List RecordTree) (last : RecordTree) → IsExplored net i hops start
+        → AreExactUpTo start limit done last → AreExactUpToFor net i hops limit done last
+    pub so_far : (start : SymStart) (limit : ℕ) (rs : List RecordTree) → IsExplored net i hops start → AreExactSoFar start limit rs
+        → AreExactSoFarFor net i hops limit rs

@@ -85,16 +85,17 @@ module _ (net : Network) (i : Entry) (hops : ℕ) where
     pub packets : AllByRecursion HasPacket rs
     pub refuted : AllByRecursion IsNotTaken rs
 
-  -- The records until this last one are exact so far: each walk that goes on from the last one, or is not behind it, is shown.
-  pub record AreExactUpToFor (done : List RecordTree) (last : RecordTree) : Type 0 where
+  -- The records until this last one are exact so far: each walk that goes on from the last one, or is not behind it, is shown;
+  -- and the limit is kept.
+  pub record AreExactUpToFor (limit : ℕ) (done : List RecordTree) (last : RecordTree) : Type 0 where
     pub start : SymStart
     pub explored : IsExplored start
-    pub exact : AreExactUpTo start done last
+    pub exact : AreExactUpTo start limit done last
     pub walks : (v : List ℕ) (w : Trail) → IsWalkOf v w
         → BeginsWith (decisions_of last) w.decisions ⊎ IsUpTo w.decisions (decisions_of last) → IsShown v w (done ++ last ∷ [])
     pub packets : AllByRecursion HasPacket (done ++ last ∷ [])
     pub refuted : AllByRecursion IsNotTaken (done ++ last ∷ [])
 
   -- none yet, or exact up to the last one
-  pub record AreExactSoFarFor (rs : List RecordTree) : Type 0 where
-    pub is : (rs ≡ []) ⊎ ((done : List RecordTree) × (last : RecordTree) × (rs ≡ done ++ last ∷ []) × AreExactUpToFor done last)
+  pub record AreExactSoFarFor (limit : ℕ) (rs : List RecordTree) : Type 0 where
+    pub is : (rs ≡ []) ⊎ ((done : List RecordTree) × (last : RecordTree) × (rs ≡ done ++ last ∷ []) × AreExactUpToFor limit done last)

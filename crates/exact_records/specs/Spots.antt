@@ -18,7 +18,7 @@ use Rattle.sefl_meaning.specs.Taken.{decision_at}
 use Rattle.sefl_meaning.specs.Routes.{behind, route}
 use Rattle.sefl_meaning.specs.Start.{progress_of}
 use Rattle.exact_records.specs.Records.{IsVerdictOn, RecordTree, SymCondition, SymStart, SymTree, injection_tests}
-use Rattle.exact_records.specs.Exact.{IsGood, IsUnrefuted}
+use Rattle.exact_records.specs.Exact.{IsGood, IsUnrefuted, IsWithin}
 use Rattle.exact_records.specs.Shapes.{Continues, Piece}
 
 -- what is known at a spot: the verdict on its condition; or the one before its last test, None where nothing was decided
@@ -181,8 +181,9 @@ side_tasks a verdict asking test held broken =
 abbrev pub pieces_of : List Task → List (Piece LinearTerm FormulaTree)
 pieces_of tasks = map (λ task. piece_of task.0) tasks
 
--- the records stand for what is done, below the limit, and the tasks for what is left
+-- the records stand for what is done, within the limit, and the tasks for what is left
 pub record Stands (s : SymStart) (limit : ℕ) (done : List RecordTree) (tasks : List Task) : Type 0 where
   pub continues : Continues s.tree limit done (pieces_of tasks)
   pub good : AllByRecursion (IsGood s) done
   pub pending : AllByRecursion (λ task. IsPending s task.0 task.1) tasks
+  pub within : IsWithin limit done

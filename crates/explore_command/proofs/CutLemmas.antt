@@ -26,22 +26,22 @@ module _ (joins : Joins) (behind : ComesBehind) (hops limit : ℕ) (sides : Refu
   abbrev pub Begins : List ℕ → Type 0
   Begins part =
       ((ending : Ending) × (whole : List ℕ) × IsReport hops limit sides net i ending whole × IsPrefix part whole)
-      ⊎ ((whole : List ℕ) × BehindHead hops limit (IsSoFar hops sides net i) whole × IsPrefix part whole)
+      ⊎ ((whole : List ℕ) × BehindHead hops limit (IsSoFar hops limit sides net i) whole × IsPrefix part whole)
 
-  none_so_far : IsSoFar hops sides net i []
+  none_so_far : IsSoFar hops limit sides net i []
   none_so_far = record { records = []; exact = record { is = inl refl }; pieces = none_written net sides }
 
   in_head : (part : List ℕ) → IsPrefix part (head_text hops limit) → Begins part
   in_head part h = inr (head_text hops limit ++ [], ([], none_so_far, refl), IsPrefix-append part (head_text hops limit) [] h)
 
-  with_last : (own : List ℕ) → (cut : IsCutInRecord hops sides net i own) → IsSoFar hops sides net i (records_text net (written_of sides (cut.done ++ cut.last ∷ [])))
+  with_last : (own : List ℕ) → (cut : IsCutInRecord hops limit sides net i own) → IsSoFar hops limit sides net i (records_text net (written_of sides (cut.done ++ cut.last ∷ [])))
   with_last own cut = record {
     records = cut.done ++ cut.last ∷ [];
     exact = record { is = inr (record_trees cut.done, record_tree cut.last, map-append record_tree cut.done (cut.last ∷ []), cut.exact) };
     pieces = refl;
   }
 
-  in_record : (own : List ℕ) → IsCutInRecord hops sides net i own → Begins (head_text hops limit ++ own)
+  in_record : (own : List ℕ) → IsCutInRecord hops limit sides net i own → Begins (head_text hops limit ++ own)
   in_record own cut =
       let before = records_text net (written_of sides cut.done) in
       let piece = piece_text net (has_some (written_of sides cut.done)) cut.last in

@@ -88,10 +88,9 @@ report_read hops limit sides net i ending whole joins back shown report answer r
     (subst (λ bytes. ReadsReport net bytes answer) report.line reads)
 
 pub headline_of : (hops limit : ℕ) (sides : RefutedSides) (net : Network) (i : Entry) (ending : Ending) (whole : List ℕ) → WalksHaveOnePath net i hops
-    → UncutRecordsGoBeyond net i hops → Joins → ReadsBack → IsReport hops limit sides net i ending whole → IsHeadline net i hops limit sides ending whole
+    → UncutRecordsGoBeyond net i hops → Joins → ReadsBack → (report : IsReport hops limit sides net i ending whole)
+    → IsHeadline net i hops limit sides ending whole report
 headline_of hops limit sides net i ending whole one go joins back h = record {
-  records = h.records;
-  line = h.line;
   tells = told net i hops limit one go (record_trees h.records) h.found.exact ending h.found.ends;
   read_back = λ shown. report_read hops limit sides net i ending whole joins back shown h;
 }

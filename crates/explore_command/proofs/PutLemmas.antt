@@ -61,11 +61,11 @@ write_shows held now (Err NoMemory) h = tt
 
 module _ (hops limit : ℕ) (sides : RefutedSides) (net : Network) (i : Entry) where
   same_up_to : (items done : List Record) (end' last : Record) → items ++ end' ∷ [] ≡ done ++ last ∷ []
-      → AreExactUpToFor net i hops (record_trees items) (record_tree end') → AreExactUpToFor net i hops (record_trees done) (record_tree last)
+      → AreExactUpToFor net i hops limit (record_trees items) (record_tree end') → AreExactUpToFor net i hops limit (record_trees done) (record_tree last)
   same_up_to items done end' last is h =
       let (fronts, ends) = same_from_push items done end' last is in
-      subst (λ r. AreExactUpToFor net i hops (record_trees done) (record_tree r)) ends
-      (subst (λ rs. AreExactUpToFor net i hops (record_trees rs) (record_tree end')) fronts h)
+      subst (λ r. AreExactUpToFor net i hops limit (record_trees done) (record_tree r)) ends
+      (subst (λ rs. AreExactUpToFor net i hops limit (record_trees rs) (record_tree end')) fronts h)
 
   -- records that are exact and of their types fit
   abbrev pub FitSo : Type 0

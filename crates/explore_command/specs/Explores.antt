@@ -39,24 +39,23 @@ end_of ending records = tail_text (refuted_count records) (is_done ending)
 abbrev pub BehindHead : ℕ → ℕ → (List ℕ → Type 0) → List ℕ → Type 0
 BehindHead hops limit Is part = (own : List ℕ) × Is own × (part ≡ head_text hops limit ++ own)
 
-module _ (hops : ℕ) (sides : RefutedSides) (net : Network) (i : Entry) where
-  -- the pieces of records that are exact so far
+module _ (hops limit : ℕ) (sides : RefutedSides) (net : Network) (i : Entry) where
+  -- the pieces of records that are exact so far, within the limit
   pub record IsSoFar (part : List ℕ) : Type 0 where
     pub records : List Record
-    pub exact : AreExactSoFarFor net i hops (record_trees records)
+    pub exact : AreExactSoFarFor net i hops limit (record_trees records)
     pub pieces : part ≡ records_text net (written_of sides records)
 
   -- those of all but the last, which is written, and a beginning of the piece of that
   pub record IsCutInRecord (part : List ℕ) : Type 0 where
     pub done : List Record
     pub last : Record
-    pub exact : AreExactUpToFor net i hops (record_trees done) (record_tree last)
+    pub exact : AreExactUpToFor net i hops limit (record_trees done) (record_tree last)
     pub put : is_written sides last ≡ true
     pub own : List ℕ
     pub begins : IsPrefix own (piece_text net (has_some (written_of sides done)) last)
     pub pieces : part ≡ records_text net (written_of sides done) ++ own
 
-module _ (hops limit : ℕ) (sides : RefutedSides) (net : Network) (i : Entry) where
   -- the records are exact for the net and the injection, and end so; they fit a report of the net, and their pieces are text
   pub record AreFound (ending : Ending) (records : List Record) : Type 0 where
     pub exact : AreExactFor net i hops limit (record_trees records)
@@ -86,11 +85,11 @@ module _ (hops limit : ℕ) (sides : RefutedSides) (net : Network) (i : Entry) w
 
   -- where the sink failed: in the head, in the piece of a record, or in the tail
   abbrev pub IsCut : List ℕ → Type 0
-  IsCut part = IsPrefix part (head_text hops limit) ⊎ BehindHead hops limit (λ own. IsCutInRecord hops sides net i own ⊎ IsCutInTail own) part
+  IsCut part = IsPrefix part (head_text hops limit) ⊎ BehindHead hops limit (λ own. IsCutInRecord own ⊎ IsCutInTail own) part
 
   -- where memory ended: nothing was put, or whole pieces
   abbrev pub IsLeft : List ℕ → Type 0
-  IsLeft part = (part ≡ []) ⊎ BehindHead hops limit (IsSoFar hops sides net i) part
+  IsLeft part = (part ≡ []) ⊎ BehindHead hops limit IsSoFar part
 
 -- a fact of the net and the injection of a job
 abbrev pub OfJob : List Given → (Network → Entry → Type 0) → Type 0

@@ -21,7 +21,7 @@ use Rattle.record_lines.specs.declared.lines.RefutedSides.{RefutedSides}
 use Rattle.report_forms.specs.Seen.{line_seen}
 use Rattle.path_report.specs.Reading.{ReadsReport, Shows}
 use Rattle.path_report.specs.declared.report.ReportFault.{ReportFault}
-use Rattle.explore_command.specs.Explores.{is_done, line_of}
+use Rattle.explore_command.specs.Explores.{IsReport, is_done}
 
 -- the condition has this verdict and no other: it is met, by these as its least values; or it is undecided, by this cause
 abbrev pub IsOnlyVerdictOn : SymCondition → Verdict → Type 0
@@ -95,10 +95,9 @@ module _ (net : Network) (i : Entry) (hops : ℕ) where
   Tells limit Done rs = TellsAll limit rs
   Tells limit Partial rs = TellsSome limit rs
 
-  -- The text is the report of records that tell all this: of each of them, where refuted sides are written; else of the others and
-  -- of the number of these. `read_report` reads the text, and gives the records back that are written, with that number.
-  pub record IsHeadline (limit : ℕ) (sides : RefutedSides) (ending : Ending) (whole : List ℕ) : Type 0 where
-    pub records : List Record
-    pub line : whole ≡ line_of hops limit sides net ending records
-    pub tells : Tells limit ending (record_trees records)
-    pub read_back : MayBeShown hops limit → IsReadBack net hops limit sides records ending whole
+  -- The records of the report tell all this. Its text is of each of them, where refuted sides are written; else of the others and of the
+  -- number of these. `read_report` reads the text, and gives the records back that are written, with that number.
+  pub record IsHeadline (limit : ℕ) (sides : RefutedSides) (ending : Ending) (whole : List ℕ) (report : IsReport hops limit sides net i ending whole)
+      : Type 0 where
+    pub tells : Tells limit ending (record_trees report.records)
+    pub read_back : MayBeShown hops limit → IsReadBack net hops limit sides report.records ending whole

@@ -56,13 +56,13 @@ module _ (hops limit : ℕ) (sides : RefutedSides) (net : Network) (i : Entry) w
     -- the records were put
     abbrev pub PutsRecords : Result Tail Stop → Type 0
     PutsRecords (Ok tail) = Gains known now (AreAll tail)
-    PutsRecords (Err Write) = Gains known now (IsCutInRecord hops sides net i)
-    PutsRecords (Err NoMemory) = Gains known now (IsSoFar hops sides net i)
+    PutsRecords (Err Write) = Gains known now (IsCutInRecord hops limit sides net i)
+    PutsRecords (Err NoMemory) = Gains known now (IsSoFar hops limit sides net i)
     PutsRecords _ = ⊥
 
     -- the records and the tail were put
     abbrev pub PutsRest : Result Ending Stop → Type 0
     PutsRest (Ok ending) = Gains known now (AreRest ending)
-    PutsRest (Err Write) = Gains known now (λ part. IsCutInRecord hops sides net i part ⊎ IsCutInTail hops limit sides net i part)
-    PutsRest (Err NoMemory) = Gains known now (IsSoFar hops sides net i)
+    PutsRest (Err Write) = Gains known now (λ part. IsCutInRecord hops limit sides net i part ⊎ IsCutInTail hops limit sides net i part)
+    PutsRest (Err NoMemory) = Gains known now (IsSoFar hops limit sides net i)
     PutsRest _ = ⊥

@@ -37,7 +37,7 @@ pub fn reports_are_read_back()
 }
 
 /// What was written where the sink failed is a beginning of a report, or of the head and the pieces of records that are exact
-/// so far.
+/// so far: at most as many paths and refuted sides as the limit, and untried decisions only behind that many.
 pub fn cuts_are_beginnings()
     ensures { (net : Network) (i : Entry) (hops : ℕ) → CutsAreBeginnings net i hops }
 {

@@ -3,6 +3,7 @@
 
 pub mod laws;
 mod merge;
+mod parts;
 mod reduced;
 mod term;
 

@@ -3,11 +3,9 @@
 ghost use Rattle.std.specs.Prelude.{◌≡◌, ℕ, ◌+◌, ◌*◌, ◌%◌, ◌^◌, ◌<◌, ◌≤◌, ◌⊎◌, [], if◌then◌else◌, ◌==◌, length, IfOk, IfNone, IfSome, suc};
 ghost use Rattle.lin_term.specs.Terms.{AscendsFrom, CoefficientsFit, StartsAt, coefficient_of};
 
+use crate::parts::{Part, Parts};
 use sn_width::{NoMemory, Num, SymId, Width};
 use std::alloc::Global;
-
-/// A symbol with its coefficient.
-pub(crate) type Part = (SymId, Num);
 
 /// `a + factor * b` modulo `2^w`.
 pub(crate) fn plus_times(width: Width, a: Num, factor: Num, b: Num) -> Num
@@ -53,22 +51,22 @@ pub(crate) fn merged(
     left: &[Part],
     factor: Num,
     right: &[Part],
-) -> Result<Vec<Part>, NoMemory>
+) -> Result<Parts, NoMemory>
     requires left { AscendsFrom 0 left.now }
     requires right { AscendsFrom 0 right.now }
-    ensures ascending { IfOk result (λ parts. AscendsFrom 0 parts.items) }
-    ensures reduced { IfOk result (λ parts. CoefficientsFit width parts.items) }
-    ensures coefficients { IfOk result (λ parts. (s : ℕ) → coefficient_of s parts.items
+    ensures ascending { IfOk result (AscendsFrom 0) }
+    ensures reduced { IfOk result (CoefficientsFit width) }
+    ensures coefficients { IfOk result (λ parts. (s : ℕ) → coefficient_of s parts
         ≡ (coefficient_of s left.now + factor * coefficient_of s right.now) % 2 ^ width) }
 {
-    let mut parts = Vec::new(alloc);
+    let mut parts = Parts::none();
     let (mut left_rest, mut right_rest) = (left, right);
     while let Some(symbol) = first_symbol(left_rest, right_rest) {
         let (of_left, after_left) = split_symbol(left_rest, symbol);
         let (of_right, after_right) = split_symbol(right_rest, symbol);
         let coefficient = plus_times(width, of_left, factor, of_right);
         if coefficient != 0 {
-            parts.push((symbol, coefficient))?;
+            parts.push(alloc, (symbol, coefficient))?;
         }
         left_rest = after_left;
         right_rest = after_right;

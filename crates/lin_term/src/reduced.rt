@@ -3,7 +3,7 @@
 ghost use Rattle.std.specs.Prelude.{◌≡◌};
 ghost use Rattle.lin_term.specs.Reduced.{are_reduced_from, is_coefficient, is_reduced};
 
-use crate::merge::Part;
+use crate::parts::Part;
 use sn_width::{Num, Width};
 
 /// Whether the constant and the parts are those of a reduced term.

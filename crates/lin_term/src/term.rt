@@ -3,7 +3,8 @@
 ghost use Rattle.std.specs.Prelude.{◌≡◌, ℕ, ◌*◌, ◌%◌, ◌^◌, ◌<◌, ◌≤◌, ◌↔◌, List, [], ◌∷◌, length, slice_get, slice_index, IsTrue, IsNone, IsSome, IfOk, IfSome};
 ghost use Rattle.sn_width.specs.Width.{FitsWidth, wrapped_sum, wrapped_difference};
 
-use crate::merge::{Part, merged, plus_times};
+use crate::merge::{merged, plus_times};
+use crate::parts::{Part, Parts};
 use crate::reduced::is_reduced;
 use sn_width::{NoMemory, Num, SymId, Width};
 use std::alloc::Global;
@@ -15,7 +16,7 @@ pub struct Term {
     width: Width,
     constant: Num,
     /// Ascending by symbol, with coefficients that are not 0.
-    parts: Vec<Part>,
+    parts: Parts,
 }
 
 impl Model for Term {
@@ -23,9 +24,9 @@ impl Model for Term {
 
     ghost Value = { LinearTerm };
 
-    ghost view = { λ t. record { width = t.width; constant = t.constant; parts = t.parts.items } };
+    ghost view = { λ t. record { width = t.width; constant = t.constant; parts = t.parts } };
 
-    ghost invariant = { λ t. IsReduced (record { width = t.width; constant = t.constant; parts = t.parts.items }) };
+    ghost invariant = { λ t. IsReduced (record { width = t.width; constant = t.constant; parts = t.parts }) };
 }
 
 impl Term {
@@ -43,7 +44,7 @@ impl Term {
         Ok(Term {
             width,
             constant: value,
-            parts: Vec::new(alloc),
+            parts: Parts::none(),
         })
     }
 
@@ -57,12 +58,10 @@ impl Term {
     {
         // So 1 is a number of the width.
         prove!(width.bits() >= 1);
-        let mut parts = Vec::new(alloc);
-        parts.push((symbol, 1))?;
         Ok(Term {
             width,
             constant: 0,
-            parts,
+            parts: Parts::one((symbol, 1)),
         })
     }
 
@@ -80,7 +79,7 @@ impl Term {
         Some(Term {
             width,
             constant,
-            parts,
+            parts: Parts::from_vec(parts),
         })
     }
 
@@ -115,7 +114,13 @@ impl Term {
         ensures combination { IfOk result (IsCombination factor self.now other.now) }
         ensures other { IsReduced other.now }
     {
-        let parts = merged(alloc, self.width, &self.parts, factor, &other.parts)?;
+        let parts = merged(
+            alloc,
+            self.width,
+            self.parts.as_slice(),
+            factor,
+            other.parts.as_slice(),
+        )?;
         Ok(Term {
             width: self.width,
             constant: plus_times(self.width, self.constant, factor, other.constant),
@@ -129,7 +134,7 @@ impl Term {
         ensures reduced { IsReduced self.now }
     {
         let mut total = self.constant;
-        for (symbol, coefficient) in &self.parts {
+        for (symbol, coefficient) in self.parts.as_slice() {
             let number = number_of(*symbol, values);
             total = plus_times(self.width, total, *coefficient, number);
         }
@@ -143,7 +148,7 @@ impl Term {
     {
         self.width == other.width
             && self.constant == other.constant
-            && same_parts(&self.parts, &other.parts)
+            && same_parts(self.parts.as_slice(), other.parts.as_slice())
     }
 
     /// The width of the constant, the coefficients and the values.
@@ -170,7 +175,7 @@ impl Term {
             (λ part. (0 < part.1) × FitsWidth self.now.width part.1) }
         ensures reduced { IsReduced self.now }
     {
-        part_at(&self.parts, index)
+        part_at(self.parts.as_slice(), index)
     }
 
     /// An equal term.
@@ -181,7 +186,7 @@ impl Term {
         Ok(Term {
             width: self.width,
             constant: self.constant,
-            parts: Vec::from_slice(alloc, &self.parts)?,
+            parts: self.parts.copy(alloc)?,
         })
     }
 }

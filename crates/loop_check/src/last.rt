@@ -66,6 +66,7 @@ fn decided_base(alloc: Global, state: &SymState) -> Result<Option<Base>, NoMemor
         Decided::Sat { values } => Ok(Some(Base {
             formulas,
             least: values,
+            broken: None,
         })),
         Decided::Unsat { .. } => Ok(None),
         Decided::Undecided { .. } => Ok(None),

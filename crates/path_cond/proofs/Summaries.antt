@@ -1,19 +1,21 @@
 -- What is kept of the formulas, after one more.
-use Rattle.std.proofs.Common.{◌≡◌, ℕ, zero, suc, ◌+◌, ◌-◌, ◌*◌, ◌^◌, ◌<◌, ◌≤◌, ◌==◌, min, Bool, true, false, cond, ◌&&◌, ◌||◌, List, [], ◌∷◌, ◌++◌, map, length, Option, Some, None, refl, sym, ap, ap₂, ◌∙◌, mul_assoc, arith, ◌⊎◌, inl, inr}
+use Rattle.std.proofs.Common.{◌≡◌, ℕ, zero, suc, ◌+◌, ◌-◌, ◌*◌, ◌^◌, ◌<◌, ◌≤◌, ◌==◌, min, Bool, true, false, cond, ◌&&◌, ◌||◌, List, [], ◌∷◌, ◌++◌, map, length, Option, Some, None, refl, sym, ap, ap₂, ◌∙◌, mul_assoc, append_assoc, arith, ◌⊎◌, inl, inr}
 use Rattle.std.specs.Prelude.{reverse}
 use Rattle.std.specs.List.{list_any, position_from}
-use Rattle.std.proofs.lemmas.List.{reverse-append, append-nil}
+use Rattle.std.proofs.lemmas.List.{reverse-append, reverse-reverse, append-nil}
 use Rattle.std.proofs.lemmas.List.Folds.{list_any-append}
 use Rattle.std.proofs.lemmas.Bool.Decides.{nat_tests}
 use Rattle.std.proofs.Math.Nat.{mul_comm, mul-suc}
 use Rattle.path_formula.specs.Kinds.{kind_of}
 use Rattle.path_formula.specs.View.{view}
 use Rattle.path_formula.specs.declared.kinds.Kind.{Kind}
+use Rattle.path_cases.specs.Cases.{cases_of}
 use Rattle.path_cases.specs.Counts.{capped}
 use Rattle.path_cond.specs.Conditions.{Entry, broken_after}
 use Rattle.path_cond.specs.Marks.{Adds}
 use Rattle.path_cond.specs.Occurring.{occurs_in}
-use Rattle.path_cond.specs.Summaries.{IsKnown, picks_where, product, entry_case_count, has_no_cases, couples, is_inside, is_outside, is_inside_kind, is_outside_kind}
+use Rattle.path_cond.specs.Summaries.{IsKnown, picks_where, product, entry_case_count, first_case, has_one_case, single_case, singles_at, singles_from, has_no_cases, couples, is_inside, is_outside, is_inside_kind, is_outside_kind}
+use Rattle.path_cond.specs.declared.singles.Single.{Single}
 use Rattle.path_cond.specs.declared.summary.Summary.{Summary}
 use Rattle.path_cond.proofs.Marking.{or_none}
 
@@ -84,20 +86,54 @@ zero_capped : (n : ℕ) → (capped n == 0) ≡ (n == 0)
 zero_capped zero = refl
 zero_capped (suc n) = let low : 0 < min (suc n) (2 ^ 64 - 1) = omega arith in grind (arith, nat_tests)
 
+-- the bounds of one formula more
+singles_next : (n : ℕ) (entries : List Entry) (e : Entry)
+    → singles_from n (entries ++ e ∷ []) ≡ singles_from n entries ++ singles_at (n + length entries) (single_case e)
+singles_next n [] e =
+    let here : n ≡ n + 0 = omega arith in
+    append-nil (singles_at n (single_case e)) ∙ ap (λ k. singles_at k (single_case e)) here
+singles_next n (f ∷ entries) e =
+    let next : suc n + length entries ≡ n + suc (length entries) = omega arith in
+    ap (λ xs. singles_at n (single_case f) ++ xs) (singles_next (suc n) entries e)
+    ∙ ap (λ k. singles_at n (single_case f) ++ (singles_from (suc n) entries ++ singles_at k (single_case e))) next
+    ∙ sym (append_assoc (singles_at n (single_case f)) (singles_from (suc n) entries) (singles_at (n + suc (length entries)) (single_case e)))
+
+singles_on : (entries : List Entry) (e : Entry) (n : ℕ) (one : Bool) (old new : List Single) → n ≡ length entries → one ≡ has_one_case e
+    → old ≡ reverse (singles_from 0 entries)
+    → new ≡ reverse (singles_at n (cond one (first_case (cases_of (view e.0) e.1)) [])) ++ old
+    → new ≡ reverse (singles_from 0 (entries ++ e ∷ []))
+singles_on entries e n one old new is ans was now =
+    let here : n ≡ 0 + length entries = omega arith in
+    now ∙ (λ i. reverse (singles_at (here i) (cond (ans i) (first_case (cases_of (view e.0) e.1)) [])) ++ was i)
+    ∙ sym (reverse-append (singles_from 0 entries) (singles_at (0 + length entries) (single_case e)))
+    ∙ ap reverse (sym (singles_next 0 entries e))
+
+pub singles_twice : (xs : List Single) → reverse (reverse xs) ≡ xs
+singles_twice xs = reverse-reverse xs
+
+one_capped : (n : ℕ) → (capped n == 1) ≡ (n == 1)
+one_capped zero = refl
+one_capped (suc zero) = refl
+one_capped (suc (suc n)) = let low : 1 < min (suc (suc n)) (2 ^ 64 - 1) = omega arith in grind (arith, nat_tests)
+
 pub known_more : (entries : List Entry) (e : Entry) (kind : Kind) (pick cases : ℕ) (old new : Summary) → pick ≡ length entries → kind ≡ kind_of (view e.0) → cases ≡ capped (entry_case_count e)
     → new.inside ≡ cond (is_inside_kind kind) (pick ∷ old.inside) old.inside
     → new.outside ≡ cond (is_outside_kind kind) (pick ∷ old.outside) old.outside
     → new.choices ≡ capped (old.choices * cases)
+    → new.singles ≡ reverse (singles_at pick (cond (is_inside_kind kind && (cases == 1)) (first_case (cases_of (view e.0) e.1)) [])) ++ old.singles
     → new.caseless ≡ broken_after old.caseless (cases == 0) pick
     → Adds old.marks new.marks (λ s. is_inside_kind kind && occurs_in s (view e.0))
     → IsKnown entries old → IsKnown (entries ++ e ∷ []) new
-known_more entries e kind pick cases old new is k n inside outside choices caseless adds h =
+known_more entries e kind pick cases old new is k n inside outside choices singles caseless adds h =
     let here : pick ≡ 0 + length entries = omega arith in
     record {
       inside_are = picks_on is_inside entries e pick (is_inside_kind kind) old.inside new.inside is (ap is_inside_kind k) h.inside_are inside;
       outside_are = picks_on is_outside entries e pick (is_outside_kind kind) old.outside new.outside is (ap is_outside_kind k) h.outside_are outside;
       choices_are = choices ∙ ap₂ (λ a b. capped (a * b)) h.choices_are n ∙ capped_both (product (map entry_case_count entries)) (entry_case_count e)
           ∙ ap capped (sym (product_more (map entry_case_count entries) (entry_case_count e)) ∙ ap product (sym (counts_more entries e)));
+      singles_are =
+          singles_on entries e pick (is_inside_kind kind && (cases == 1)) old.singles new.singles is
+          (λ i. is_inside_kind (k i) && ((ap (λ m. m == 1) n ∙ one_capped (entry_case_count e)) i)) h.singles_are singles;
       caseless_is = caseless ∙ (λ i. broken_after (h.caseless_is i) ((ap (λ m. m == 0) n ∙ zero_capped (entry_case_count e)) i) (here i)) ∙ sym (position_more has_no_cases 0 entries e);
       marks_are = λ s.
           adds.marks s

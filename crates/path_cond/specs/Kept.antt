@@ -1,14 +1,16 @@
 -- What is kept of the formulas of a condition, over any formulas that are seen as trees.
-use Rattle.std.specs.Prelude.{ℕ, ◌*◌, ◌==◌, Bool, true, false, ◌&&◌, List, [], ◌∷◌, Option, map, suc, length, if◌then◌else◌}
+use Rattle.std.specs.Prelude.{ℕ, ◌*◌, ◌==◌, Bool, true, false, ◌&&◌, List, [], ◌∷◌, ◌++◌, Option, map, suc, length, if◌then◌else◌}
 use Rattle.std.specs.List.{list_any, position_from}
 use Rattle.sn_width.specs.declared.ids.SymId.{SymId}
 use Rattle.path_formula.specs.Formulas.{FormulaTree}
 use Rattle.path_formula.specs.Kinds.{kind_of}
 use Rattle.path_formula.specs.declared.kinds.Kind.{Kind}
 use Rattle.path_formula.specs.declared.kinds.Kind.TheVariants.{Constant, Simple, Inside, Outside}
+use Rattle.path_cases.specs.Bounds.{Case}
 use Rattle.path_cases.specs.Cases.{cases_of}
 use Rattle.path_cond.specs.Occurring.{occurs_in, symbols_from}
 use Rattle.path_cond.specs.Seen.{ConditionOf}
+use Rattle.path_cond.specs.declared.singles.Single.{Single}
 
 abbrev pub is_inside_kind : Kind → Bool
 is_inside_kind (Constant truth) = false
@@ -31,6 +33,15 @@ abbrev pub picks_where : {E : Type 0} → (E → Bool) → ℕ → List E → Li
 picks_where test pick [] = []
 picks_where test pick (entry ∷ entries) =
     if test entry then pick ∷ picks_where test (suc pick) entries else picks_where test (suc pick) entries
+
+-- the first of several cases; none where there is none
+abbrev pub first_case : List Case → Case
+first_case [] = []
+first_case (case ∷ cases) = case
+
+-- the bounds of a case, each with the pick of the formula
+abbrev pub singles_at : ℕ → Case → List Single
+singles_at pick case = map (λ b. record { bound = b; pick = pick }) case
 
 module _ {X : Type 0} (tree : X → FormulaTree) where
   -- the formula is inside
@@ -56,6 +67,23 @@ module _ {X : Type 0} (tree : X → FormulaTree) where
   -- the number of choices of a case of each inside formula
   abbrev pub formula_choices : ConditionOf X → ℕ
   formula_choices cond = product (map entry_case_count cond.entries)
+
+  -- the formula is inside and has one case alone
+  abbrev pub has_one_case : X × Bool → Bool
+  has_one_case entry = is_inside entry && (entry_case_count entry == 1)
+
+  -- the bounds of the only case of an inside formula; none of any other formula
+  abbrev pub single_case : X × Bool → Case
+  single_case entry = if has_one_case entry then first_case (cases_of (tree entry.0) entry.1) else []
+
+  -- the bounds of formulas that have one case alone, where the first formula has this pick
+  abbrev pub singles_from : ℕ → List (X × Bool) → List Single
+  singles_from pick [] = []
+  singles_from pick (entry ∷ entries) = singles_at pick (single_case entry) ++ singles_from (suc pick) entries
+
+  -- the bounds of the inside formulas of a condition that have one case alone
+  abbrev pub singles : ConditionOf X → List Single
+  singles cond = singles_from 0 cond.entries
 
   -- the formula is inside and has no cases
   abbrev pub has_no_cases : X × Bool → Bool

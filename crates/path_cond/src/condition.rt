@@ -10,6 +10,7 @@ use crate::domain::{all_hold, solutions_in};
 use crate::kept::{broken_with, simple_with};
 use crate::marks::Marks;
 use crate::sequence::Sequence;
+use crate::singles::{Single, oldest_first};
 use crate::summary::Summary;
 use path_cases::laws::an_inside_formula_has_cases;
 use path_formula::Formula;
@@ -53,7 +54,7 @@ impl Model for PathCond {
 impl PathCond {
     ghost use Rattle.path_cond.specs.Conditions.{AllTyped, Condition, first_broken, holds_at, in_domain, simple_picks};
     ghost use Rattle.path_cond.specs.Marks.{has_mark};
-    ghost use Rattle.path_cond.specs.Summaries.{coupled_count, coupled_symbols, formula_choices, first_without_cases, inside_picks, is_coupled, outside_picks};
+    ghost use Rattle.path_cond.specs.Summaries.{coupled_count, coupled_symbols, formula_choices, first_without_cases, inside_picks, is_coupled, outside_picks, singles};
     ghost use Rattle.sn_width.specs.declared.ids.SymId.{SymId as Symbol};
     ghost use Rattle.path_cases.specs.Counts.{capped};
 
@@ -229,6 +230,15 @@ impl PathCond {
         ensures { result ≡ capped (formula_choices self.now) }
     {
         self.summary.choices
+    }
+
+    /// The bounds of the inside formulas that have one case alone, each with its formula's pick, in the order of the formulas.
+    /// Takes the time of their number.
+    #[tactic(auto, using(crate::proofs::Summaries::singles_twice))]
+    pub fn singles(&self, alloc: Global) -> Result<Vec<Single>, NoMemory>
+        ensures { IfOk result (λ list. list.items ≡ singles self.now) }
+    {
+        oldest_first(alloc, &self.summary.singles)
     }
 
     /// The least pick of an inside formula without cases.

@@ -7,6 +7,8 @@ mod kept;
 pub mod laws;
 mod marks;
 mod sequence;
+mod singles;
 mod summary;
 
 pub use condition::PathCond;
+pub use singles::Single;

@@ -1,6 +1,6 @@
 //! What is kept of the formulas of a condition beside their picks by symbol.
 
-ghost use Rattle.std.specs.Prelude.{◌≡◌, ◌==◌, [], ◌∷◌, ◌++◌, true, List, length, if◌then◌else◌, IfOk};
+ghost use Rattle.std.specs.Prelude.{◌≡◌, ◌==◌, ◌&&◌, [], ◌∷◌, ◌++◌, true, List, length, if◌then◌else◌, IfOk};
 ghost use Rattle.path_formula.specs.Kinds.{kind_of};
 ghost use Rattle.path_formula.specs.View.{view};
 ghost use Rattle.path_cases.specs.Counts.{capped};
@@ -9,6 +9,7 @@ ghost use Rattle.path_cond.specs.Conditions.{Entry, broken_after};
 ghost use Rattle.path_cond.specs.Summaries.{IsKnown, entry_case_count, is_inside_kind, is_outside_kind};
 
 use crate::marks::{Marks, marked};
+use crate::singles::{Single, same_singles, singles_with};
 use path_cases::case_count_of;
 use path_formula::{Formula, Kind};
 use sn_tree::Shared;
@@ -24,6 +25,8 @@ pub(crate) struct Summary {
     pub(crate) outside: Shared<u32>,
     /// The number of choices of a case of each inside formula.
     pub(crate) choices: u64,
+    /// The bounds of the inside formulas that have one case, the newest first.
+    pub(crate) singles: Shared<Single>,
     /// The least pick of an inside formula without cases.
     pub(crate) caseless: Option<u32>,
     /// A mark for each symbol that occurs in an inside formula.
@@ -103,6 +106,13 @@ fn count_of(alloc: Global, formula: &Formula, holds: bool, kind: Kind) -> Result
     }
 }
 
+/// Whether a formula of this kind and number of cases is inside and has one case.
+fn is_single(kind: Kind, cases: u64) -> bool
+    ensures { result ≡ (is_inside_kind kind && cases == 1) }
+{
+    is_inside(kind) && cases == 1
+}
+
 impl Summary {
     /// What is kept of no formulas.
     pub(crate) fn new() -> Summary
@@ -112,6 +122,7 @@ impl Summary {
             inside: Shared::empty(),
             outside: Shared::empty(),
             choices: 1,
+            singles: Shared::empty(),
             caseless: None,
             marks: Marks::none(),
         }
@@ -122,11 +133,13 @@ impl Summary {
     {
         let inside = same(&self.inside)?;
         let outside = same(&self.outside)?;
+        let singles = same_singles(&self.singles)?;
         let marks = self.marks.fork()?;
         Ok(Summary {
             inside,
             outside,
             choices: self.choices,
+            singles,
             caseless: self.caseless,
             marks,
         })
@@ -150,11 +163,20 @@ impl Summary {
         let splits = is_inside(kind);
         let inside = push_where(alloc, &self.inside, splits, pick)?;
         let marks = marked(alloc, &self.marks, formula, splits)?;
+        let singles = singles_with(
+            alloc,
+            &self.singles,
+            formula,
+            holds,
+            is_single(kind, cases),
+            pick,
+        )?;
         let outside = push_where(alloc, &self.outside, is_outside(kind), pick)?;
         Ok(Summary {
             inside,
             outside,
             choices: self.choices.saturating_mul(cases),
+            singles,
             caseless: first_with(self.caseless, cases == 0, pick),
             marks,
         })

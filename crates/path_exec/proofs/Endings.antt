@@ -87,7 +87,7 @@ module _ {P O N D T : Type 0} (x : Views P O N D T) (exact : StandingIsExact x.s
   -- the receiver stopped
   pub runs_stopped : (limit count stops : ℕ) (m n : Receiving T) (now : List Task) (old new : List (Work N D)) (made : Option T) (item : T) (first mid after : ℕ) → made ≡ Some item
       → count < limit → Runs x limit count m (now ++ all_tasks x old) first mid → Keeps x now old new made mid after
-      → ((items : List T) → m.StandsFor items → n.StoppedIn (items ++ item ∷ [])) → stops < n.stops → EndsStopped x stops n first after
+      → ((items : List T) → m.StandsFor items → n.StoppedIn (items ++ item ∷ [])) → stops < n.stops → EndsStopped x limit stops n first after
   runs_stopped limit count stops m n now old new made item first mid after is less h k took cause =
       let s = made_step limit count m now old new made item first mid after is less h k in
       record {
@@ -102,7 +102,7 @@ module _ {P O N D T : Type 0} (x : Views P O N D T) (exact : StandingIsExact x.s
 
   -- want of memory
   pub runs_early : (limit count : ℕ) (m n : Receiving T) (left : List Task) (first after : ℕ) → Runs x limit count m left first after
-      → ((items : List T) → m.StandsFor items → n.StandsFor items) → EndsEarly x n
+      → ((items : List T) → m.StandsFor items → n.StandsFor items) → EndsEarly x limit n
   runs_early limit count m n left first after h same =
       record { items = h.items; stands = same h.items h.stands; exact = exact.so_far limit (Records h.items) left h.holds.stands }
 
@@ -172,8 +172,9 @@ module _ {P O N D T : Type 0} (x : Views P O N D T) where
   begun_works works none = subst (AreWorks x) (sym none) tt
 
   -- as often as it had stopped before an earlier call
-  pub stopped_since : (first stops : ℕ) (m : Receiving T) (before after : ℕ) → first ≤ stops → EndsStopped x stops m before after → EndsStopped x first m before after
-  stopped_since first stops m before after less h = record {
+  pub stopped_since : (limit first stops : ℕ) (m : Receiving T) (before after : ℕ) → first ≤ stops → EndsStopped x limit stops m before after
+      → EndsStopped x limit first m before after
+  stopped_since limit first stops m before after less h = record {
     items = h.items;
     last = h.last;
     stopped = h.stopped;
@@ -186,5 +187,5 @@ module _ {P O N D T : Type 0} (x : Views P O N D T) where
       → Explored x limit first m before after result
   left_explored limit first stops m before after (Ok Whole) less h = absurd h
   left_explored limit first stops m before after (Ok Partial) less h = h
-  left_explored limit first stops m before after (Ok Stopped) less h = stopped_since first stops m before after less h
+  left_explored limit first stops m before after (Ok Stopped) less h = stopped_since limit first stops m before after less h
   left_explored limit first stops m before after (Err e) less h = h

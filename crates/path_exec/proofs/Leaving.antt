@@ -86,7 +86,7 @@ module _ {P O N D T : Type 0} (x : Views P O N D T) (below : StepsStand x.start)
   }
 
   pub leaves_stopped : (limit stops : ℕ) (m n : Receiving T) (task : Task) (left : List Task) (before after : ℕ) (item : T) → IsMade x (unexplored task.0.decisions) item
-      → ((items : List T) → m.StandsFor items → n.StoppedIn (items ++ item ∷ [])) → stops < n.stops → Leaves x limit m (task ∷ left) before after → EndsStopped x stops n before after
+      → ((items : List T) → m.StandsFor items → n.StoppedIn (items ++ item ∷ [])) → stops < n.stops → Leaves x limit m (task ∷ left) before after → EndsStopped x limit stops n before after
   leaves_stopped limit stops m n task left before after item is took cause h = record {
     items = h.items;
     last = item;
@@ -98,7 +98,7 @@ module _ {P O N D T : Type 0} (x : Views P O N D T) (below : StepsStand x.start)
   }
 
   pub leaves_early : (limit : ℕ) (m n : Receiving T) (left : List Task) (before after : ℕ) → ((items : List T) → m.StandsFor items → n.StandsFor items)
-      → Leaves x limit m left before after → EndsEarly x n
+      → Leaves x limit m left before after → EndsEarly x limit n
   leaves_early limit m n left before after same h =
       record { items = h.items; stands = same h.items h.stands; exact = exact.so_far limit (Records h.items) left h.state }
 

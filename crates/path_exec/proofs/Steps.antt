@@ -124,21 +124,22 @@ module _ {P O N D T : Type 0} (x : Views P O N D T) (below : StepsStand x.start)
   -- a record of the first task keeps what holds, and is paid for
   keeps_made : (task : Task) (works new : List (Work N D)) (made : T) (y : RecordTree) (before after raised : ℕ) → after ≡ before + raised → IsMade x y made → IsTried y
       → decisions_of y ≡ task.0.decisions → raised + begun_before x.start task ≡ count_of At y
-      → ((limit : ℕ) (done : List RecordTree) → Stands x.start limit done (task ∷ all_tasks x new) → Stands x.start limit (done ++ y ∷ []) (all_tasks x new))
+      → ((limit : ℕ) (done : List RecordTree) → length done < limit → Stands x.start limit done (task ∷ all_tasks x new)
+      → Stands x.start limit (done ++ y ∷ []) (all_tasks x new))
       → (now : List Task) → now ++ all_tasks x works ≡ task ∷ all_tasks x new → (AreWorks x works → AreWorks x new)
       → Keeps x now works new (Some made) before after
   keeps_made task works new made y before after raised counted is tried same e step now tasks kept =
-      let paid : (limit : ℕ) (done : List RecordTree) (count : ℕ) → Holds x.start limit done (now ++ all_tasks x works) count
+      let paid : (limit : ℕ) (done : List RecordTree) (count : ℕ) → length done < limit → Holds x.start limit done (now ++ all_tasks x works) count
       → IsPaidFor x.start exact limit done (x.record_of made) (all_tasks x new) (count + raised) =
-      λ limit done count h.
+      λ limit done count less h.
       let k = subst (λ ts. Holds x.start limit done ts count) tasks h in
       subst (λ (z : RecordTree). IsPaidFor x.start exact limit done z (all_tasks x new) (count + raised)) (sym is.is)
-      (holds_made x.start exact limit done task (all_tasks x new) y count raised k (step limit done k.stands) same e) in
+      (holds_made x.start exact limit done task (all_tasks x new) y count raised k (step limit done less k.stands) same e) in
       record {
         raised = raised;
         counted = counted;
-        holds = λ limit done count less h. (paid limit done count h).holds;
-        spent = λ limit done count less h z q. (paid limit done count h).spent;
+        holds = λ limit done count less h. (paid limit done count less h).holds;
+        spent = λ limit done count less h z q. (paid limit done count less h).spent;
         works = kept;
         tried = (subst IsTried (sym is.is) tried, tt);
         own = is.own;
@@ -164,7 +165,7 @@ module _ {P O N D T : Type 0} (x : Views P O N D T) (below : StepsStand x.start)
       let led = subst (λ (ds : List Decision). IsLed x.start ds c) (sym n.0.arrives.decisions) (led_to x a c (b0 + adv.raised) at n.0).led in
       keeps_made (a, decided verdict) works works made y before after adv.raised adv.counted (is (b0 + adv.raised) led e.progress e.end' e.is) (λ k. k)
       n.0.arrives.decisions (omega (arith, here))
-      (λ limit done st. below.ends limit done a c verdict (filled_verdict (length c.widths) verdict) e.progress e.end' (all_tasks x works) n.0.arrives e.is
+      (λ limit done less st. below.ends limit done a c verdict (filled_verdict (length c.widths) verdict) e.progress e.end' (all_tasks x works) less n.0.arrives e.is
       (stay.written (condition_at x.start c) verdict (stay.next a c verdict n.0.arrives st.pending.0.found)) st)
       ((a, decided verdict) ∷ []) refl (λ w. w)
 
@@ -350,7 +351,7 @@ module _ {P O N D T : Type 0} (x : Views P O N D T) (below : StepsStand x.start)
       let same : pruned ((x.node_at w.node).decisions ++ offer_at w.offer w.taken ∷ []) (Some (filled_verdict (length (x.node_at w.node).widths) v)) refutation ≡ y =
       λ i. pruned (sym k.decisions i) (Some (filled_verdict (length (sym k.widths i)) v)) refutation in
       keeps_made (k.spot, known_behind w.offer v) old mid made y before before 0 (omega arith) (subst (λ (z : RecordTree). IsMade x z made) same is) (λ q. q) refl (omega arith)
-      (λ limit done st. below.prunes limit done k.spot (Some v) (Some (filled_verdict (length k.spot.widths) v)) refutation (all_tasks x mid) (stay.before k.spot v) refuted
+      (λ limit done less st. below.prunes limit done k.spot (Some v) (Some (filled_verdict (length k.spot.widths) v)) refutation (all_tasks x mid) less (stay.before k.spot v) refuted
       (subst (λ (known : Known). Stands x.start limit done ((k.spot, known) ∷ all_tasks x mid)) (asks_known w.offer v asks) st))
       (tasks_of x w) (split_tasks x w old mid h put) (put_back_works x w old mid h put)
 
@@ -360,7 +361,7 @@ module _ {P O N D T : Type 0} (x : Views P O N D T) (below : StepsStand x.start)
       → IsMade x (pruned [] None refutation) made → Keeps x ((first_spot x.start, to_decide None) ∷ []) works works (Some made) before before
   keeps_refuted made works refutation before refuted is =
       keeps_made (first_spot x.start, to_decide None) works works made (pruned [] None refutation) before before 0 (omega arith) is (λ q. q) refl (omega arith)
-      (λ limit done st. below.prunes limit done (first_spot x.start) None None refutation (all_tasks x works) refl refuted st)
+      (λ limit done less st. below.prunes limit done (first_spot x.start) None None refutation (all_tasks x works) less refl refuted st)
       ((first_spot x.start, to_decide None) ∷ []) refl (λ w. w)
 
   pub keeps_begun : (place : P) (verdict : Verdict) (old new : List (Work N D)) (made : Option T) (before after : ℕ)

@@ -30,45 +30,45 @@ module _ {P O N D T : Type 0} (x : Views P O N D T) where
     pub untried : SomeOne IsUnexplored (map x.record_of items)
     pub spent : after ≤ before + work_of x.start (map x.record_of items)
 
-  -- it stopped in records that are exact up to the last one
-  pub record EndsStopped (stops : ℕ) (m : Receiving T) (before after : ℕ) : Type 0 where
+  -- it stopped in records that are exact up to the last one, within the limit
+  pub record EndsStopped (limit stops : ℕ) (m : Receiving T) (before after : ℕ) : Type 0 where
     pub items : List T
     pub last : T
     pub stopped : m.StoppedIn (items ++ last ∷ [])
-    pub exact : AreExactUpTo x.start (map x.record_of items) (x.record_of last)
+    pub exact : AreExactUpTo x.start limit (map x.record_of items) (x.record_of last)
     pub cause : stops < m.stops
     pub spent : after ≤ before + work_of x.start (map x.record_of (items ++ last ∷ []))
 
-  -- it stands for records that are exact so far
-  pub record EndsEarly (m : Receiving T) : Type 0 where
+  -- it stands for records that are exact so far, within the limit
+  pub record EndsEarly (limit : ℕ) (m : Receiving T) : Type 0 where
     pub items : List T
     pub stands : m.StandsFor items
-    pub exact : AreExactSoFar x.start (map x.record_of items)
+    pub exact : AreExactSoFar x.start limit (map x.record_of items)
 
   -- how an exploration ends, where the receiver had stopped so often before it
   abbrev pub Explored : {E : Type 0} → ℕ → ℕ → Receiving T → ℕ → ℕ → Result Ended E → Type 0
   Explored limit stops m before after (Ok Whole) = EndsWhole limit m before after
   Explored limit stops m before after (Ok Partial) = EndsPartial limit m before after
-  Explored limit stops m before after (Ok Stopped) = EndsStopped stops m before after
-  Explored limit stops m before after (Err e) = EndsEarly m
+  Explored limit stops m before after (Ok Stopped) = EndsStopped limit stops m before after
+  Explored limit stops m before after (Err e) = EndsEarly limit m
 
   -- how its first step ends: this many records were handed over, or the receiver stopped
   abbrev pub BegunAs : {E : Type 0} → ℕ → ℕ → Receiving T → List (Work N D) → ℕ → ℕ → Result (Option ℕ) E → Type 0
   BegunAs limit stops m works before after (Ok (Some count)) =
       (count ≤ limit) × Runs x limit count m (all_tasks x works) before after × AreWorks x works
-  BegunAs limit stops m works before after (Ok None) = EndsStopped stops m before after
-  BegunAs limit stops m works before after (Err e) = EndsEarly m
+  BegunAs limit stops m works before after (Ok None) = EndsStopped limit stops m before after
+  BegunAs limit stops m works before after (Err e) = EndsEarly limit m
 
   -- how the run below the limit ends
   abbrev pub RanAs : {E : Type 0} → ℕ → ℕ → Receiving T → List (Work N D) → ℕ → ℕ → Result Ran E → Type 0
   RanAs limit stops m works before after (Ok Over) = EndsWhole limit m before after
   RanAs limit stops m works before after (Ok Met) = Runs x limit limit m (all_tasks x works) before after × AreWorks x works
-  RanAs limit stops m works before after (Ok Interrupted) = EndsStopped stops m before after
-  RanAs limit stops m works before after (Err e) = EndsEarly m
+  RanAs limit stops m works before after (Ok Interrupted) = EndsStopped limit stops m before after
+  RanAs limit stops m works before after (Err e) = EndsEarly limit m
 
   -- how what is left is named
   abbrev pub LeftAs : {E : Type 0} → ℕ → ℕ → Receiving T → ℕ → ℕ → Result Ended E → Type 0
   LeftAs limit stops m before after (Ok Whole) = ⊥
   LeftAs limit stops m before after (Ok Partial) = EndsPartial limit m before after
-  LeftAs limit stops m before after (Ok Stopped) = EndsStopped stops m before after
-  LeftAs limit stops m before after (Err e) = EndsEarly m
+  LeftAs limit stops m before after (Ok Stopped) = EndsStopped limit stops m before after
+  LeftAs limit stops m before after (Err e) = EndsEarly limit m

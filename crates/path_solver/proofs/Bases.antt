@@ -1,14 +1,15 @@
 -- What is found of a condition, taken to a longer one.
-use Rattle.std.proofs.Common.{◌≡◌, ℕ, zero, suc, ◌+◌, ◌-◌, ◌<◌, ◌≤◌, Bool, true, ◌&&◌, List, [], ◌∷◌, ◌++◌, length, drop, take, refl, sym, ap, ◌∙◌, subst, arith}
+use Rattle.std.proofs.Common.{◌≡◌, ℕ, zero, suc, ◌+◌, ◌-◌, ◌<◌, ◌≤◌, Bool, true, false, ◌&&◌, List, [], ◌∷◌, ◌++◌, Option, Some, cond, length, drop, take, refl, sym, ap, ◌∙◌, subst, arith}
 use Rattle.std.specs.Prelude.{slice_get, IfSome}
-use Rattle.std.specs.List.{list_all}
-use Rattle.std.proofs.lemmas.List.{append-nil, take-append-drop}
+use Rattle.std.specs.List.{list_all, position_from}
+use Rattle.std.specs.Option.{option_or}
+use Rattle.std.proofs.lemmas.List.{append-nil, drop_all, length-take, take-append-drop}
 use Rattle.path_formula.specs.View.{view}
 use Rattle.path_cond.specs.Conditions.{AllTyped, Condition, Entry}
-use Rattle.refutation_check.specs.Least.{AreLeast, holds_unless_outside}
+use Rattle.refutation_check.specs.Least.{AreLeast, first_broken_outside, holds_unless_outside, is_broken_outside}
 use Rattle.refutation_check.specs.Longer.{LeastStay, zeros, with_entries, with_widths}
 use Rattle.refutation_check.specs.declared.outcome.Cause.TheVariants.{Outside, Cases, Coupled}
-use Rattle.path_solver.specs.Bases.{IsBaseOf, HasValues, front_of}
+use Rattle.path_solver.specs.Bases.{IsBaseOf, HasValues, broken_in, front_of}
 use Rattle.path_solver.specs.Decisions.{IsDecisionOn}
 use Rattle.path_solver.specs.declared.base.Base.{Base}
 use Rattle.path_solver.specs.declared.decision.Decided.{Decided}
@@ -93,9 +94,9 @@ append_longer : {X : Type 0} (xs ys : List X) → length xs ≤ length (xs ++ ys
 append_longer [] ys = omega arith
 append_longer (x ∷ xs) ys = let more = append_longer xs ys in omega (arith, more)
 
--- the least values of a condition are a base of it
-least_base : (c : Condition) (b : Base) → AllTyped c.widths c.entries → b.formulas ≡ length c.entries → AreLeast c b.least → IsBaseOf c b
-least_base c b typed count least =
+-- the least values of a condition are a base of it, with what they break
+least_base : (c : Condition) (b : Base) → AllTyped c.widths c.entries → b.formulas ≡ length c.entries → AreLeast c b.least → first_broken_outside c b.least ≡ b.broken → IsBaseOf c b
+least_base c b typed count least broken =
     let one_each = least.candidates.fitting.one_each in
     let front : front_of (length b.least) b.formulas c ≡ c =
     λ i. record { widths = take_whole c.widths (length b.least) one_each i; entries = take_whole c.entries b.formulas count i } in
@@ -104,14 +105,17 @@ least_base c b typed count least =
       formulas = omega (arith, count);
       typed = subst (λ (d : Condition). AllTyped d.widths d.entries) (sym front) typed;
       least = subst (λ (d : Condition). AreLeast d b.least) (sym front) least;
+      broken_is = subst (λ (d : Condition). first_broken_outside d b.least ≡ b.broken) (sym front) broken;
     }
 
-pub decision_base : (c : Condition) (d : Decided) (b : Base) → AllTyped c.widths c.entries → IsDecisionOn c d → HasValues b.least d → b.formulas ≡ length c.entries → IsBaseOf c b
-decision_base c (Sat found) b typed h has count = least_base c b typed count (subst (AreLeast c) has h.least)
-decision_base c (Unsat refutation) b typed h has count = absurd has
-decision_base c (Undecided (Outside pick found)) b typed h has count = least_base c b typed count (subst (AreLeast c) has h.least)
-decision_base c (Undecided (Cases n)) b typed h has count = absurd has
-decision_base c (Undecided (Coupled n)) b typed h has count = absurd has
+pub decision_base : (c : Condition) (d : Decided) (b : Base) → AllTyped c.widths c.entries → IsDecisionOn c d → HasValues b.least d → broken_in d ≡ b.broken → b.formulas ≡ length c.entries → IsBaseOf c b
+decision_base c (Sat found) b typed h has broken count =
+    least_base c b typed count (subst (AreLeast c) has h.least) (subst (λ vs. first_broken_outside c vs ≡ b.broken) has (h.broken_is ∙ broken))
+decision_base c (Unsat refutation) b typed h has broken count = absurd has
+decision_base c (Undecided (Outside pick found)) b typed h has broken count =
+    least_base c b typed count (subst (AreLeast c) has h.least) (subst (λ vs. first_broken_outside c vs ≡ b.broken) has (h.broken_is ∙ broken))
+decision_base c (Undecided (Cases n)) b typed h has broken count = absurd has
+decision_base c (Undecided (Coupled n)) b typed h has broken count = absurd has
 
 -- a base of a condition is one of any with the same front
 same_front : (c d : Condition) (b : Base) → length b.least ≤ length d.widths → b.formulas ≤ length d.entries
@@ -122,6 +126,7 @@ same_front c d b symbols formulas front h =
       formulas = formulas;
       typed = subst (λ (x : Condition). AllTyped x.widths x.entries) (sym front) h.typed;
       least = subst (λ (x : Condition). AreLeast x b.least) (sym front) h.least;
+      broken_is = subst (λ (x : Condition). first_broken_outside x b.least ≡ b.broken) (sym front) h.broken_is;
     }
 
 pub base_wider : (c : Condition) (b : Base) (widths : List ℕ) → IsBaseOf c b → IsBaseOf (with_widths c widths) b
@@ -135,3 +140,44 @@ base_longer c b more h =
     let longer = append_longer c.entries more in
     same_front c (with_entries c more) b h.symbols (omega (arith, longer, h.formulas))
     (λ i. record { widths = take (length b.least) c.widths; entries = take_front c.entries more b.formulas h.formulas i }) h
+
+-- ---- the first broken outside formula
+
+-- one more formula that was looked at for the first that passes
+pub position_step : {X : Type 0} (p : X → Bool) (xs : List X) (i k : ℕ) (r : Bool) → i < length xs → IfSome (slice_get xs i) (λ x. r ≡ p x)
+    → position_from p k (drop i xs) ≡ cond r (Some k) (position_from p (k + 1) (drop (i + 1) xs))
+position_step p [] i k r lt h = absurd (omega arith)
+position_step p (x ∷ xs) zero k r lt h = ap (λ b. cond b (Some k) (position_from p (k + 1) xs)) (sym h)
+position_step p (x ∷ xs) (suc i) k r lt h =
+    let next : suc (i + 1) ≡ suc i + 1 = omega arith in
+    position_step p xs i k r (omega arith) h ∙ ap (λ n. cond r (Some k) (position_from p (k + 1) (drop n (x ∷ xs)))) next
+
+choose : {X : Type 0} (b : Bool) (x : X) (rest front : Option X) (other : Option X) → rest ≡ option_or front other
+    → cond b (Some x) rest ≡ option_or (cond b (Some x) front) other
+choose true x rest front other h = refl
+choose false x rest front other h = h
+
+-- the first that passes is in the first list, or else in the second
+or_later : {X : Type 0} (p : X → Bool) (xs ys : List X) (k : ℕ)
+    → position_from p k (xs ++ ys) ≡ option_or (position_from p k xs) (position_from p (k + length xs) ys)
+or_later p [] ys k = ap (λ n. position_from p n ys) (omega arith)
+or_later p (x ∷ xs) ys k =
+    let next : k + 1 + length xs ≡ k + suc (length xs) = omega arith in
+    choose (p x) k _ (position_from p (k + 1) xs) _
+    (or_later p xs ys (k + 1) ∙ ap (λ n. option_or (position_from p (k + 1) xs) (position_from p n ys)) next)
+
+-- of a base with all symbols: what it breaks, or else the first of the newer formulas that is broken
+pub broken_goes_on : (c : Condition) (b : Base) (values : List ℕ) → IsBaseOf c b → values ≡ b.least ++ zeros (drop (length b.least) c.widths)
+    → length b.least ≡ length c.widths
+    → first_broken_outside c values ≡ option_or b.broken (position_from (is_broken_outside values) b.formulas (drop b.formulas c.entries))
+broken_goes_on c b values base is one_each =
+    let p = is_broken_outside values in
+    let k = b.formulas in
+    let no_more : drop (length b.least) c.widths ≡ [] = drop_all (length b.least) c.widths (omega (arith, one_each)) in
+    let same : values ≡ b.least = is ∙ ap (λ ws. b.least ++ zeros ws) no_more ∙ append-nil b.least in
+    let front : position_from p 0 (take k c.entries) ≡ b.broken =
+    subst (λ (vs : List ℕ). first_broken_outside (front_of (length b.least) k c) vs ≡ b.broken) (sym same) base.broken_is in
+    let count : 0 + length (take k c.entries) ≡ k = omega (arith, length-take k c.entries, base.formulas) in
+    ap (position_from p 0) (sym (take-append-drop k c.entries)) ∙ or_later p (take k c.entries) (drop k c.entries) 0
+    ∙ ap (λ o. option_or o (position_from p (0 + length (take k c.entries)) (drop k c.entries))) front
+    ∙ ap (λ n. option_or b.broken (position_from p n (drop k c.entries))) count

@@ -9,6 +9,7 @@ pub mod Exact
 pub mod Fragment
 pub mod Gathering
 pub mod Goodness
+pub mod Joining
 pub mod Numbering
 pub mod Places
 pub mod Refuting

@@ -60,7 +60,7 @@ natural_all : (vs : List ℤ) → ((i : ℕ) (z : ℤ) → slice_get vs i ≡ So
 natural_all [] h = tt
 natural_all (z ∷ vs) h = (as_value z (h 0 z refl), natural_all vs (λ i y e. h (suc i) y e))
 
-number_there : (vs : List ℤ) (i : ℕ) (z : ℤ) → slice_get vs i ≡ Some z → number vs i ≡ z
+pub number_there : (vs : List ℤ) (i : ℕ) (z : ℤ) → slice_get vs i ≡ Some z → number vs i ≡ z
 number_there [] i z e = absurd (cc)
 number_there (y ∷ vs) zero z e = cc
 number_there (y ∷ vs) (suc i) z e = number_there vs i z e
@@ -70,7 +70,7 @@ place_within [] i x e = absurd (cc)
 place_within (y ∷ xs) zero x e = omega arith
 place_within (y ∷ xs) (suc i) x e = omega (arith, place_within xs i x e)
 
-natural_at : (cond : Condition) (z0 : ℤ) (vs : List ℤ) (i : ℕ) (z : ℤ) → length vs ≡ length (coupled_symbols cond)
+pub natural_at : (cond : Condition) (z0 : ℤ) (vs : List ℤ) (i : ℕ) (z : ℤ) → length vs ≡ length (coupled_symbols cond)
     → z0 ≡ pos 0 → MeetsEach (z0 ∷ vs) (choices_from cond (origins_of cond)) → slice_get vs i ≡ Some z → pos 0 ≤ℤ z
 natural_at cond z0 vs i z same first met is =
     let (s, at) = place_of (coupled_symbols cond) i (omega (arith, same, place_within vs i z is)) in

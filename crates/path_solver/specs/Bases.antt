@@ -2,7 +2,7 @@
 use Rattle.std.specs.Prelude.{◌≡◌, ◌≤◌, ℕ, List, Option, Some, None, length, take}
 use Rattle.path_cond.specs.Conditions.{AllTyped, Condition}
 use Rattle.refutation_check.specs.Decisions.{IsUndecidedBy, IsWithinLimits}
-use Rattle.refutation_check.specs.Least.{AreLeast}
+use Rattle.refutation_check.specs.Least.{AreLeast, first_broken_outside}
 use Rattle.refutation_check.specs.declared.outcome.Cause.{Cause}
 use Rattle.refutation_check.specs.declared.outcome.Cause.TheVariants.{Outside, Cases, Coupled}
 use Rattle.path_solver.specs.declared.base.Base.{Base}
@@ -13,12 +13,14 @@ use Rattle.path_solver.specs.declared.decision.Decided.TheVariants.{Sat, Unsat, 
 abbrev pub front_of : ℕ → ℕ → Condition → Condition
 front_of symbols formulas cond = record { widths = take symbols cond.widths; entries = take formulas cond.entries }
 
--- the base has the least values of the condition with the first symbols, one for each value, and its first formulas alone
+-- the base has the least values of the condition with the first symbols, one for each value, and its first formulas alone, and the
+-- first outside formula of these that they break
 pub record IsBaseOf (cond : Condition) (b : Base) : Type 0 where
   pub symbols : length b.least ≤ length cond.widths
   pub formulas : b.formulas ≤ length cond.entries
   pub typed : AllTyped (take (length b.least) cond.widths) (take b.formulas cond.entries)
   pub least : AreLeast (front_of (length b.least) b.formulas cond) b.least
+  pub broken_is : first_broken_outside (front_of (length b.least) b.formulas cond) b.least ≡ b.broken
 
 -- the cause has these values, which break an outside formula
 abbrev pub IsWithValues : List ℕ → Cause → Type 0
@@ -31,6 +33,17 @@ abbrev pub HasValues : List ℕ → Decided → Type 0
 HasValues values (Sat found) = found ≡ values
 HasValues values (Unsat refutation) = ⊥
 HasValues values (Undecided cause) = IsWithValues values cause
+
+-- the outside formula that a decision says to be broken
+abbrev pub broken_by_cause : Cause → Option ℕ
+broken_by_cause (Outside pick found) = Some pick
+broken_by_cause (Cases count) = None
+broken_by_cause (Coupled count) = None
+
+abbrev pub broken_in : Decided → Option ℕ
+broken_in (Sat found) = None
+broken_in (Unsat refutation) = None
+broken_in (Undecided cause) = broken_by_cause cause
 
 -- the limits are kept, or the condition is undecided by this cause
 abbrev pub IsExcessOf : Condition → Option Cause → Type 0

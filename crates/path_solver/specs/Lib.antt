@@ -5,6 +5,7 @@ pub mod Judged
 pub mod Laws
 pub mod Origins
 pub mod Problems
+pub mod Singles
 pub mod Solutions
 pub mod Unknowns
 pub mod Unmet

@@ -1,5 +1,5 @@
 -- Unknowns of bounds, for the symbols of a list.
-use Rattle.std.specs.Prelude.{ℕ, suc, ◌==◌, Bool, List, [], ◌∷◌, map, Option, Some, None, if◌then◌else◌}
+use Rattle.std.specs.Prelude.{◌≡◌, ℕ, suc, ◌==◌, Bool, List, [], ◌∷◌, map, Option, Some, None, slice_index, if◌then◌else◌}
 use Rattle.std.specs.List.{list_any}
 use Rattle.sn_width.specs.declared.ids.SymId.{SymId}
 use Rattle.difference_solver.specs.declared.bound.Bound.{Bound}
@@ -14,6 +14,10 @@ is_listed symbols s = list_any (λ r. r.0 == s.0) symbols
 abbrev pub unknown_from : ℕ → List SymId → SymId → ℕ
 unknown_from first [] s = 0
 unknown_from first (r ∷ symbols) s = if r.0 == s.0 then first else unknown_from (suc first) symbols s
+
+-- the table has the unknown of each symbol at its place
+abbrev pub IsTableOf : List SymId → List ℕ → Type 0
+IsTableOf symbols table = (s : SymId) → slice_index table s.0 ≡ unknown_from 1 symbols s
 
 -- the unknown of a symbol, counted from 1 in the order of the list, and 0 for the number zero
 abbrev pub unknown_of : List SymId → Option SymId → ℕ

@@ -1,11 +1,12 @@
 //! What an earlier decision found, as a base of a later one.
 
 ghost use Rattle.std.specs.Prelude.{◌≡◌, ◌<◌, ◌≤◌, ◌-◌, ◌++◌, length, drop, slice_get, IfOk, IfSome};
-ghost use Rattle.std.specs.List.{list_all};
-ghost use Rattle.refutation_check.specs.Least.{AreLeast, holds_unless_outside, is_outside_kind};
+ghost use Rattle.std.specs.List.{list_all, position_from};
+ghost use Rattle.refutation_check.specs.Least.{AreLeast, first_broken_outside, holds_unless_outside, is_broken_outside, is_outside_kind};
 ghost use Rattle.refutation_check.specs.Longer.{zeros};
 ghost use Rattle.path_solver.specs.Bases.{IsBaseOf};
 
+use crate::outside::first_broken_outside;
 use case_counts::formula_count;
 use path_cond::PathCond;
 use path_formula::Kind;
@@ -21,6 +22,8 @@ pub struct Base {
     pub formulas: u32,
     /// Its least values, one for each of its symbols.
     pub least: Listed<Num>,
+    /// The first of its outside formulas that these values break.
+    pub broken: Option<u32>,
 }
 
 fn is_outside(kind: Kind) -> bool
@@ -79,10 +82,57 @@ pub(crate) fn values_that_stay(
     base: &Base,
 ) -> Result<Option<Vec<Num>>, NoMemory>
     requires { IsBaseOf cond.now base.now }
-    ensures { IfOk result (λ found. IfSome found (λ values. AreLeast cond.now values.items)) }
+    ensures least { IfOk result (λ found. IfSome found (λ values. AreLeast cond.now values.items)) }
+    ensures padded { IfOk result (λ found. IfSome found (λ values. values.items
+        ≡ base.now.least ++ zeros (drop (length base.now.least) cond.now.widths))) }
 {
     least_values_stay();
     let values = padded(alloc, cond, base.least.as_slice())?;
     let stay = hold_from(cond, base.formulas, values.as_slice())?;
     if stay { Ok(Some(values)) } else { Ok(None) }
+}
+
+/// Whether the formula of the pick is outside, and has not the truth that it must have.
+fn is_broken_at(cond: &PathCond, pick: u32, values: &[Num]) -> bool
+    requires { pick < length cond.now.entries }
+    ensures { IfSome (slice_get cond.now.entries pick) (λ entry. result ≡ is_broken_outside values.now entry) }
+{
+    match cond.entry(pick) {
+        None => unreachable!(),
+        Some((formula, holds)) => is_outside(formula.kind()) && formula.truth(values) != holds,
+    }
+}
+
+/// The first outside formula from a pick on that the values break.
+fn first_broken_from(cond: &PathCond, first: u32, values: &[Num]) -> Result<Option<u32>, NoMemory>
+    requires { first ≤ length cond.now.entries }
+    ensures { IfOk result (λ found. found ≡ position_from (is_broken_outside values.now) first (drop first cond.now.entries)) }
+{
+    for pick in first..formula_count(cond)? {
+        if is_broken_at(cond, pick, values) {
+            return Ok(Some(pick));
+        }
+    }
+    Ok(None)
+}
+
+/// The first outside formula that the values of the base break, with zeros behind. Where no symbol is new, only newer formulas are
+/// tried, and those only where the base broke none.
+pub(crate) fn broken_on(
+    alloc: Global,
+    cond: &PathCond,
+    base: &Base,
+    values: &[Num],
+) -> Result<Option<u32>, NoMemory>
+    requires base { IsBaseOf cond.now base.now }
+    requires padded { values.now ≡ base.now.least ++ zeros (drop (length base.now.least) cond.now.widths) }
+    ensures { IfOk result (λ first. first ≡ first_broken_outside cond.now values.now) }
+{
+    if base.least.as_slice().len() as u64 != cond.symbols() {
+        return first_broken_outside(alloc, cond, values);
+    }
+    match base.broken {
+        Some(pick) => Ok(Some(pick)),
+        None => first_broken_from(cond, base.formulas, values),
+    }
 }

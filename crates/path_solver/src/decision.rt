@@ -5,13 +5,13 @@ ghost use Rattle.path_cond.specs.Conditions.{first_broken, holds_at};
 ghost use Rattle.interval_solver.specs.Domains.{AreDomainsOf};
 ghost use Rattle.interval_solver.specs.Verdicts.{AreLeastValues};
 ghost use Rattle.refutation_check.specs.Decisions.{AreManyCoupled, IsMetBy, IsRefuted, IsSimplyOpen, IsUndecidedBy, IsWithinLimits};
-ghost use Rattle.refutation_check.specs.Least.{AreLeast};
+ghost use Rattle.refutation_check.specs.Least.{AreLeast, first_broken_outside};
 ghost use Rattle.refutation_check.specs.declared.outcome.Cause.{Cause as CauseOf};
 ghost use Rattle.case_counts.specs.Coupled.{coupled_symbols};
 ghost use Rattle.path_solver.specs.Bases.{IsBaseOf, IsExcessOf};
 ghost use Rattle.path_solver.specs.Decisions.{IsDecisionOn, IsSat, IsUnsat, IsUndecided, IsSettled, IsInFragment, HasNoInside, HasLeastValues};
 
-use crate::base::{Base, values_that_stay};
+use crate::base::{Base, broken_on, values_that_stay};
 use crate::below::facts;
 use crate::choices::count_choices;
 use crate::laws::{
@@ -146,26 +146,32 @@ fn decide_on(
 {
     match values_that_stay(alloc, cond, base)? {
         None => decide_in_order(alloc, cond, domains),
-        Some(values) => decide_by(alloc, cond, domains, values),
+        Some(values) => {
+            let broken = broken_on(alloc, cond, base, values.as_slice())?;
+            decide_by(alloc, cond, domains, values, broken)
+        }
     }
 }
 
-/// The decision of a condition that has these domains, where these are its least values.
+/// The decision of a condition that has these domains, where these are its least values, and this is the first outside formula that
+/// they break.
 fn decide_by(
     alloc: Global,
     cond: &PathCond,
     domains: &Domains,
     values: Vec<Num>,
+    broken: Option<u32>,
 ) -> Result<Decided, NoMemory>
     requires domains { AreDomainsOf cond.now domains.now }
     requires least { AreLeast cond.now values.items }
+    requires broken { broken ≡ first_broken_outside cond.now values.items }
     ensures { IfOk result (IsDecisionOn cond.now) }
 {
     facts();
     let symbols = coupled_symbols(alloc, cond)?;
     match excess_of(alloc, cond, domains, symbols.as_slice())? {
         Some(cause) => Ok(Decided::Undecided { cause }),
-        None => settle(alloc, cond, values),
+        None => Ok(settled(cond, values, broken)),
     }
 }
 
@@ -263,22 +269,26 @@ fn decide_within(
     }
     match solve_cases(alloc, cond, domains, symbols, leasts)? {
         Solved::Refuted { refutation } => Ok(Decided::Unsat { refutation }),
-        Solved::Values { values } => settle(alloc, cond, values),
+        Solved::Values { values } => {
+            let broken = first_broken_outside(alloc, cond, values.as_slice())?;
+            Ok(settled(cond, values, broken))
+        }
     }
 }
 
-/// The decision where these are the least values that satisfy every formula that is not outside.
-fn settle(alloc: Global, cond: &PathCond, values: Vec<Num>) -> Result<Decided, NoMemory>
+/// The decision where these are the least values that satisfy every formula that is not outside, and this is the first outside formula
+/// that they break.
+fn settled(cond: &PathCond, values: Vec<Num>, broken: Option<u32>) -> Decided
     requires within { IsWithinLimits cond.now }
     requires least { AreLeast cond.now values.items }
-    ensures { IfOk result (IsDecisionOn cond.now) }
+    requires broken { broken ≡ first_broken_outside cond.now values.items }
+    ensures { IsDecisionOn cond.now result }
 {
-    let broken = first_broken_outside(alloc, cond, values.as_slice())?;
     let values = Listed::from_vec(values);
     match broken {
-        None => Ok(Decided::Sat { values }),
-        Some(pick) => Ok(Decided::Undecided {
+        None => Decided::Sat { values },
+        Some(pick) => Decided::Undecided {
             cause: Cause::Outside { pick, values },
-        }),
+        },
     }
 }

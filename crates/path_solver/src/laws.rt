@@ -7,7 +7,7 @@ ghost use Rattle.refutation_check.specs.Decisions.{IsMetBy, IsUndecidedBy, IsLic
 ghost use Rattle.refutation_check.specs.Least.{AreFitting};
 ghost use Rattle.refutation_check.specs.declared.outcome.Cause.{Cause as CauseOf};
 ghost use Rattle.refutation_check.specs.Longer.{with_entries, with_widths};
-ghost use Rattle.path_solver.specs.Bases.{HasValues, IsBaseOf};
+ghost use Rattle.path_solver.specs.Bases.{HasValues, IsBaseOf, broken_in};
 ghost use Rattle.path_solver.specs.declared.base.Base.{Base as BaseOf};
 ghost use Rattle.path_solver.specs.Decisions.{IsDecisionOn, IsSat, IsUnsat, IsUndecided, IsSettled, IsInFragment, HasNoInside, HasLeastValues};
 ghost use Rattle.path_solver.specs.Judged.{AreExact};
@@ -89,11 +89,12 @@ pub fn simple_conditions_have_the_least_values()
     facts();
 }
 
-/// The least values that a decision of a condition has, and the number of its formulas, are a base of it.
+/// The least values that a decision of a condition has, the outside formula that they break, and the number of its formulas are a
+/// base of it.
 pub fn the_values_of_a_decision_are_a_base()
     ensures { (cond : Condition) (decision : Decision) (base : BaseOf) → AllTyped cond.widths cond.entries
-        → IsDecisionOn cond decision → HasValues base.least decision → base.formulas ≡ length cond.entries
-        → IsBaseOf cond base }
+        → IsDecisionOn cond decision → HasValues base.least decision → broken_in decision ≡ base.broken
+        → base.formulas ≡ length cond.entries → IsBaseOf cond base }
 {}
 
 /// A base of a condition is one of the condition with more symbols, and with more formulas.

@@ -31,7 +31,7 @@ pub struct Problem {
 }
 
 /// The ranges of the domain of a coupled symbol, as cases.
-fn ranges_of(
+pub(crate) fn ranges_of(
     alloc: Global,
     cond: &PathCond,
     domains: &Domains,

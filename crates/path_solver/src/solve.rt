@@ -5,10 +5,12 @@ ghost use Rattle.path_cond.specs.Conditions.{first_broken};
 ghost use Rattle.case_counts.specs.Coupled.{coupled_symbols};
 ghost use Rattle.interval_solver.specs.Domains.{AreDomainsOf};
 ghost use Rattle.interval_solver.specs.Verdicts.{AreLeastValues};
-ghost use Rattle.path_solver.specs.Solutions.{IsSolved};
+ghost use Rattle.path_solver.specs.Solutions.{IsFound, IsSolved};
 
 use crate::below::facts;
+use crate::found::Found;
 use crate::problem::Problem;
+use crate::raising::find_by_raising;
 use crate::steps::refutation_of;
 use crate::values::put_integers;
 use case_search::{Outcome, find_least};
@@ -25,6 +27,52 @@ pub enum Solved {
     Values { values: Vec<Num> },
     /// No values satisfy every formula that is not outside.
     Refuted { refutation: Refutation },
+}
+
+/// What the search for cases finds, where these are the coupled symbols.
+fn find_by_cases(
+    alloc: Global,
+    cond: &PathCond,
+    domains: &Domains,
+    symbols: &[SymId],
+) -> Result<Found, NoMemory>
+    requires domains { AreDomainsOf cond.now domains.now }
+    requires symbols { symbols.now ≡ coupled_symbols cond.now }
+    requires few { length symbols.now ≤ 64 }
+    ensures { IfOk result (IsFound cond.now) }
+{
+    facts();
+    cond.formulas_are_typed();
+    let problem = Problem::of(alloc, cond, domains, symbols)?;
+    if problem.choices.len() > u32::MAX as usize {
+        return Err(NoMemory);
+    }
+    match find_least(alloc, problem.choices.as_slice(), symbols.len() as u32) {
+        Err(_) => Err(NoMemory),
+        Ok(Outcome::Least { values }) => Ok(Found::Integers { values }),
+        Ok(Outcome::Refuted { steps }) => {
+            let refutation = refutation_of(alloc, problem.origins.as_slice(), steps)?;
+            Ok(Found::Refuted { refutation })
+        }
+    }
+}
+
+/// What decides the cases, where these are the coupled symbols: found by raising values, where there is one choice of cases alone.
+fn find(
+    alloc: Global,
+    cond: &PathCond,
+    domains: &Domains,
+    symbols: &[SymId],
+) -> Result<Found, NoMemory>
+    requires domains { AreDomainsOf cond.now domains.now }
+    requires symbols { symbols.now ≡ coupled_symbols cond.now }
+    requires few { length symbols.now ≤ 64 }
+    ensures { IfOk result (IsFound cond.now) }
+{
+    match find_by_raising(alloc, cond, domains, symbols)? {
+        Some(found) => Ok(found),
+        None => find_by_cases(alloc, cond, domains, symbols),
+    }
 }
 
 /// Decides a condition by its cases, where no constant formula is broken, these are the coupled symbols, and these are the
@@ -45,20 +93,12 @@ pub(crate) fn solve_cases(
 {
     facts();
     cond.formulas_are_typed();
-    let problem = Problem::of(alloc, cond, domains, symbols)?;
-    if problem.choices.len() > u32::MAX as usize {
-        return Err(NoMemory);
-    }
-    match find_least(alloc, problem.choices.as_slice(), symbols.len() as u32) {
-        Err(_) => Err(NoMemory),
-        Ok(Outcome::Least { values: integers }) => {
+    match find(alloc, cond, domains, symbols)? {
+        Found::Refuted { refutation } => Ok(Solved::Refuted { refutation }),
+        Found::Integers { values: integers } => {
             let mut values = leasts;
             put_integers(&mut values, symbols, integers.as_slice());
             Ok(Solved::Values { values })
-        }
-        Ok(Outcome::Refuted { steps }) => {
-            let refutation = refutation_of(alloc, problem.origins.as_slice(), steps)?;
-            Ok(Solved::Refuted { refutation })
         }
     }
 }

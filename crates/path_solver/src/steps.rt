@@ -8,7 +8,7 @@ use case_search::Step;
 use refutation_check::{Listed, Refutation, Refute};
 use std::alloc::{AllocError, Global};
 
-fn refute_of(origin: Origin) -> Refute
+pub(crate) fn refute_of(origin: Origin) -> Refute
     ensures { result ≡ refute_of origin }
 {
     match origin {

@@ -1,9 +1,10 @@
 //! Unknowns of bounds, for the symbols of a list.
 
-ghost use Rattle.std.specs.Prelude.{◌≡◌, ◌<◌, ◌≤◌, length, IfOk};
+ghost use Rattle.std.specs.Prelude.{◌≡◌, ◌<◌, ◌≤◌, List, length, IfOk, IfSome};
 ghost use Rattle.path_cases.specs.Bounds.{lists_of};
 ghost use Rattle.case_search.specs.Choices.{cases_of};
-ghost use Rattle.path_solver.specs.Unknowns.{unknown_of, bound_of, case_of, choice_of};
+ghost use Rattle.path_solver.specs.Unknowns.{IsTableOf, unknown_of, bound_of, case_of, choice_of};
+ghost use Rattle.sn_width.specs.declared.ids.SymId.{SymId as Symbol};
 
 use case_search::Choice;
 use difference_solver::Bound;
@@ -63,4 +64,48 @@ pub(crate) fn choice_of(
         renamed.push(case_of(alloc, symbols, case.as_slice())?)?;
     }
     Ok(Choice { cases: renamed })
+}
+
+/// The unknown of each symbol at its place, counted from 1 in the order of the list, and 0 for a symbol that is none of it; so
+/// that the list is not gone through for each bound. `None` where the list has a symbol that is not below the count.
+pub(crate) fn table_of(
+    alloc: Global,
+    symbols: &[SymId],
+    count: u64,
+) -> Result<Option<Vec<u32>>, NoMemory>
+    requires { length symbols.now ≤ 64 }
+    ensures { IfOk result (λ found. IfSome found (λ table. IsTableOf symbols.now table.items)) }
+{
+    let mut table = vec![in alloc; 0u32; count as usize]?;
+    for step in 0..symbols.len() {
+        // from the last on, so that the first of equal ones stays
+        let place = symbols.len() - 1 - step;
+        let symbol = symbols[place];
+        if symbol.0 >= table.len() as u64 {
+            return Ok(None);
+        }
+        table[symbol.0 as usize] = place as u32 + 1;
+    }
+    Ok(Some(table))
+}
+
+/// The unknown of a symbol, by the table of the symbols.
+fn unknown_in(table: &[u32], symbol: Option<SymId>) -> u32
+    ensures { (symbols : List Symbol) → IsTableOf symbols table.now → result ≡ unknown_of symbols symbol }
+{
+    match symbol {
+        None => 0,
+        Some(symbol) => table.get(symbol.0 as usize).copied().unwrap_or(0),
+    }
+}
+
+/// The bound, by the table of the symbols.
+pub(crate) fn bound_in(table: &[u32], bound: &SymBound) -> Bound
+    ensures { (symbols : List Symbol) → IsTableOf symbols table.now → result ≡ bound_of symbols bound.now }
+{
+    Bound {
+        plus: unknown_in(table, bound.plus),
+        minus: unknown_in(table, bound.minus),
+        at_most: bound.at_most,
+    }
 }

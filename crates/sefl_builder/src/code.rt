@@ -44,6 +44,7 @@ fn read_instrs(words: &mut Cursor, version: Version, room: u32) -> Result<Vec<In
     let mut found = Vec::new(words.alloc());
     for _ in 0..words.count() {
         if words.begins_with("}") {
+            found.shrink_to_fit();
             return Ok(found);
         }
         let instr = read_instr(words, version, room)?;

@@ -3,12 +3,8 @@ use Rattle.std.proofs.Common.{◌<◌, ◌≤◌, ℕ, List, None, arith}
 use Rattle.std.specs.Option.{ForSome}
 use Rattle.sn_edge.specs.Loaded.{IfBytes, OnAbsent, OnTooBig, OnFailed}
 use Rattle.sn_edge.specs.DirFolder.{FolderCounts, after_answer}
-use Rattle.sn_edge.specs.OutSink.{faults_after}
-use Rattle.sn_edge.specs.Put as put
 use Rattle.sn_edge.specs.declared.folder.Loaded.{Loaded}
 use Rattle.sn_edge.specs.declared.folder.Loaded.TheVariants.{Bytes, Absent, TooBig, Failed, NoMemory}
-use Rattle.sn_edge.specs.declared.sink.Put.{Put}
-use Rattle.sn_edge.specs.declared.sink.Put.TheVariants as variants
 
 -- nothing is told, so each fact of it holds
 pub untold : {A : Type 0} (P : A → Type 0) → ForSome None P
@@ -55,18 +51,3 @@ counts old Failed =
     record { faults_stay = omega arith; misses_stay = omega arith; excesses_stay = omega arith; failed = omega arith; absent = tt; too_big = tt }
 counts old NoMemory =
     record { faults_stay = omega arith; misses_stay = omega arith; excesses_stay = omega arith; failed = tt; absent = tt; too_big = tt }
-
-pub at_all : (answer : Put) {P : Type 0} → P → put.OnAll answer P
-at_all variants.All p = p
-at_all variants.Failed p = tt
-at_all variants.NoMemory p = tt
-
-pub at_no_memory : (answer : Put) {P : Type 0} → P → put.OnNoMemory answer P
-at_no_memory variants.All p = tt
-at_no_memory variants.Failed p = tt
-at_no_memory variants.NoMemory p = p
-
-pub put_counts : (old : ℕ) (answer : Put) → (old ≤ faults_after old answer) × put.OnFailed answer (old < faults_after old answer)
-put_counts old variants.All = (omega arith, tt)
-put_counts old variants.Failed = (omega arith, omega arith)
-put_counts old variants.NoMemory = (omega arith, tt)

@@ -9,3 +9,4 @@ pub mod MemSink
 pub mod MemPatterns
 pub mod DirFolder
 pub mod OutSink
+pub mod Output

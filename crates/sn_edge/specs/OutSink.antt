@@ -1,10 +1,7 @@
--- The output of the program.
-use Rattle.std.specs.Prelude.{ℕ, ◌+◌}
-use Rattle.sn_edge.specs.declared.sink.Put.{Put}
-use Rattle.sn_edge.specs.declared.sink.Put.TheVariants.{All, Failed, NoMemory}
+-- The output of the program as a sink.
+use Rattle.std.specs.Prelude.{ℕ}
 
--- the count of faults after a put that answers so
-abbrev pub faults_after : ℕ → Put → ℕ
-faults_after faults All = faults
-faults_after faults Failed = faults + 1
-faults_after faults NoMemory = faults
+-- the output, and how often a put failed
+pub record OutState (W : Type 0) : Type 0 where
+  pub output : W
+  pub faults : ℕ

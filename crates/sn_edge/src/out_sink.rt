@@ -1,50 +1,45 @@
-//! The output of the program.
-ghost use Rattle.std.specs.Prelude.{◌≡◌, None};
-ghost use Rattle.sn_edge.specs.OutSink.{faults_after};
+//! The output of the program as a sink.
+ghost use Rattle.std.specs.Prelude.{◌≡◌};
 
-use crate::count::raise;
-use crate::transfer::write_whole;
-use crate::{Put, Sink};
-use std::io;
+use crate::output::write_whole;
+use crate::{Output, Put, Sink};
 use std::marker::Model;
 
-/// What a runtime prints. It tells nothing of the bytes that were taken.
+/// An output as a sink. It tells of the bytes that it took what the output tells.
 #[derive(Drop)]
-pub struct OutSink<'a, R> {
-    rt: &'a R,
+pub struct OutSink<W> {
+    output: W,
     faults: u64,
 }
 
-impl<'a, R> Model for OutSink<'a, R> {
-    ghost use Rattle.std.specs.Prelude.{ℕ};
+impl<W> Model for OutSink<W> {
+    ghost use Rattle.sn_edge.specs.OutSink.{OutState};
 
-    ghost Value = { ℕ };
+    ghost Value = { OutState W };
 
-    ghost view = { λ s. s.faults };
+    ghost view = { λ s. record { output = s.output; faults = s.faults } };
 }
 
-impl<'a, R> OutSink<'a, R> {
-    /// The output of `rt`.
-    pub fn new(rt: &'a R) -> OutSink<'a, R>
-        ensures { result ≡ 0 }
+impl<W: Drop> OutSink<W> {
+    /// What goes to this output.
+    pub fn new(output: W) -> OutSink<W>
+        ensures { result ≡ record { output = output; faults = 0 } }
     {
-        OutSink { rt, faults: 0 }
+        OutSink { output, faults: 0 }
     }
 }
 
-impl<R: Print> Sink for OutSink<'_, R> {
-    ghost told = { λ s. record { taken = None; faults = s } };
+impl<W: Output> Sink for OutSink<W> {
+    ghost told = { λ s. record { taken = W.contents s.output; faults = s.faults } };
 
-    fn put(&mut self, piece: &[u8]) -> Put
-        ensures next { self.new ≡ faults_after self.old result }
-    {
-        if write_whole(&mut io::writer(self.rt), piece) {
+    fn put(&mut self, piece: &[u8]) -> Put {
+        if self.faults == u64::MAX {
+            return Put::NoMemory;
+        }
+        if write_whole(&mut self.output, piece) {
             return Put::All;
         }
-        if raise(&mut self.faults) {
-            Put::Failed
-        } else {
-            Put::NoMemory
-        }
+        self.faults += 1;
+        Put::Failed
     }
 }

@@ -1,12 +1,11 @@
-//! Loops over a reader and a writer.
-ghost use Rattle.std.specs.Prelude.{◌≡◌, ◌<◌, ◌≤◌, ◌+◌, ℕ, List, length, IsTrue};
-ghost use Rattle.std.specs.Io.KnownBytes.{Appends, Consumes, IsAtEnd};
+//! The loop over a reader.
+ghost use Rattle.std.specs.Prelude.{◌≡◌, ◌<◌, ◌≤◌, ◌+◌, ℕ, List, length};
+ghost use Rattle.std.specs.Io.KnownBytes.{Consumes, IsAtEnd};
 ghost use Rattle.sn_edge.specs.Loaded.{IfBytes, OnAbsent, OnTooBig};
-ghost use Rattle.sn_edge.specs.Pieces.{IsPrefix};
 
 use crate::Loaded;
 use std::alloc::Global;
-use std::io::{Read, Write};
+use std::io::Read;
 
 // How many bytes a read asks for at most. Its buffer stands on the stack, which may be small.
 const CHUNK: usize = 8192;
@@ -36,19 +35,4 @@ pub(crate) fn read_whole<R: Read>(alloc: Global, reader: &mut R, limit: u64) -> 
             return Loaded::NoMemory;
         }
     }
-}
-
-// Writes the piece, and answers whether all of it was taken. A write that takes nothing has failed.
-pub(crate) fn write_whole<W: Write>(writer: &mut W, piece: &[u8]) -> bool
-    ensures all { IsTrue result → Appends (W.contents writer.old) (W.contents writer.new) piece.now }
-    ensures part { (part : List ℕ) × IsPrefix part piece.now × Appends (W.contents writer.old) (W.contents writer.new) part }
-{
-    let mut rest = piece;
-    while !rest.is_empty() {
-        match writer.write(rest) {
-            Ok(0) | Err(_) => return false,
-            Ok(count) => rest = &rest[count..],
-        }
-    }
-    true
 }

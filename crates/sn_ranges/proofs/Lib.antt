@@ -1,4 +1,5 @@
 pub mod FaultLemmas
 pub mod RangesLemmas
+pub mod Windows
 pub mod SameSet
 pub mod TestSets

@@ -1,4 +1,4 @@
-use Rattle.std.specs.Prelude.{◌≡◌, ℕ, ◌+◌, ◌^◌, ◌≤◌, Bool, true, ◌&&◌, nat_le, nat_lt, List, [], ◌∷◌}
+use Rattle.std.specs.Prelude.{◌≡◌, ℕ, ◌+◌, ◌^◌, ◌<◌, ◌≤◌, Bool, true, ◌&&◌, ◌||◌, nat_le, nat_lt, List, [], ◌∷◌, length, slice_index_or}
 use Rattle.std.specs.List.{list_any}
 use Rattle.sn_width.specs.Width.{FitsWidth}
 
@@ -58,3 +58,15 @@ StartFrom least (range ∷ rest) = (least ≤ range.0) × (range.0 ≤ range.1) 
 unfoldable pub last_start : ℕ → List Range → ℕ
 last_start none [] = none
 last_start none (range ∷ rest) = last_start range.0 rest
+
+-- the ranges that end in a window before its last number, and those behind them, of ascending ranges
+pub record IsCut (ranges : List Range) (window : Range) (inside rest : List Range) : Type 0 where
+  pub ascending : AscendFrom 0 inside
+  pub rest_ascending : AscendFrom 0 rest
+  pub starts : (k : ℕ) → k < length inside → window.0 ≤ (slice_index_or inside k (0, 0)).1
+  pub ends : (k : ℕ) → k < length inside → (slice_index_or inside k (0, 0)).1 < window.1
+  pub apart : (k : ℕ) → k < length inside → 0 < length rest → (slice_index_or inside k (0, 0)).1 < (slice_index_or rest 0 (0, 0)).0
+  pub rest_ends : 0 < length rest → window.1 ≤ (slice_index_or rest 0 (0, 0)).1
+  pub members : (value : ℕ) → (is_member ranges value && in_range window value)
+      ≡ ((is_member inside value && in_range window value) || (is_member rest value && in_range window value))
+  pub beyond : (value : ℕ) → window.1 < value → is_member rest value ≡ is_member ranges value

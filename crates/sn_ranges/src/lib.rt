@@ -7,6 +7,7 @@ pub mod laws;
 mod meet;
 mod merge;
 mod ranges;
+mod search;
 mod shift;
 
 pub use fault::RangeFault;

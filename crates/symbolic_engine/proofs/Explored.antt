@@ -86,7 +86,7 @@ module _ (net : Network) (i : Entry) (hops : ℕ) where
         let exact = laws.exact s limit (Trees h.items) is h.exact in
         record { items = h.items; stands = h.stands; exact = exact; untried = h.untried; spent = spent_for s exact.start (Trees h.items) before after is exact.explored h.spent }
     explored_for B origin (Ok Stopped) h =
-        let exact = laws.up_to s (Trees h.items) (handed_tree h.last) is h.exact in
+        let exact = laws.up_to s limit (Trees h.items) (handed_tree h.last) is h.exact in
         record {
           items = h.items;
           last = h.last;
@@ -95,7 +95,7 @@ module _ (net : Network) (i : Entry) (hops : ℕ) where
           cause = h.cause;
           spent = spent_for s exact.start (Trees (h.items ++ h.last ∷ [])) before after is exact.explored h.spent;
         }
-    explored_for B origin (Err e) h = record { items = h.items; stands = h.stands; exact = laws.so_far s (Trees h.items) is h.exact }
+    explored_for B origin (Err e) h = record { items = h.items; stands = h.stands; exact = laws.so_far s limit (Trees h.items) is h.exact }
 
 -- ---- where decisions lead
 

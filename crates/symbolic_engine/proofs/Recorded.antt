@@ -54,11 +54,11 @@ module _ (net : Network) (i : Entry) (hops limit before after : ℕ) where
   Partial' xs = (exact : AreExactFor net i hops limit xs) × SomeOne IsUnexplored xs × (after ≤ before + work_of exact.start xs)
 
   abbrev UpTo' : List RecordTree → RecordTree → Type 0
-  UpTo' xs x = (exact : AreExactUpToFor net i hops xs x) × (after ≤ before + work_of exact.start (xs ++ x ∷ []))
+  UpTo' xs x = (exact : AreExactUpToFor net i hops limit xs x) × (after ≤ before + work_of exact.start (xs ++ x ∷ []))
 
   stopped_by : (m : Receiving Record) (stops : ℕ) (xs : List RecordTree) (x : RecordTree) (front : List Record) (last : Record)
       → record_trees front ++ record_tree last ∷ [] ≡ xs ++ x ∷ [] → UpTo' xs x → m.StoppedIn (front ++ last ∷ []) → stops < m.stops
-      → EndsStoppedFor net i hops stops m before after
+      → EndsStoppedFor net i hops limit stops m before after
   stopped_by m stops xs x front last e exact stopped cause =
       let (fronts, ends) = same_from_push (record_trees front) xs (record_tree last) x e in
       let t = subst (λ ys. UpTo' ys (record_tree last)) (sym fronts) (subst (UpTo' xs) (sym ends) exact) in
@@ -99,7 +99,7 @@ module _ (net : Network) (i : Entry) (hops limit before after : ℕ) where
         ]
     recorded_for stops (Err e) h =
         let k = stands h.items h.stands in
-        record { items = k.records; stands = k.are; exact = subst (AreExactSoFarFor net i hops) (sym k.same) h.exact }
+        record { items = k.records; stands = k.are; exact = subst (AreExactSoFarFor net i hops limit) (sym k.same) h.exact }
 
   -- ---- where records are made for a receiver of them
   module _ (m : Receiving Record) (known name : ℕ) where

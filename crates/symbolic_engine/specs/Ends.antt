@@ -28,24 +28,24 @@ module _ {T : Type 0} (tree : T → RecordTree) (net : Network) (i : Entry) (hop
     pub untried : SomeOne IsUnexplored (map tree items)
     pub spent : after ≤ before + work_of exact.start (map tree items)
 
-  -- it stopped in records that are exact up to the last one
-  pub record EndsStopped (stops : ℕ) (m : Receiving T) (before after : ℕ) : Type 0 where
+  -- it stopped in records that are exact up to the last one, within the limit
+  pub record EndsStopped (limit stops : ℕ) (m : Receiving T) (before after : ℕ) : Type 0 where
     pub items : List T
     pub last : T
     pub stopped : m.StoppedIn (items ++ last ∷ [])
-    pub exact : AreExactUpToFor net i hops (map tree items) (tree last)
+    pub exact : AreExactUpToFor net i hops limit (map tree items) (tree last)
     pub cause : stops < m.stops
     pub spent : after ≤ before + work_of exact.start (map tree (items ++ last ∷ []))
 
-  -- it stands for records that are exact so far
-  pub record EndsEarly (m : Receiving T) : Type 0 where
+  -- it stands for records that are exact so far, within the limit
+  pub record EndsEarly (limit : ℕ) (m : Receiving T) : Type 0 where
     pub items : List T
     pub stands : m.StandsFor items
-    pub exact : AreExactSoFarFor net i hops (map tree items)
+    pub exact : AreExactSoFarFor net i hops limit (map tree items)
 
   -- how an exploration ends, where the receiver had stopped so often before it
   abbrev pub EndsSo : {E : Type 0} → ℕ → ℕ → Receiving T → ℕ → ℕ → Result Ended E → Type 0
   EndsSo limit stops m before after (Ok Whole) = EndsWhole limit m before after
   EndsSo limit stops m before after (Ok Partial) = EndsPartial limit m before after
-  EndsSo limit stops m before after (Ok Stopped) = EndsStopped stops m before after
-  EndsSo limit stops m before after (Err e) = EndsEarly m
+  EndsSo limit stops m before after (Ok Stopped) = EndsStopped limit stops m before after
+  EndsSo limit stops m before after (Err e) = EndsEarly limit m

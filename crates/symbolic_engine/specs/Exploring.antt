@@ -35,11 +35,11 @@ abbrev pub EndsPartialFor : Network → Entry → ℕ → ℕ → Receiving Reco
 EndsPartialFor = EndsPartial record_tree
 
 -- it stopped in records that are exact up to the last one
-abbrev pub EndsStoppedFor : Network → Entry → ℕ → ℕ → Receiving Record → ℕ → ℕ → Type 0
+abbrev pub EndsStoppedFor : Network → Entry → ℕ → ℕ → ℕ → Receiving Record → ℕ → ℕ → Type 0
 EndsStoppedFor = EndsStopped record_tree
 
 -- it stands for records that are exact so far
-abbrev pub EndsEarlyFor : Network → Entry → ℕ → Receiving Record → Type 0
+abbrev pub EndsEarlyFor : Network → Entry → ℕ → ℕ → Receiving Record → Type 0
 EndsEarlyFor = EndsEarly record_tree
 
 -- how an exploration ends, where the receiver had stopped so often before it

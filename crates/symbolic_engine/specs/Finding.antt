@@ -23,3 +23,10 @@ values_in (Sat values) = Some values
 values_in (Undecided (Outside pick values)) = Some values
 values_in (Undecided (Cases count)) = None
 values_in (Undecided (Coupled count)) = None
+
+-- the outside formula that a verdict says to be broken
+abbrev pub broken_in : Verdict → Option ℕ
+broken_in (Sat values) = None
+broken_in (Undecided (Outside pick values)) = Some pick
+broken_in (Undecided (Cases count)) = None
+broken_in (Undecided (Coupled count)) = None

@@ -5,7 +5,7 @@ ghost use Rattle.path_cond.specs.Seen.{seen};
 ghost use Rattle.path_formula.specs.View.{view};
 ghost use Rattle.path_solver.specs.Bases.{IsBaseOf};
 ghost use Rattle.exact_records.specs.Spots.{IsKnown};
-ghost use Rattle.symbolic_engine.specs.Finding.{IsFoundOf, values_in};
+ghost use Rattle.symbolic_engine.specs.Finding.{IsFoundOf, values_in, broken_in};
 ghost use Rattle.symbolic_engine.specs.Origins.{condition_seen};
 
 use case_counts::formula_count;
@@ -59,6 +59,20 @@ fn values_in(verdict: &Verdict) -> Option<&Listed<Num>>
     }
 }
 
+/// The outside formula that a verdict says to be broken.
+fn broken_in(verdict: &Verdict) -> Option<u32>
+    ensures { result ≡ broken_in verdict.now }
+{
+    match verdict {
+        Verdict::Sat { .. } => None,
+        Verdict::Undecided { cause } => match cause {
+            Cause::Outside { pick, .. } => Some(*pick),
+            Cause::Cases { .. } => None,
+            Cause::Coupled { .. } => None,
+        },
+    }
+}
+
 /// The base that is known where this was found of the condition, or of it without its last symbols.
 pub(crate) fn base_of(
     alloc: Global,
@@ -76,5 +90,10 @@ pub(crate) fn base_of(
     };
     let formulas = formula_count(condition)?;
     let least = values.copy(alloc)?;
-    Ok(Some(Base { formulas, least }))
+    let broken = broken_in(before);
+    Ok(Some(Base {
+        formulas,
+        least,
+        broken,
+    }))
 }

@@ -8,15 +8,12 @@ use Rattle.run_answers.specs.Outside.{Outside, Tells, World, world}
 use Rattle.run_answers.specs.Runs.{OwnWork}
 use Rattle.run_answers.specs.Status.{input_status}
 use Rattle.run_answers.specs.declared.status.Status.{Status}
-use Rattle.run_answers.specs.declared.status.Status.TheVariants.{Done, Partial, Usage, NoFile, ReadFault, WriteFault, TooBig, Syntax, BadPattern, Refused, BadTable, BadPacket, BadReport, BadAsk}
-use Rattle.command_edge.specs.declared.ending.Ending.{Ending}
-use Rattle.command_edge.specs.declared.ending.Ending.TheVariants as ending
+use Rattle.run_answers.specs.declared.status.Status.TheVariants.{Usage, NoFile, ReadFault, WriteFault, TooBig, Syntax, BadPattern, Refused, BadTable, BadPacket, BadReport, BadAsk}
 use Rattle.command_edge.specs.declared.fault.InputFault.{InputFault}
-use Rattle.command_words.specs.Commands.{Command, explore, read_command}
-use Rattle.command_words.specs.declared.command.Pruned.{Pruned}
-use Rattle.symnet_program.specs.Commands.{inputs, sides_of, work}
-use Rattle.symnet_program.specs.Headline.{TellsJob}
-use Rattle.symnet_program.specs.Program.{Cause, IsAnswered, IsCaused, MayWrite, Shown}
+use Rattle.command_words.specs.Commands.{Command, read_command}
+use Rattle.symnet_program.specs.Commands.{inputs, work}
+use Rattle.symnet_program.specs.Program.{Cause, IsAnswered, IsCaused, Shown}
+use Rattle.symnet_program.specs.Run.{IsRun}
 use Rattle.symnet_program.specs.Told.{MayBeUnread}
 use Rattle.symnet_c.specs.Calls.{BlamesInput, IsShown, Ran, RanAfter, around, listed_world, regex_told}
 
@@ -50,18 +47,6 @@ answered o u v is w (BadAsk number kind) shown cause none = absurd (none (BadAsk
 answered o u v is w status shown cause none = tt
 
 module _ (words : List (List ℕ)) (before after : GivenState) (status : Status) (old new : List ℕ) (u v : ℕ) where
-  -- an exploration that ended so wrote a report that tells this of the job
-  abbrev IsTold : Status → Ending → Type 0
-  IsTold wanted how = (job : List ℕ) (hops limit : ℕ) (pruned : Pruned) → read_command words ≡ Some (explore job hops limit pruned) → status ≡ wanted
-      → (whole : List ℕ) × TellsJob (around before.entries) u v job hops limit (sides_of pruned) how whole × (Some new ≡ append_known (Some old) whole)
-
-  told_of : (wanted : Status) (how : Ending) → old ≡ [] → IsTold wanted how → (job : List ℕ) (hops limit : ℕ) (pruned : Pruned)
-      → read_command words ≡ Some (explore job hops limit pruned) → status ≡ wanted
-      → TellsJob (around before.entries) u v job hops limit (sides_of pruned) how new
-  told_of wanted how none told job hops limit pruned named is =
-      let (whole, tells, grows) = told job hops limit pruned named is in
-      subst (λ (text : List ℕ). TellsJob (around before.entries) u v job hops limit (sides_of pruned) how text) (all_gained old new whole none grows) tells
-
   -- where no input is to blame, the command ran to its end
   completes : IsShown u v status → IsCaused (around before.entries) u v (read_command words) status → (command : Command) → read_command words ≡ Some command
       → ((blamed : Status) → BlamesInput blamed → Cause (around before.entries) u v (inputs command) (work command) blamed → ⊥) → IsAnswered status
@@ -69,26 +54,23 @@ module _ (words : List (List ℕ)) (before after : GivenState) (status : Status)
       answered (around before.entries) u v (inputs command) (work command) status shown
       (subst (λ (read : Option Command). IsCaused (around before.entries) u v read status) named cause) none
 
-  pub ran : u ≡ 0 → old ≡ [] → IsCaused (around before.entries) u v (read_command words) status
+  pub ran : u ≡ 0 → old ≡ []
+      → ((part : List ℕ) → IsRun (around before.entries) u v (read_command words) status part
+      → IsCaused (around before.entries) u v (read_command words) status)
       → Shown (files_told before) (files_told after) (regex_told u) (regex_told v) (output_told old) (output_told new) status
-      → ((part : List ℕ) × MayWrite (around before.entries) u v (read_command words) status part × (Some new ≡ append_known (Some old) part))
-      → IsTold Done ending.Done
-      → IsTold Partial ending.Partial
+      → ((part : List ℕ) × IsRun (around before.entries) u v (read_command words) status part × (Some new ≡ append_known (Some old) part))
       → ((w : World) → Tells (Some (file_at before.entries)) (regex_told u) w → IsCaused (world w) tt tt (read_command words) status)
       → ((command : Command) (w : World) (fault : InputFault) → read_command words ≡ Some command → Tells (Some (file_at before.entries)) (regex_told u) w
       → FirstFails (world w) tt (inputs command) fault tt → IsSettled w fault → (status ≡ input_status fault) ⊎ MayBeUnread w status)
       → Ran words before.entries status new
-  ran fresh none cause shown (part, writes, grows) headline partial told exact =
+  ran fresh none causes shown (part, run, grows) told exact =
       let tells : Tells (Some (file_at before.entries)) (regex_told u) (listed_world before.entries) = record { files_told = refl; finds_told = refl; bad_told = refl } in
       let is_shown : IsShown u v status = shown_of before after u v old new status shown in
       let all : RanAfter u words before.entries status new = record {
         refusals = v;
-        cause = cause;
+        run = subst (λ (text : List ℕ). IsRun (around before.entries) u v (read_command words) status text) (all_gained old new part none grows) run;
         shown = is_shown;
-        writes = subst (λ (text : List ℕ). MayWrite (around before.entries) u v (read_command words) status text) (all_gained old new part none grows) writes;
-        headline = told_of Done ending.Done none headline;
-        partial = told_of Partial ending.Partial none partial;
         told = told (listed_world before.entries) tells;
         exact = λ command fault named fails settled. exact command (listed_world before.entries) fault named tells fails settled;
-        complete = completes is_shown cause;
+        complete = completes is_shown (causes part run);
       } in subst (λ (refused : ℕ). RanAfter refused words before.entries status new) fresh all

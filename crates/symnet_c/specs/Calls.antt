@@ -8,14 +8,12 @@ use Rattle.run_answers.specs.Inputs.{FirstFails, IsSettled}
 use Rattle.run_answers.specs.Outside.{Outside, World, outside, world}
 use Rattle.run_answers.specs.Status.{input_status, number_of}
 use Rattle.run_answers.specs.declared.status.Status.{Status}
-use Rattle.run_answers.specs.declared.status.Status.TheVariants.{Done, Partial, NoFile, ReadFault, WriteFault, TooBig, BadPattern}
-use Rattle.command_edge.specs.declared.ending.Ending.TheVariants as ending
+use Rattle.run_answers.specs.declared.status.Status.TheVariants.{NoFile, ReadFault, WriteFault, TooBig, BadPattern}
 use Rattle.command_edge.specs.declared.fault.InputFault.{InputFault}
-use Rattle.command_words.specs.Commands.{Command, explore, read_command}
-use Rattle.command_words.specs.declared.command.Pruned.{Pruned}
-use Rattle.symnet_program.specs.Commands.{inputs, sides_of, work}
-use Rattle.symnet_program.specs.Headline.{TellsJob}
-use Rattle.symnet_program.specs.Program.{Cause, IsAnswered, IsCaused, MayWrite, RefusesInput}
+use Rattle.command_words.specs.Commands.{Command, read_command}
+use Rattle.symnet_program.specs.Commands.{inputs, work}
+use Rattle.symnet_program.specs.Program.{Cause, IsAnswered, IsCaused, RefusesInput}
+use Rattle.symnet_program.specs.Run.{IsRun}
 use Rattle.symnet_program.specs.Told.{MayBeUnread}
 use Rattle.caller_edge.specs.Lists.{HasFiles, HasTexts}
 
@@ -52,13 +50,8 @@ module _ (entries : List (List ℕ × List ℕ)) where
 pub record RanAfter (before : ℕ) (words : List (List ℕ)) (entries : List (List ℕ × List ℕ)) (status : Status) (written : List ℕ) : Type 0 where
   -- how many patterns were refused then
   pub refusals : ℕ
-  pub cause : IsCaused (around entries) before refusals (read_command words) status
+  pub run : IsRun (around entries) before refusals (read_command words) status written
   pub shown : IsShown before refusals status
-  pub writes : MayWrite (around entries) before refusals (read_command words) status written
-  pub headline : (job : List ℕ) (hops limit : ℕ) (pruned : Pruned) → read_command words ≡ Some (explore job hops limit pruned) → status ≡ Done
-      → TellsJob (around entries) before refusals job hops limit (sides_of pruned) ending.Done written
-  pub partial : (job : List ℕ) (hops limit : ℕ) (pruned : Pruned) → read_command words ≡ Some (explore job hops limit pruned) → status ≡ Partial
-      → TellsJob (around entries) before refusals job hops limit (sides_of pruned) ending.Partial written
   pub told : IsCaused (world (listed_world entries)) tt tt (read_command words) status
   pub exact : (command : Command) (fault : InputFault) → read_command words ≡ Some command
       → FirstFails (world (listed_world entries)) tt (inputs command) fault tt → IsSettled (listed_world entries) fault

@@ -10,6 +10,7 @@ use caller_edge::{GivenFiles, KeptOutput, NamedFile, put, read_files, read_texts
 use regex_patterns::RegexPatterns;
 use run_answers::Status;
 use std::alloc::{AllocError, Global};
+use symnet_program::laws::runs_tell;
 use symnet_program::symnet;
 
 /// How many bytes there are of the output, and of the message.
@@ -53,6 +54,7 @@ fn run(alloc: Global, words: &[String], folder: &mut GivenFiles, out: &mut KeptO
     requires { out.old ≡ [] }
     ensures { Ran (map string_bytes words.now) folder.old.entries result out.new }
 {
+    runs_tell::<RegexPatterns>();
     let mut patterns = RegexPatterns::new();
     symnet(alloc, words, folder, &mut patterns, out)
 }

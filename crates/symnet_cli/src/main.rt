@@ -5,7 +5,7 @@ use fault_places::{KeepingFolder, KeptFolder, is_plain, place_text, plain_text};
 use fault_words::reason_text;
 use regex_patterns::RegexPatterns;
 use run_answers::Status;
-use sn_edge::{DirFolder, OutSink};
+use sn_edge::{DirFolder, OutSink, Printed};
 use std::process::ExitCode;
 use std::rt::{Env, Files};
 use std::{env, io};
@@ -25,7 +25,7 @@ fn run_over<R: Files + Print + AllocGlobal>(
     folder: &mut KeepingFolder<DirFolder<'_, R>>,
 ) -> Status {
     let mut patterns = RegexPatterns::new();
-    let mut out = OutSink::new(rt);
+    let mut out = OutSink::new(Printed::new(rt));
     symnet(rt.alloc(), words, folder, &mut patterns, &mut out)
 }
 

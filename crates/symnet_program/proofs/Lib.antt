@@ -1,4 +1,5 @@
 pub mod ToldLemmas
+pub mod RunLemmas
 pub mod ProgramLemmas
 pub mod CaseLemmas
 pub mod OwnLemmas

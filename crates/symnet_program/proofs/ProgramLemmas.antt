@@ -1,16 +1,12 @@
 -- What a status says of a run, once for all commands.
-use Rattle.std.proofs.Common.{◌≡◌, ◌⊎◌, inl, inr, ◌∙◌, ap, sym, subst, refl, List, [], ◌∷◌, ℕ, Option, Some, None, Bool, Result, Ok, Err, arith}
-use Rattle.std.proofs.lemmas.List.{append-nil}
-use Rattle.std.proofs.lemmas.Option.{same_Some}
-use Rattle.std.specs.Io.KnownBytes.{append_known}
+use Rattle.std.proofs.Common.{◌≡◌, ◌⊎◌, inl, inr, ap, sym, subst, refl, List, ℕ, Option, Some, None, Bool, Result, Ok, Err, arith}
 use Rattle.sn_edge.specs.Told.{FolderTold, PatternsTold, SinkTold}
 use Rattle.sn_edge.specs.declared.patterns.Found.{Found}
 use Rattle.run_answers.specs.Outside.{Outside, World, Tells, outside, world}
-use Rattle.net_check.specs.Network.{Network, Entry}
-use Rattle.run_answers.specs.Inputs.{Input, Given, a_net, AllOpen, FirstFails, IsSettled}
+use Rattle.run_answers.specs.Inputs.{Input, Given, AllOpen, FirstFails, IsSettled}
 use Rattle.command_edge.specs.Files.{InputShows}
 use Rattle.command_edge.specs.Puts.{Outcome, text, refused}
-use Rattle.run_answers.specs.Runs.{OwnWork, IsRefusal, Runs, Shows}
+use Rattle.run_answers.specs.Runs.{OwnWork, Shows}
 use Rattle.command_edge.specs.declared.fault.InputFault.{InputFault}
 use Rattle.command_edge.specs.declared.fault.InputFault.TheVariants as input
 use Rattle.command_edge.specs.declared.fault.OwnFault.{OwnFault}
@@ -22,83 +18,13 @@ use Rattle.command_edge.specs.declared.ending.Stop.TheVariants.{Input as ByInput
 use Rattle.symnet_program.proofs.ToldLemmas.{first_told, all_told}
 use Rattle.run_answers.specs.Status.{input_status, own_status, status_of}
 use Rattle.symnet_program.specs.Told.{MayBeUnread}
-use Rattle.symnet_program.specs.Commands.{inputs, sides_of, work}
-use Rattle.explore_command.specs.Headline.{MayBeShown}
-use Rattle.explore_command.specs.Laws.{ReportsTellWalks}
-use Rattle.symnet_program.specs.Headline.{TellsJob}
-use Rattle.command_words.specs.Commands.{Command, HasRanges, explore}
-use Rattle.command_words.specs.declared.command.Pruned.{Pruned}
-use Rattle.symnet_program.specs.Program.{Cause, Comes, IsAnswered, IsCaused, MayWrite, RefusesInput, Shown, Stops, Writes}
+use Rattle.symnet_program.specs.Commands.{inputs, work}
+use Rattle.command_words.specs.Commands.{Command}
+use Rattle.symnet_program.specs.Program.{Cause, Comes, IsAnswered, IsCaused, RefusesInput, Shown, Stops}
 use Rattle.run_answers.specs.declared.status.Status.{Status}
 use Rattle.run_answers.specs.declared.status.Status.TheVariants.{Done, NoMemory, Usage, NoFile, ReadFault, WriteFault, TooBig, Syntax, BadPattern, Refused, BadTable, BadPacket, Partial, TooMany, BadReport, NotConfirmed, BadAsk, BadCompare}
 
-gains_nothing : (known now : Option (List ℕ)) → now ≡ known → now ≡ append_known known []
-gains_nothing None now same = same
-gains_nothing (Some xs) now same = same ∙ ap Some (sym (append-nil xs))
-
 module _ {S : Type 0} (o : Outside S) (u v : S) (is : List Input) (w : OwnWork) where
-  -- ---- causes
-
-  cause_input : (fault : InputFault) → Stops o u v is w fault → Cause o u v is w (input_status fault)
-  cause_input (input.NoFile name) h = h
-  cause_input (input.ReadFault name) h = h
-  cause_input (input.TooBig name) h = h
-  cause_input (input.Syntax line column kind) h = h
-  cause_input (input.BadTable name line kind) h = inl h
-  cause_input (input.BadPattern site) h = h
-  cause_input (input.Refused site kind) h = h
-  cause_input input.NoMemory h = tt
-
-  cause_own : (given : List Given) → AllOpen o u is given v → (fault : OwnFault) → IsRefusal (w.comes given) fault → Cause o u v is w (own_status fault)
-  cause_own given opened own.NoMemory h = tt
-  cause_own given opened (own.BadTable name line kind) h = inr (given, opened, h)
-  cause_own given opened (own.BadPacket kind) h = (given, opened, h)
-  cause_own given opened (own.TooMany count) h = (given, opened, h)
-  cause_own given opened (own.BadReport kind pointer) h = (given, opened, h)
-  cause_own given opened (own.NotConfirmed number kind) h = (given, opened, h)
-  cause_own given opened (own.BadAsk number kind) h = (given, opened, h)
-  cause_own given opened (own.BadCompare kind one other) h = (given, opened, h)
-
-  pub cause_of : (known now : Option (List ℕ)) (answer : Result Ending Stop) → Runs known now o u v is w answer → Cause o u v is w (status_of answer)
-  cause_of known now (Ok ending.Done) (given, opened, (whole, comes, gained)) = (whole, (given, opened, comes))
-  cause_of known now (Ok ending.Partial) (given, opened, (whole, comes, gained)) = (whole, (given, opened, comes))
-  cause_of known now (Err (ByInput fault)) h = cause_input fault h.0
-  cause_of known now (Err (Own fault)) (given, opened, h) = cause_own given opened fault h.1
-  cause_of known now (Err Write) (given, opened, h) = (given, opened)
-  cause_of known now (Err NoRoom) h = tt
-
-  nothing_input : (fault : InputFault) → Writes o u v is w (input_status fault) []
-  nothing_input input.NoMemory = inl refl
-  nothing_input (input.NoFile name) = refl
-  nothing_input (input.ReadFault name) = refl
-  nothing_input (input.TooBig name) = refl
-  nothing_input (input.Syntax line column kind) = refl
-  nothing_input (input.BadTable name line kind) = refl
-  nothing_input (input.BadPattern site) = refl
-  nothing_input (input.Refused site kind) = refl
-
-  nothing_own : (fault : OwnFault) → Writes o u v is w (own_status fault) []
-  nothing_own own.NoMemory = inl refl
-  nothing_own (own.BadTable name line kind) = refl
-  nothing_own (own.BadPacket kind) = refl
-  nothing_own (own.TooMany count) = refl
-  nothing_own (own.BadReport kind pointer) = refl
-  nothing_own (own.NotConfirmed number kind) = refl
-  nothing_own (own.BadAsk number kind) = refl
-  nothing_own (own.BadCompare kind one other) = refl
-
-  -- ---- what is written
-
-  module _ (known now : Option (List ℕ)) where
-    pub written_of : (answer : Result Ending Stop) → Runs known now o u v is w answer
-        → (part : List ℕ) × Writes o u v is w (status_of answer) part × (now ≡ append_known known part)
-    written_of (Ok ending.Done) (given, opened, (whole, comes, gained)) = (whole, (given, opened, comes), gained)
-    written_of (Ok ending.Partial) (given, opened, (whole, comes, gained)) = (whole, (given, opened, comes), gained)
-    written_of (Err (ByInput fault)) h = ([], nothing_input fault, gains_nothing known now h.1)
-    written_of (Err (Own fault)) (given, opened, h) = ([], nothing_own fault, gains_nothing known now h.0)
-    written_of (Err Write) (given, opened, (part, cut, gained)) = (part, (given, opened, cut), gained)
-    written_of (Err NoRoom) (given, opened, (part, left, gained)) = (part, inr (given, opened, left), gained)
-
   -- ---- with no count raised
 
   pub complete_of : (old new : FolderTold) (before after : PatternsTold) (held now : SinkTold) (status : Status) → Shown old new before after held now status
@@ -198,98 +124,33 @@ module _ (is : List Input) (w : OwnWork) (p : World) (decides : Decides p) (faul
   exact_of (BadAsk number kind) h = none (refused (own.BadAsk number kind)) h
   exact_of (BadCompare kind one other) h = none (refused (own.BadCompare kind one other)) h
 
--- ---- what a report tells
+-- memory ended while the words were read
+pub unread : (p : World) (said : Option Command) → IsCaused (world p) tt tt said NoMemory
+unread p None = (inr refl, refl)
+unread p (Some c) = tt
 
--- the hops and the limit of a command in its ranges may be shown
-shown_of : (c : Command) (job : List ℕ) (hops limit : ℕ) (pruned : Pruned) → c ≡ explore job hops limit pruned → HasRanges c → MayBeShown hops limit
-shown_of c job hops limit pruned is ranged = subst HasRanges is ranged
+-- ---- of the call, whose status has its cause
 
-module _ {S : Type 0} (o : Outside S) (u v : S) (job : List ℕ) (hops limit : ℕ) (pruned : Pruned) where
-  -- what was written where the report was put whole, with either ending
-  abbrev Reports : Ending → List ℕ → Type 0
-  Reports ended whole = Comes o u v (inputs (explore job hops limit pruned)) (work (explore job hops limit pruned)) (text ended whole)
+module _ {S : Type 0} (files : Option (List ℕ → Option (List ℕ))) (patterns : S → PatternsTold) (gives : S → List ℕ → List ℕ → Found → S → Type 0) (u v : S) where
+  pub told_said : (said : Option Command) (status : Status) (p : World) → IsCaused (outside files patterns gives) u v said status → Tells files (patterns u) p
+      → IsCaused (world p) tt tt said status
+  told_said None status p caused told = (caused.0, refl)
+  told_said (Some c) status p caused told = told_of files patterns gives u v (inputs c) (work c) p told status caused
 
-  pub reported : (ended : Ending) (whole : List ℕ) → MayWrite o u v (Some (explore job hops limit pruned)) (status_of (Ok ended)) whole → Reports ended whole
-  reported ending.Done whole h = h
-  reported ending.Partial whole h = h
-
-  pub job_told : MayBeShown hops limit → ((net : Network) (i : Entry) (hops : ℕ) → ReportsTellWalks net i hops) → (ended : Ending) (whole : List ℕ)
-      → Reports ended whole → TellsJob o u v job hops limit (sides_of pruned) ended whole
-  job_told shown law ended whole (given, (g, m, (j, has, net, i, taken, is), rest, (none, last), all), comes) =
-      let told = law net i hops limit (sides_of pruned) ended whole
-      (subst (λ gs. (work (explore job hops limit pruned)).comes gs (text ended whole)) (all ∙ (ap (λ x. x ∷ rest) is ∙ ap (λ r. a_net net i j.asks ∷ r) none)) comes) in record {
-        job = j;
-        in_file = has;
-        net = net;
-        injection = i;
-        accepted = subst (λ s. o.takes u j net i s) (sym last) taken;
-        headline = told;
-        read_back = told.read_back shown;
-      }
-
--- ---- memory ended while the words were read
-
-pub unread : {S : Type 0} (o : Outside S) (u : S) (said : Option Command) → IsCaused o u u said NoMemory
-unread o u None = (inr refl, refl)
-unread o u (Some c) = tt
-
-pub unwritten : {S : Type 0} (o : Outside S) (u : S) (known : Option (List ℕ)) (said : Option Command)
-    → (part : List ℕ) × MayWrite o u u said NoMemory part × (known ≡ append_known known part)
-unwritten o u known None = ([], refl, gains_nothing known known refl)
-unwritten o u known (Some c) = ([], inl refl, gains_nothing known known refl)
-
--- ---- of the call: the words said the command c, and the run of it came to the answer that the status tells
-
-module _ {S : Type 0} (files : Option (List ℕ → Option (List ℕ))) (patterns : S → PatternsTold) (gives : S → List ℕ → List ℕ → Found → S → Type 0) (u v : S)
-    (known now : Option (List ℕ)) (said : Option Command) (c : Command) (named : Some c ≡ said) (answer : Result Ending Stop) (status : Status) (tells : status ≡ status_of answer)
-    (ran : Runs known now (outside files patterns gives) u v (inputs c) (work c) answer) where
-  caused : Cause (outside files patterns gives) u v (inputs c) (work c) status
-  caused =
-      subst (Cause (outside files patterns gives) u v (inputs c) (work c)) (sym tells)
-      (cause_of (outside files patterns gives) u v (inputs c) (work c) known now answer ran)
-
-  pub cause_said : IsCaused (outside files patterns gives) u v said status
-  cause_said = subst (λ r. IsCaused (outside files patterns gives) u v r status) named caused
-
-  pub written_said : (part : List ℕ) × MayWrite (outside files patterns gives) u v said status part × (now ≡ append_known known part)
-  written_said =
-      let (part, writes, gained) = written_of (outside files patterns gives) u v (inputs c) (work c) known now answer ran in (
-        part,
-        subst (λ r. MayWrite (outside files patterns gives) u v r status part) named
-            (subst (λ s. Writes (outside files patterns gives) u v (inputs c) (work c) s part) (sym tells) writes),
-        gained,
-      )
-
-  pub headline_said : HasRanges c → ((net : Network) (i : Entry) (hops : ℕ) → ReportsTellWalks net i hops)
-      → (job : List ℕ) (hops limit : ℕ) (pruned : Pruned) (ended : Ending) → said ≡ Some (explore job hops limit pruned) → status ≡ status_of (Ok ended)
-      → (whole : List ℕ) × TellsJob (outside files patterns gives) u v job hops limit (sides_of pruned) ended whole × (now ≡ append_known known whole)
-  headline_said ranged law job hops limit pruned ended is done =
-      let (part, writes, gained) = written_said in (
-        part,
-        job_told (outside files patterns gives) u v job hops limit pruned
-            (shown_of c job hops limit pruned (same_Some c (explore job hops limit pruned) (named ∙ is)) ranged) law ended part
-            (reported (outside files patterns gives) u v job hops limit pruned ended part
-            (subst (λ r. MayWrite (outside files patterns gives) u v r (status_of (Ok ended)) part) is
-            (subst (λ s. MayWrite (outside files patterns gives) u v said s part) done writes))),
-        gained,
-      )
-
-  pub told_said : (p : World) → Tells files (patterns u) p → IsCaused (world p) tt tt said status
-  told_said p told =
-      subst (λ r. IsCaused (world p) tt tt r status) named (told_of files patterns gives u v (inputs c) (work c) p told status caused)
-
-  pub exact_said : (command : Command) (p : World) (fault : InputFault) → Decides p → said ≡ Some command → Tells files (patterns u) p
+  pub exact_said : (said : Option Command) (status : Status) (command : Command) (p : World) (fault : InputFault) → Decides p
+      → IsCaused (outside files patterns gives) u v said status → said ≡ Some command → Tells files (patterns u) p
       → FirstFails (world p) tt (inputs command) fault tt → IsSettled p fault → (status ≡ input_status fault) ⊎ MayBeUnread p status
-  exact_said command p fault decides is told fails settled =
+  exact_said said status command p fault decides caused is told fails settled =
       exact_of (inputs command) (work command) p decides fault settled fails status
-      (subst (λ r. IsCaused (world p) tt tt r status) is (told_said p told))
+      (subst (λ r. IsCaused (world p) tt tt r status) is (told_said said status p caused told))
 
-  pub complete_said : (command : Command) (old new : FolderTold) (before after : PatternsTold) (held sink : SinkTold) → said ≡ Some command
+  pub complete_said : (said : Option Command) (status : Status) (command : Command) (old new : FolderTold) (before after : PatternsTold) (held sink : SinkTold)
+      → IsCaused (outside files patterns gives) u v said status → said ≡ Some command
       → Shown old new before after held sink status → new ≡ old → sink.faults ≡ held.faults
       → ((s : Status) → RefusesInput s → Cause (outside files patterns gives) u v (inputs command) (work command) s → ⊥) → IsAnswered status
-  complete_said command old new before after held sink is shown f b good =
+  complete_said said status command old new before after held sink caused is shown f b good =
       complete_of (outside files patterns gives) u v (inputs command) (work command) old new before after held sink status shown f b good
-      (subst (λ r. IsCaused (outside files patterns gives) u v r status) is cause_said)
+      (subst (λ r. IsCaused (outside files patterns gives) u v r status) is caused)
 
 -- the counts that rose, by the status
 shown_input : (old new : FolderTold) (before after : PatternsTold) (held now : SinkTold) (fault : InputFault) → InputShows old new before after fault → Shown old new before after held now (input_status fault)

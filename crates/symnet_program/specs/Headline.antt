@@ -6,10 +6,18 @@ use Rattle.run_answers.specs.Jobs.{HasFilled}
 use Rattle.run_answers.specs.Outside.{Outside}
 use Rattle.command_edge.specs.declared.ending.Ending.{Ending}
 use Rattle.record_lines.specs.declared.lines.RefutedSides.{RefutedSides}
+use Rattle.explore_command.specs.Explores.{IsReport}
 use Rattle.explore_command.specs.Headline.{IsHeadline, IsReadBack}
 
--- The file under the name has a job, which is accepted as this net and this injection; and the text is a report with this ending
--- that tells the walks, with `hops` hops, of all packets that meet the injection. The text determines its records that are written.
+-- The records of the report tell the walks, with `hops` hops, of all packets that meet the injection. The text determines those of them that are
+-- written.
+pub record TellsWalks (net : Network) (i : Entry) (hops limit : ℕ) (sides : RefutedSides) (ending : Ending) (whole : List ℕ)
+    (report : IsReport hops limit sides net i ending whole) : Type 0 where
+  pub headline : IsHeadline net i hops limit sides ending whole report
+  pub read_back : IsReadBack net hops limit sides report.records ending whole
+
+-- The file under the name has a job, which is accepted as this net and this injection; the text is the report, with this ending, of records that are
+-- exact for these; and it tells the walks of all packets.
 pub record TellsJob {S : Type 0} (o : Outside S) (u v : S) (name : List ℕ) (hops limit : ℕ) (sides : RefutedSides) (ending : Ending)
     (whole : List ℕ) : Type 0 where
   pub job : JobTree
@@ -17,5 +25,5 @@ pub record TellsJob {S : Type 0} (o : Outside S) (u v : S) (name : List ℕ) (ho
   pub net : Network
   pub injection : Entry
   pub accepted : o.takes u job net injection v
-  pub headline : IsHeadline net injection hops limit sides ending whole
-  pub read_back : IsReadBack net hops limit sides headline.records ending whole
+  pub report : IsReport hops limit sides net injection ending whole
+  pub walks : TellsWalks net injection hops limit sides ending whole report

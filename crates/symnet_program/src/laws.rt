@@ -1,7 +1,7 @@
-//! What a status tells in a world. These functions do nothing: their contracts are the laws. With the clause `told` of
-//! `symnet` they speak of each call whose outside tells such a world.
+//! What a run tells, and what a status tells in a world. These functions do nothing: their contracts are the laws. With the
+//! clauses `ran` and `told` of `symnet` they speak of each call, and of each whose outside tells such a world.
 
-ghost use Rattle.std.specs.Prelude.{◌≡◌, ◌⊎◌, ◌<◌, ◌≤◌, ℕ, Bool, List, length, Some, None};
+ghost use Rattle.std.specs.Prelude.{◌≡◌, ◌⊎◌, ◌<◌, ◌≤◌, ℕ, Bool, List, length, Option, Some, None};
 ghost use Rattle.std.specs.Option.{ForSome};
 ghost use Rattle.sn_width.specs.declared.ids.Site.{Site};
 ghost use Rattle.sefl_syntax.specs.Trees.{JobTree};
@@ -13,24 +13,47 @@ ghost use Rattle.packet_file.specs.Packet.{packet_of};
 ghost use Rattle.run_answers.specs.Flaws.{Flaw, HasFlaw};
 ghost use Rattle.run_answers.specs.Inputs.{AllOpen, Given, IsSettled};
 ghost use Rattle.run_answers.specs.Jobs.{IsTextOf, first_bad};
-ghost use Rattle.run_answers.specs.Outside.{World, world};
+ghost use Rattle.run_answers.specs.Outside.{World, outside, world};
 ghost use Rattle.run_answers.specs.Refusals.{fault_by_rule};
+ghost use Rattle.command_edge.specs.Files.{Files};
 ghost use Rattle.command_edge.specs.Puts.{Outcome};
+ghost use Rattle.command_edge.specs.declared.ending.Ending.TheVariants as ending;
 ghost use Rattle.run_answers.specs.Tables.{FirstUnfilled, IsFilled};
 ghost use Rattle.command_edge.specs.declared.fault.InputFault.{InputFault};
 ghost use Rattle.command_edge.specs.declared.limits.TheConstants.{FILE_LIMIT};
-ghost use Rattle.symnet_program.specs.Commands.{ReadsJob, inputs, work};
-ghost use Rattle.symnet_program.specs.Program.{IsCaused};
+ghost use Rattle.symnet_program.specs.Commands.{ReadsJob, inputs, sides_of, work};
+ghost use Rattle.symnet_program.specs.Headline.{TellsJob};
+ghost use Rattle.symnet_program.specs.Program.{IsCaused, MayWrite};
+ghost use Rattle.symnet_program.specs.Run.{IsRun};
 ghost use Rattle.walk_command.specs.Walks.{WalksOf};
 ghost use Rattle.run_answers.specs.Status.{IsUnread, IsWritten, MayBeBad, OrBad, input_status, outcome_status};
 ghost use Rattle.symnet_program.specs.Told.{MayStop, TellsNet};
 ghost use Rattle.command_words.specs.Commands.{Command as CommandOf, explore, walk};
 ghost use Rattle.command_words.specs.declared.command.Pruned.{Pruned as PrunedOf};
 ghost use Rattle.run_answers.specs.declared.status.Status.{Status as StatusOf};
-ghost use Rattle.run_answers.specs.declared.status.Status.TheVariants.{BadPattern, NoFile, Syntax, TooBig};
+ghost use Rattle.run_answers.specs.declared.status.Status.TheVariants.{BadPattern, Done, NoFile, Partial, Syntax, TooBig};
 
 use run_answers::laws::{jobs_are_filled_once, worlds_decide};
+use sn_edge::Patterns;
 use walk_command::laws::walks_have_one_outcome;
+
+/// What a run tells, each by itself. The status has its cause. The sink gained the text that the command defines, a beginning of it,
+/// or nothing. With Done `explore` wrote the report of the job in the file, and this tells all walks of all packets that meet the
+/// injection; with Partial too, but that walks may go on by decisions that were not tried.
+pub fn runs_tell<P: Patterns>()
+    ensures cause { (files : Files) (u v : P) (said : Option CommandOf) (status : StatusOf) (part : List ℕ)
+        → IsRun (outside files P.told P.find_gives) u v said status part
+        → IsCaused (outside files P.told P.find_gives) u v said status }
+    ensures written { (files : Files) (u v : P) (said : Option CommandOf) (status : StatusOf) (part : List ℕ)
+        → IsRun (outside files P.told P.find_gives) u v said status part
+        → MayWrite (outside files P.told P.find_gives) u v said status part }
+    ensures headline { (files : Files) (u v : P) (job : List ℕ) (hops limit : ℕ) (pruned : PrunedOf) (whole : List ℕ)
+        → IsRun (outside files P.told P.find_gives) u v (Some (explore job hops limit pruned)) Done whole
+        → TellsJob (outside files P.told P.find_gives) u v job hops limit (sides_of pruned) ending.Done whole }
+    ensures partial { (files : Files) (u v : P) (job : List ℕ) (hops limit : ℕ) (pruned : PrunedOf) (whole : List ℕ)
+        → IsRun (outside files P.told P.find_gives) u v (Some (explore job hops limit pruned)) Partial whole
+        → TellsJob (outside files P.told P.find_gives) u v job hops limit (sides_of pruned) ending.Partial whole }
+{}
 
 /// What is wrong with the job's file, or with the files of its tables, is told, unless a file was not read or there was no memory.
 pub fn jobs_are_told()

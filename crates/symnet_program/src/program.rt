@@ -8,15 +8,13 @@ ghost use Rattle.run_answers.specs.Outside.{Tells, World, outside, world};
 ghost use Rattle.run_answers.specs.Runs.{Runs, Shows};
 ghost use Rattle.run_answers.specs.Status.{input_status};
 ghost use Rattle.run_answers.specs.declared.status.Status.{Status as StatusOf};
-ghost use Rattle.run_answers.specs.declared.status.Status.TheVariants.{Done, Partial, Usage};
-ghost use Rattle.command_edge.specs.declared.ending.Ending.TheVariants as ending;
+ghost use Rattle.run_answers.specs.declared.status.Status.TheVariants.{Usage};
 ghost use Rattle.command_edge.specs.declared.fault.InputFault.{InputFault as InputFaultOf};
 ghost use Rattle.symnet_program.specs.Commands.{detail_of, inputs, kind_of, list_style_of, sides_of, style_of, work};
-ghost use Rattle.symnet_program.specs.Headline.{TellsJob};
-ghost use Rattle.symnet_program.specs.Program.{Cause, IsAnswered, IsCaused, MayWrite, RefusesInput, Shown};
+ghost use Rattle.symnet_program.specs.Program.{Cause, IsAnswered, IsCaused, RefusesInput, Shown};
+ghost use Rattle.symnet_program.specs.Run.{IsRun};
 ghost use Rattle.symnet_program.specs.Told.{MayBeUnread};
-ghost use Rattle.command_words.specs.Commands.{Command as CommandOf, HasRanges, command_of, explore, reading};
-ghost use Rattle.command_words.specs.declared.command.Pruned.{Pruned as PrunedOf};
+ghost use Rattle.command_words.specs.Commands.{Command as CommandOf, HasRanges, command_of, reading};
 
 use acl_command::{AclModel, ListStyle, Rules};
 use ask_command::Ask;
@@ -236,32 +234,19 @@ pub fn symnet<F: Folder, P: Patterns, K: Sink>(
     ensures patterns_kept { PatternsKept (P.told patterns.old) (P.told patterns.new) }
     ensures out_kept { SinkKept (K.told out.old) (K.told out.new) }
 
-    // Each status has its cause, and the count of the outside that it blames rose.
+    // The count of the outside that a status blames rose.
     ensures usage { result ≡ Usage → reading words.now ≡ None }
-    ensures cause { IsCaused (outside (F.told folder.old).files P.told P.find_gives) patterns.old patterns.new (reading words.now) result }
     ensures shown { Shown (F.told folder.old) (F.told folder.new) (P.told patterns.old) (P.told patterns.new)
         (K.told out.old) (K.told out.new) result }
 
-    // What the sink gained: the text that the command defines, a beginning of it, or nothing.
-    ensures written { (part : List ℕ)
-        × MayWrite (outside (F.told folder.old).files P.told P.find_gives) patterns.old patterns.new (reading words.now) result part
+    // One run: what the inputs gave, why the command ended so on that, and what the sink gained by it: the text that the command
+    // defines, a beginning of it, or nothing. With Done `explore` wrote the report of the job that its input gave, and this tells all
+    // walks of all packets that meet the injection; and what is read of it is a report of just its records that are written. With
+    // Partial all this is so, but that walks may go on by decisions that were not tried, which the report names. `runs_tell` says
+    // what follows, each by itself.
+    ensures ran { (part : List ℕ)
+        × IsRun (outside (F.told folder.old).files P.told P.find_gives) patterns.old patterns.new (reading words.now) result part
         × ((K.told out.new).taken ≡ append_known (K.told out.old).taken part) }
-
-    // The headline: with Done `explore` wrote the report of the job in the file, and this tells all walks of all packets that
-    // meet the injection; and what is read of it is a report of just its records that are written. With Partial all this is so, but
-    // that walks may go on by decisions that were not tried, which the report names.
-    ensures headline { (job : List ℕ) (hops limit : ℕ) (pruned : PrunedOf)
-        → reading words.now ≡ Some (explore job hops limit pruned) → result ≡ Done
-        → (whole : List ℕ)
-        × TellsJob (outside (F.told folder.old).files P.told P.find_gives) patterns.old patterns.new job hops limit
-        (sides_of pruned) ending.Done whole
-        × ((K.told out.new).taken ≡ append_known (K.told out.old).taken whole) }
-    ensures partial { (job : List ℕ) (hops limit : ℕ) (pruned : PrunedOf)
-        → reading words.now ≡ Some (explore job hops limit pruned) → result ≡ Partial
-        → (whole : List ℕ)
-        × TellsJob (outside (F.told folder.old).files P.told P.find_gives) patterns.old patterns.new job hops limit
-        (sides_of pruned) ending.Partial whole
-        × ((K.told out.new).taken ≡ append_known (K.told out.old).taken whole) }
 
     // Where the outside tells a world, the cause is one in that world; and an input that is refused there is refused, unless a file was
     // not read or there was no memory.

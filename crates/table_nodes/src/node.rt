@@ -72,7 +72,8 @@ fn row_guards(
     requires prefix { kind ≡ TableKind.Fib → All (λ row. row.1 ≤ 32) rows.now }
     ensures { IfOk result (λ code. map instr_tree code.items ≡ map (λ row. guard_instr (row_guard kind row)) rows.now) }
 {
-    let mut code = Vec::new(alloc);
+    // Room for the instruction behind the tests, too.
+    let mut code = Vec::with_capacity(alloc, rows.len().saturating_add(1))?;
     for row in rows {
         code.push(row_guard(alloc, kind, *row)?)?;
     }

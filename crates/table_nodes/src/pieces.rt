@@ -16,8 +16,7 @@ use std::alloc::Global;
 pub fn guard(alloc: Global, test: Cond, port: u32) -> Result<Instr, NoMemory>
     ensures { IfOk result (λ i. instr_tree i ≡ guard_instr (cond_tree test, port)) }
 {
-    let mut first = Vec::new(alloc);
-    first.push(Instr::Forward(port))?;
+    let first = vec![in alloc; Instr::Forward(port)]?;
     let other = Vec::new(alloc);
     Ok(Instr::If { test, first, other })
 }
@@ -51,9 +50,7 @@ fn prefix_range(alloc: Global, row: (u64, u32, u32)) -> Result<Vec<(Num, Num)>, 
 {
     let size: Num = 1 << (32 - row.1);
     let first = Num::from(row.0);
-    let mut ranges = Vec::new(alloc);
-    ranges.push((first, first + size - 1))?;
-    Ok(ranges)
+    Ok(vec![in alloc; (first, first + size - 1)]?)
 }
 
 /// The test of a row.

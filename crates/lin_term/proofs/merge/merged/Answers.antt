@@ -4,7 +4,7 @@ use Rattle.lin_term.proofs.merge.merged.Goals as goal
 
 pub loop-symbol-preserved-in_ok-push : goal.loop-symbol-preserved-in_ok-push
 loop-symbol-preserved-in_ok-push c =
-    rw c.in_ok-push.ensures.items
+    rw c.in_ok-push.ensures
     (merging_more c.args.width c.args.factor c.in-Some.symbol c.split_symbol-of_left.result.0 c.split_symbol-of_right.result.0 _ _ _ _
     c.split_symbol-of_left.ensures.coefficients c.split_symbol-of_right.ensures.coefficients c.split_symbol-of_left.ensures.rest c.split_symbol-of_right.ensures.rest
     _ _ _ c.plus_times-coefficient.result c.loop-symbol.invariant

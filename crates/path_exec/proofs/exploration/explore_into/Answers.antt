@@ -63,7 +63,7 @@ returns-in-Interrupted-clause-explored g c =
     let m2 = seen c.run.new.out in
     let begun = subst (λ o. BegunAs x {E = NoMemory} c.args.limit m0.stops m1 c.start.new.works.items c.args.steps.now c.start.new.steps (Ok o)) c.in-Some.is c.in_ok-count.ensures.begun in
     let ran = subst (λ r. RanAs x {E = NoMemory} c.args.limit m1.stops m2 c.run.new.works.items c.args.steps.now c.run.new.steps (Ok r)) c.in-Interrupted.is (c.in_ok-ran.ensures.ran c.args.steps.now begun.1) in
-    stopped_since x m0.stops m1.stops m2 c.args.steps.now c.run.new.steps c.in_ok-count.ensures.same.stops ran
+    stopped_since x c.args.limit m0.stops m1.stops m2 c.args.steps.now c.run.new.steps c.in_ok-count.ensures.same.stops ran
 
 pub returns-then-is_empty-clause-explored : goal.returns-then-is_empty-clause-explored
 returns-then-is_empty-clause-explored g c =

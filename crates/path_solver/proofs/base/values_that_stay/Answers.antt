@@ -5,8 +5,8 @@ use Rattle.refutation_check.specs.Longer.{zeros}
 use Rattle.path_solver.proofs.Bases.{stay_least}
 use Rattle.path_solver.proofs.base.values_that_stay.Goals as goal
 
-pub returns-then-stay : goal.returns-then-stay
-returns-then-stay c =
+pub returns-then-stay-clause-least : goal.returns-then-stay-clause-least
+returns-then-stay-clause-least c =
     let cond = c.args.cond.now in
     let b = c.args.base.now in
     let is = c.in_ok-values.ensures ∙ ap (λ (least : List ℕ). least ++ zeros (drop (length least) cond.widths)) c.as_slice.ensures in

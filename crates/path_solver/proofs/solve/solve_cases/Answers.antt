@@ -1,87 +1,23 @@
-use Rattle.std.proofs.Common.{◌≡◌, ℕ, List, [], ◌∷◌, map, drop, length, sym, ap, subst, ◌∙◌}
+use Rattle.std.proofs.Common.{◌≡◌, ℕ, List, drop, ap, sym, subst, ◌∙◌}
 use Rattle.sn_width.specs.declared.ids.SymId.{SymId}
-use Rattle.difference_solver.specs.declared.bound.Bound.{Bound}
-use Rattle.case_search.specs.Choices.{lists_of, AreBelow, AreInRange, IsLeast, IsUnmet}
-use Rattle.case_search.specs.Outcomes.{IfLeast, IfRefuted, IsRefuted}
-use Rattle.case_search.specs.Steps as Search
-use Rattle.case_search.specs.declared.choice.Outcome.{Outcome}
-use Rattle.path_cond.specs.Conditions.{Condition}
 use Rattle.case_counts.specs.Coupled.{coupled_symbols}
-use Rattle.refutation_check.specs.Accepted.{IsAccepted}
 use Rattle.refutation_check.specs.Least.{AreLeast}
-use Rattle.refutation_check.specs.declared.steps.Refute.{Refute}
-use Rattle.path_solver.specs.Origins.{choices_from, origins_of, refute_from}
+use Rattle.path_solver.specs.Solutions.{IsFound}
 use Rattle.path_solver.specs.Values.{with_integers}
-use Rattle.path_solver.specs.declared.origin.Origin.{Origin}
-use Rattle.path_solver.proofs.Refuting.{accepted}
+use Rattle.path_solver.specs.declared.found.Found.{Found}
 use Rattle.path_solver.proofs.Simple.{leasts_of}
-use Rattle.path_solver.proofs.Solved.{are_in_range, are_below, solved_least, unmet_none}
+use Rattle.path_solver.proofs.Solved.{solved_least}
 use Rattle.path_solver.proofs.solve.solve_cases.Goals as goal
 
--- the choices as the search sees them
-seen : (cond : Condition) (choices : List (List (List Bound))) (symbols : List SymId)
-    (P : ℕ → List (List (List Bound)) → Type 0) → symbols ≡ coupled_symbols cond
-    → choices ≡ choices_from cond (origins_of cond)
-    → P (length (coupled_symbols cond)) (choices_from cond (origins_of cond)) → P (length symbols) choices
-seen cond choices symbols P same are h =
-    subst (λ (ss : List SymId). P (length ss) choices) (sym same) (subst (λ cs. P (length (coupled_symbols cond)) cs) (sym are) h)
-
-unseen : (cond : Condition) (choices : List (List (List Bound))) (symbols : List SymId)
-    (P : ℕ → List (List (List Bound)) → Type 0) → symbols ≡ coupled_symbols cond
-    → choices ≡ choices_from cond (origins_of cond)
-    → P (length symbols) choices → P (length (coupled_symbols cond)) (choices_from cond (origins_of cond))
-unseen cond choices symbols P same are h =
-    subst (λ (ss : List SymId). P (length ss) (choices_from cond (origins_of cond))) same
-    (subst (λ cs. P (length symbols) cs) are h)
-
-pub find_least-requires-clause-in_range : goal.find_least-requires-clause-in_range
-find_least-requires-clause-in_range c =
-    seen c.args.cond.now (lists_of c.as_slice.result.now) c.args.symbols.now AreInRange c.requires.symbols
-    (ap lists_of c.as_slice.ensures.value ∙ c.in_ok-problem.ensures.choices_are)
-    (are_in_range c.facts.ensures c.args.cond.now c.formulas_are_typed.ensures)
-
-pub find_least-requires-clause-below : goal.find_least-requires-clause-below
-find_least-requires-clause-below c =
-    seen c.args.cond.now (lists_of c.as_slice.result.now) c.args.symbols.now AreBelow c.requires.symbols
-    (ap lists_of c.as_slice.ensures.value ∙ c.in_ok-problem.ensures.choices_are)
-    (are_below c.args.cond.now)
-
-pub returns-in-Ok-Least : goal.returns-in-Ok-Least
-returns-in-Ok-Least c =
-    let least =
-    unseen c.args.cond.now (lists_of c.as_slice.result.now) c.args.symbols.now
-    (λ n cs. IsLeast n cs c.in-Ok-Least.integers.items) c.requires.symbols
-    (ap lists_of c.as_slice.ensures.value ∙ c.in_ok-problem.ensures.choices_are)
-    (subst (λ (o : Outcome). IfLeast o (IsLeast (length c.args.symbols.now) (lists_of c.as_slice.result.now)))
-    c.in-Ok-Least.field-0-is c.in-Ok-Least.ensures.least) in
-    let w : c.put_integers.new.values.items
-    ≡ with_integers c.args.leasts.items (coupled_symbols c.args.cond.now) (drop 1 c.in-Ok-Least.integers.items) =
+pub returns-in-Integers : goal.returns-in-Integers
+returns-in-Integers c =
+    let cond = c.args.cond.now in
+    let integers = c.in-Integers.integers.items in
+    let least = subst (λ (f : Found). IsFound cond f) c.in-Integers.is c.in_ok-refutation.ensures in
+    let w : c.put_integers.new.values.items ≡ with_integers c.args.leasts.items (coupled_symbols cond) (drop 1 integers) =
     c.put_integers.ensures
-    ∙ ap (λ (ss : List SymId). with_integers c.args.leasts.items ss (drop 1 c.as_slice-in-Ok-Least.result.now)) c.requires.symbols
-    ∙ ap (λ zs. with_integers c.args.leasts.items (coupled_symbols c.args.cond.now) (drop 1 zs))
-    c.as_slice-in-Ok-Least.ensures.value in
-    subst (λ (vs : List ℕ). AreLeast c.args.cond.now vs) (sym w)
-    (solved_least c.facts.ensures c.args.cond.now c.args.leasts.items c.in-Ok-Least.integers.items
-    c.formulas_are_typed.ensures c.requires.unbroken
-    (leasts_of c.args.cond.now c.args.leasts.items c.requires.leasts) least)
-
-pub returns-in_ok-refutation-in-Ok-Refuted : goal.returns-in_ok-refutation-in-Ok-Refuted
-returns-in_ok-refutation-in-Ok-Refuted c =
-    let are = ap lists_of c.as_slice.ensures.value ∙ c.in_ok-problem.ensures.choices_are in
-    let unmet =
-    unseen c.args.cond.now (lists_of c.as_slice.result.now) c.args.symbols.now (λ n cs. IsUnmet n cs)
-    c.requires.symbols are (c.in-Ok-Refuted.ensures.unmet.0
-    (subst (λ (o : Outcome). IsRefuted o) (sym c.in-Ok-Refuted.field-0-is) tt)) in
-    let refuted =
-    subst (λ cs. Search.Refutes cs ([] ∷ []) c.in-Ok-Refuted.steps.items) are
-    (subst (λ (o : Outcome). IfRefuted o (Search.Refutes (lists_of c.as_slice.result.now) ([] ∷ [])))
-    c.in-Ok-Refuted.field-0-is c.in-Ok-Refuted.ensures.refuted) in
-    let steps : c.in_ok-refutation-in-Ok-Refuted.refutation
-    ≡ map (refute_from (origins_of c.args.cond.now)) c.in-Ok-Refuted.steps.items =
-    c.in_ok-refutation-in-Ok-Refuted.ensures
-    ∙ ap (λ (os : List Origin). map (refute_from os) c.in-Ok-Refuted.steps.items)
-    (c.as_slice-in-Ok-Refuted.ensures.value ∙ c.in_ok-problem.ensures.origins_are) in (
-      unmet_none c.facts.ensures c.args.cond.now c.formulas_are_typed.ensures unmet,
-      subst (λ (r : List Refute). IsAccepted c.args.cond.now r) (sym steps)
-          (accepted c.facts.ensures c.args.cond.now c.in-Ok-Refuted.steps.items c.formulas_are_typed.ensures refuted),
-    )
+    ∙ ap (λ (ss : List SymId). with_integers c.args.leasts.items ss (drop 1 c.as_slice.result.now)) c.requires.symbols
+    ∙ ap (λ zs. with_integers c.args.leasts.items (coupled_symbols cond) (drop 1 zs)) c.as_slice.ensures.value in
+    subst (λ (vs : List ℕ). AreLeast cond vs) (sym w)
+    (solved_least c.facts.ensures cond c.args.leasts.items integers c.formulas_are_typed.ensures c.requires.unbroken
+    (leasts_of cond c.args.leasts.items c.requires.leasts) least)

@@ -13,5 +13,5 @@ returns c =
     } in
     let told : values_in c.args.before.now ≡ Some c.in_ok-least.least =
     sym c.values_in.ensures ∙ ap (λ o. option_map (λ v. v.now) o) c.in-Some.is ∙ ap Some (sym c.in_ok-least.ensures) in
-    base_known laws c.args.condition.now (record { formulas = c.in_ok-formulas.formulas; least = c.in_ok-least.least }) c.args.before.now c.requires told
+    base_known laws c.args.condition.now (record { formulas = c.in_ok-formulas.formulas; least = c.in_ok-least.least; broken = c.broken_in-broken.result }) c.args.before.now c.requires told (sym c.broken_in-broken.ensures)
     c.in_ok-formulas.ensures

@@ -3,5 +3,5 @@ use Rattle.lin_term.proofs.term.Term.part.Goals as goal
 
 pub returns-clause-coefficient : goal.returns-clause-coefficient
 returns-clause-coefficient c =
-    rw (c.part_at.ensures, c.deref.ensures.value, ← c.self.view_is)
-    (coefficient_at c.self.inside.width c.self.inside.parts.items _ c.self.invariant.coefficients)
+    rw (c.part_at.ensures, c.as_slice.ensures, ← c.self.view_is)
+    (coefficient_at c.self.inside.width c.self.inside.parts _ c.self.invariant.coefficients)

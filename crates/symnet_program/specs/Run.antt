@@ -1,0 +1,60 @@
+-- One run of the program: what it read, why it ended so, and what it wrote.
+use Rattle.std.specs.Prelude.{ℕ, ◌≡◌, ◌⊎◌, List, [], ◌∷◌, Option, None, Some}
+use Rattle.run_answers.specs.Outside.{Outside}
+use Rattle.run_answers.specs.Inputs.{Given, AllOpen, FirstFails, a_net}
+use Rattle.run_answers.specs.Runs.{OwnWork}
+use Rattle.run_answers.specs.Status.{input_status}
+use Rattle.run_answers.specs.declared.status.Status.{Status}
+use Rattle.run_answers.specs.declared.status.Status.TheVariants.{Done, NoMemory, Usage, WriteFault, BadTable, BadPacket, Partial, TooMany, BadReport, NotConfirmed, BadAsk, BadCompare}
+use Rattle.command_edge.specs.Puts.{text, refused}
+use Rattle.command_edge.specs.declared.ending.Ending.{Ending}
+use Rattle.command_edge.specs.declared.ending.Ending.TheVariants as ending
+use Rattle.command_edge.specs.declared.fault.InputFault.{InputFault}
+use Rattle.command_edge.specs.declared.fault.OwnFault.TheVariants as own
+use Rattle.record_lines.specs.declared.lines.RefutedSides.{RefutedSides}
+use Rattle.explore_command.specs.Explores.{explore_work}
+use Rattle.command_words.specs.Commands.{Command, explore}
+use Rattle.symnet_program.specs.Commands.{inputs, sides_of, work}
+use Rattle.symnet_program.specs.Headline.{TellsWalks}
+
+-- the own work ended with this status on what the inputs gave, and the sink gained this
+abbrev pub Ends : OwnWork → List Given → Status → List ℕ → Type 0
+Ends w given Done part = w.comes given (text ending.Done part)
+Ends w given Partial part = w.comes given (text ending.Partial part)
+Ends w given WriteFault part = w.cut given part
+Ends w given NoMemory part = (part ≡ []) ⊎ w.left given part
+Ends w given (BadTable name line kind) part = (part ≡ []) × w.comes given (refused (own.BadTable name line kind))
+Ends w given (BadPacket kind) part = (part ≡ []) × w.comes given (refused (own.BadPacket kind))
+Ends w given (TooMany count) part = (part ≡ []) × w.comes given (refused (own.TooMany count))
+Ends w given (BadReport kind pointer) part = (part ≡ []) × w.comes given (refused (own.BadReport kind pointer))
+Ends w given (NotConfirmed number kind) part = (part ≡ []) × w.comes given (refused (own.NotConfirmed number kind))
+Ends w given (BadAsk number kind) part = (part ≡ []) × w.comes given (refused (own.BadAsk number kind))
+Ends w given (BadCompare kind one other) part = (part ≡ []) × w.comes given (refused (own.BadCompare kind one other))
+Ends w given _ part = ⊥
+
+-- the report of `explore`, of the net and the injection that its input gave, tells the walks of all packets
+abbrev pub ReportTells : (hops limit : ℕ) (sides : RefutedSides) (ended : Ending) (whole : List ℕ) (given : List Given)
+    → (explore_work hops limit sides).comes given (text ended whole) → Type 0
+ReportTells hops limit sides ended whole (a_net net i asks ∷ []) report = TellsWalks net i hops limit sides ended whole report
+ReportTells hops limit sides ended whole _ report = ⊥
+
+-- what is told beyond that where a text was written whole
+abbrev pub TellsMore : (c : Command) (given : List Given) (status : Status) (part : List ℕ) → Ends (work c) given status part → Type 0
+TellsMore (explore job hops limit pruned) given Done part ends = ReportTells hops limit (sides_of pruned) ending.Done part given ends
+TellsMore (explore job hops limit pruned) given Partial part ends = ReportTells hops limit (sides_of pruned) ending.Partial part given ends
+TellsMore c given status part ends = Unit {0}
+
+-- of an outside whose patterns go from state to state
+module _ {S : Type 0} (o : Outside S) (u v : S) where
+  -- A run of a command: there was no memory to begin it; or its first input that is refused is refused so; or all its inputs are good and gave
+  -- this, on which its own work ended so.
+  pub data IsRunOf (c : Command) (status : Status) (part : List ℕ) : Type 0 where
+    unbegun : status ≡ NoMemory → v ≡ u → part ≡ [] → IsRunOf c status part
+    unopened : (fault : InputFault) → FirstFails o u (inputs c) fault v → status ≡ input_status fault → part ≡ [] → IsRunOf c status part
+    performed : (given : List Given) → AllOpen o u (inputs c) given v → (ends : Ends (work c) given status part)
+        → TellsMore c given status part ends → IsRunOf c status part
+
+  -- the same of what the words say; without a reading nothing is read, asked or written, and memory may end while they are read
+  abbrev pub IsRun : Option Command → Status → List ℕ → Type 0
+  IsRun None status part = ((status ≡ Usage) ⊎ (status ≡ NoMemory)) × (v ≡ u) × (part ≡ [])
+  IsRun (Some c) status part = IsRunOf c status part
