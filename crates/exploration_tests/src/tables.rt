@@ -91,7 +91,7 @@ pub const SIMPLE: &[Row] = &[
         limit: 10_000,
         records: &[
             Whole(
-                r#"{"before":{"sat":[0,1]},"decisions":["pass","pass"],"kind":"pruned","refutation":[["split",0],["split",1],["cycle",[0,1]]]}"#,
+                r#"{"before":{"sat":[0,1]},"decisions":["pass","pass"],"kind":"pruned","refutation":[["split",1],["split",0],["cycle",[0,1]]]}"#,
             ),
             Whole(
                 r#"{"decisions":["pass","broken"],"end":{"fault":8,"site":3},"fields":{"heads":[],"metas":[[null,"d",[[32,0,[[1,1]]]]],[null,"s",[[32,0,[[0,1]]]]]],"tags":[]},"kind":"path","places":["in a.0"],"verdict":{"sat":[0,1]}}"#,
