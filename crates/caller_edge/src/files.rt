@@ -2,7 +2,7 @@
 
 ghost use Rattle.std.specs.Prelude.{◌≡◌, map};
 ghost use Rattle.sn_edge.specs.MemFolder.{entry_of};
-ghost use Rattle.caller_edge.specs.Outside.{files_told};
+ghost use Rattle.caller_edge.specs.Outside.{IsGivenLoad, files_told};
 
 use crate::lists::NamedFile;
 use sn_edge::{Folder, Loaded, MemFolder};
@@ -38,6 +38,8 @@ impl GivenFiles {
 
 impl Folder for GivenFiles {
     ghost told = { files_told };
+
+    ghost load_gives = { IsGivenLoad };
 
     fn load(&mut self, alloc: Global, name: &str, limit: u64) -> Loaded {
         self.folder.load(alloc, name, limit)

@@ -1,7 +1,7 @@
 //! The output of a call, in memory.
 
 ghost use Rattle.std.specs.Prelude.{◌≡◌, []};
-ghost use Rattle.caller_edge.specs.Outside.{output_told};
+ghost use Rattle.caller_edge.specs.Outside.{IsKeptPut, output_told};
 
 use sn_edge::{MemSink, Put, Sink};
 use std::alloc::Global;
@@ -42,6 +42,8 @@ impl KeptOutput {
 
 impl Sink for KeptOutput {
     ghost told = { output_told };
+
+    ghost put_gives = { IsKeptPut };
 
     fn put(&mut self, piece: &[u8]) -> Put {
         self.sink.put(piece)

@@ -1,5 +1,6 @@
 //! Folders that keep what was loaded, so that a fault is shown in the text that was refused, and no file is opened twice.
 ghost use Rattle.std.specs.Prelude.{◌≤◌, length, IfSome, None};
+ghost use Rattle.sn_edge.specs.Loaded.{IfBytes};
 
 use sn_edge::{Folder, Loaded};
 use std::alloc::{AllocError, Global};
@@ -40,6 +41,8 @@ impl<F: Drop> KeepingFolder<F> {
 
 impl<F: Folder> Folder for KeepingFolder<F> {
     ghost told = { λ k. F.told k.folder };
+
+    ghost load_gives = { λ old name limit answer new. F.load_gives old.folder name limit answer new.folder };
 
     fn load(&mut self, alloc: Global, name: &str, limit: u64) -> Loaded {
         let answer = self.folder.load(alloc, name, limit);
@@ -125,6 +128,8 @@ impl KeptFolder {
 
 impl Folder for KeptFolder {
     ghost told = { λ k. record { files = None; faults = 0; misses = 0; excesses = 0 } };
+
+    ghost load_gives = { λ old name limit answer new. IfBytes answer (λ bytes. length bytes ≤ limit) };
 
     /// The bytes of the file as it was loaded; NoMemory where it was not kept too.
     fn load(&mut self, alloc: Global, name: &str, limit: u64) -> Loaded {

@@ -1,5 +1,5 @@
 -- Files in memory.
-use Rattle.std.specs.Prelude.{ℕ, ◌+◌, List, String, Vec, Option, option_map, string_bytes, IsSomeAnd, length, ◌≡◌, ◌<◌, ◌≤◌, None, Some}
+use Rattle.std.specs.Prelude.{ℕ, ◌+◌, ◌-◌, ◌^◌, ◌↔◌, Contains, List, String, Vec, Option, option_map, string_bytes, IsSomeAnd, length, ◌≡◌, ◌<◌, ◌≤◌, None, Some}
 use Rattle.std.specs.List.{find}
 use Rattle.std.specs.Str.{bytes_eq}
 use Rattle.sn_edge.specs.declared.folder.Loaded.{Loaded}
@@ -37,3 +37,9 @@ IsAnswerAt entry limit Absent = entry ≡ None
 IsAnswerAt entry limit TooBig = IsSomeAnd entry (λ bytes. limit < length bytes)
 IsAnswerAt entry limit Failed = Unit {0}
 IsAnswerAt entry limit NoMemory = Unit {0}
+
+-- a load of a name, with a limit, answers so and leaves this
+pub record IsLoad (old : FolderState) (name : List ℕ) (limit : ℕ) (answer : Loaded) (new : FolderState) : Type 0 where
+  pub failing : (answer ≡ Failed) ↔ (Contains old.failing old.calls × (old.calls < 2 ^ 64 - 1))
+  pub next : new ≡ after_load old answer
+  pub answered : IsAnswerAt (file_at old.entries name) limit answer

@@ -1,5 +1,5 @@
 -- Bytes kept in memory.
-use Rattle.std.specs.Prelude.{ℕ, ◌+◌, List, ◌++◌, take}
+use Rattle.std.specs.Prelude.{ℕ, ◌+◌, ◌≡◌, Contains, List, ◌++◌, take}
 use Rattle.sn_edge.specs.declared.sink.Put.{Put}
 use Rattle.sn_edge.specs.declared.sink.Put.TheVariants.{All, Failed, NoMemory}
 
@@ -20,3 +20,9 @@ after_put old piece Failed = record old {
   faults = old.faults + 1;
 }
 after_put old piece NoMemory = old
+
+-- a put of a piece answers so and leaves this
+pub record IsPut (old : SinkState) (piece : List ℕ) (answer : Put) (new : SinkState) : Type 0 where
+  pub failing : answer ≡ Failed → Contains old.failing old.calls
+  pub all : answer ≡ All → ¬ Contains old.failing old.calls
+  pub next : new ≡ after_put old piece answer

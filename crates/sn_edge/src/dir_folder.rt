@@ -60,6 +60,8 @@ impl<'a, R> DirFolder<'a, R> {
 impl<R: Files> Folder for DirFolder<'_, R> {
     ghost told = { λ f. record { files = None; faults = f.faults; misses = f.misses; excesses = f.excesses } };
 
+    ghost load_gives = { λ old name limit answer new. IfBytes answer (λ bytes. length bytes ≤ limit) × (new ≡ after_answer old answer) };
+
     fn load(&mut self, alloc: Global, name: &str, limit: u64) -> Loaded
         ensures within { IfBytes result (λ bytes. length bytes ≤ limit) }
         ensures next { self.new ≡ after_answer self.old result }

@@ -1,7 +1,8 @@
 //! Files by name, each loaded whole.
-ghost use Rattle.std.specs.Prelude.{◌≡◌, ◌<◌, ◌≤◌, length, None, Some, IsSomeAnd};
+ghost use Rattle.std.specs.Prelude.{◌≡◌, ◌<◌, ◌≤◌, ℕ, List, length, None, Some, IsSomeAnd};
 ghost use Rattle.std.specs.Option.{ForSome};
 ghost use Rattle.sn_edge.specs.Told.{FolderKept, FolderTold};
+ghost use Rattle.sn_edge.specs.declared.folder.Loaded.{Loaded};
 ghost use Rattle.sn_edge.specs.Loaded.{IfBytes, OnAbsent, OnTooBig, OnFailed, IsAbsentUnlessStopped, IsTooBigUnlessStopped, IsBytesUnlessStopped};
 
 use std::alloc::Global;
@@ -26,9 +27,13 @@ pub trait Folder {
     /// What it tells of its files, and its counts.
     ghost told: { Self → FolderTold };
 
+    /// What one call of `load` may answer and leave, for a name and a limit.
+    ghost load_gives: { Self → List ℕ → ℕ → Loaded → Self → Type 0 };
+
     /// The file of this name, of at most `limit` bytes.
     fn load(&mut self, alloc: Global, name: &str, limit: u64) -> Loaded
         ensures kept { FolderKept (told self.old) (told self.new) }
+        ensures gives { load_gives self.old name.now limit result self.new }
 
         // An answer comes only where its count rose.
         ensures failed { OnFailed result ((told self.old).faults < (told self.new).faults) }

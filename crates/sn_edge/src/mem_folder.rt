@@ -1,6 +1,6 @@
 //! Files in memory.
 ghost use Rattle.std.specs.Prelude.{◌≡◌, ◌<◌, ◌^◌, ◌-◌, ◌↔◌, map, Some, Contains, option_map};
-ghost use Rattle.sn_edge.specs.MemFolder.{FolderState, entry_of, file_at, after_load, IsAnswerAt};
+ghost use Rattle.sn_edge.specs.MemFolder.{FolderState, entry_of, file_at, after_load, IsAnswerAt, IsLoad};
 
 use crate::{Folder, Loaded};
 use std::alloc::Global;
@@ -68,6 +68,8 @@ impl Folder for MemFolder {
       misses = f.misses;
       excesses = f.excesses;
     } };
+
+    ghost load_gives = { IsLoad };
 
     fn load(&mut self, alloc: Global, name: &str, limit: u64) -> Loaded
         ensures failing { (result ≡ Loaded.Failed) ↔ (Contains self.old.failing self.old.calls × (self.old.calls < 2 ^ 64 - 1)) }

@@ -1,6 +1,6 @@
 //! Bytes kept in memory.
 ghost use Rattle.std.specs.Prelude.{◌≡◌, ◌<◌, ◌+◌, ◌-◌, [], Some, Contains};
-ghost use Rattle.sn_edge.specs.MemSink.{SinkState, after_put};
+ghost use Rattle.sn_edge.specs.MemSink.{SinkState, after_put, IsPut};
 
 use crate::{Put, Sink};
 use std::marker::Model;
@@ -60,6 +60,8 @@ impl MemSink {
 
 impl Sink for MemSink {
     ghost told = { λ s. record { taken = Some s.bytes; faults = s.faults } };
+
+    ghost put_gives = { IsPut };
 
     fn put(&mut self, piece: &[u8]) -> Put
         ensures failing { result ≡ Put.Failed → Contains self.old.failing self.old.calls }

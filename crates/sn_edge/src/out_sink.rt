@@ -1,5 +1,6 @@
 //! The output of the program as a sink.
 ghost use Rattle.std.specs.Prelude.{◌≡◌};
+ghost use Rattle.sn_edge.specs.OutSink.{IsOutPut};
 
 use crate::output::write_whole;
 use crate::{Output, Put, Sink};
@@ -31,6 +32,8 @@ impl<W: Drop> OutSink<W> {
 
 impl<W: Output> Sink for OutSink<W> {
     ghost told = { λ s. record { taken = W.contents s.output; faults = s.faults } };
+
+    ghost put_gives = { IsOutPut W.contents };
 
     fn put(&mut self, piece: &[u8]) -> Put {
         if self.faults == u64::MAX {

@@ -7,6 +7,7 @@ load-tells g c =
     let moved = subst (λ n. Counts c.args.self.now c.result n) (sym c.ensures.next) (counts c.args.self.now c.result) in
     record {
       kept = record { files = refl; faults = moved.faults_stay; misses = moved.misses_stay; excesses = moved.excesses_stay };
+      gives = (c.ensures.within, c.ensures.next);
       failed = moved.failed;
       absent = moved.absent;
       too_big = moved.too_big;
