@@ -2,6 +2,7 @@
 pub mod Told
 pub mod Loaded
 pub mod Put
+pub mod Putting
 pub mod Pieces
 pub mod Found
 pub mod MemFolder
