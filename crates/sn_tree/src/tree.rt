@@ -59,6 +59,11 @@ impl<K: Ord + Copy, V: Drop> Tree<K, V> {
     pub fn with(&self, alloc: Global, key: K, value: V) -> Result<Tree<K, V>, NoMemory>
         ensures put { IfOk result (λ tree. tree ≡ pairs_with K.cmp key value self.now) }
     {
+        if self.root.get(&key).is_some() {
+            let mut root = self.root.fork()?;
+            root.replace(alloc, key, value)?;
+            return Ok(Tree { root });
+        }
         let value = Rc::new(alloc, value)?;
         let root = self.root.with(alloc, key, &value)?;
         Ok(Tree { root })
