@@ -1,5 +1,6 @@
 pub mod Entries
 pub mod Places
+pub mod Jumps
 pub mod Sums
 pub mod Known
 pub mod Summaries

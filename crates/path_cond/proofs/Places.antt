@@ -1,16 +1,15 @@
--- Maps from places.
-use Rattle.std.proofs.Common.{◌≡◌, ℕ, zero, suc, ◌+◌, ◌<◌, ◌≤◌, true, false, cond, List, [], ◌∷◌, ◌++◌, length, length-append, Some, refl, sym, ap, ap₂, ◌∙◌, subst, arith, nat_eq, inl, inr}
-use Rattle.std.specs.Prelude.{slice_get, unwrap_or}
+-- Maps from numbers.
+use Rattle.std.proofs.Common.{◌≡◌, ℕ, ◌<◌, ◌≤◌, true, false, cond, List, [], ◌∷◌, ◌++◌, Some, refl, sym, ap, ap₂, ◌∙◌, arith, nat_eq, inl, inr}
+use Rattle.std.specs.Prelude.{unwrap_or}
 use Rattle.std.specs.Option.{option_map}
 use Rattle.std.specs.Ordering.{nat_cmp, is_eq}
 use Rattle.std.proofs.lemmas.Bool.{cases_lt, cases_eq, cond-true, cond-false, eq-eqb, ne_eqb, lt-ltb, le-ltb}
-use Rattle.std.proofs.lemmas.List.{map-append, append-nil}
+use Rattle.std.proofs.lemmas.List.{append-nil}
 use Rattle.std.specs.declared.cmp.Ordering.TheVariants.{Less, Equal, Greater}
 use Rattle.sn_tree.specs.Ends.{first}
 use Rattle.sn_tree.specs.Pairs.{pairs_before, pairs_at, pairs_after, value_at, pairs_with}
 use Rattle.sn_width.specs.declared.ids.SymId.{SymId}
 use Rattle.path_cond.specs.Conditions.{picks_at}
-use Rattle.path_cond.specs.Numbered.{CountsFrom, IsNumbered, values_of}
 
 pub nat_cmp-lt : (x y : ℕ) → x < y → nat_cmp x y ≡ Less
 nat_cmp-lt x y h = rw (lt-ltb x y h)
@@ -20,52 +19,6 @@ nat_cmp-eq x y h = rw (le-ltb x y (omega arith), eq-eqb x y h)
 
 pub nat_cmp-gt : (x y : ℕ) → y < x → nat_cmp x y ≡ Greater
 nat_cmp-gt x y h = rw (le-ltb x y (omega arith), ne_eqb x y (λ e. omega arith))
-
-module _ {V : Type 0} where
-  -- what stands at a place
-  value_at-from : (ps : List (ℕ × V)) (n i : ℕ) → CountsFrom n ps → value_at nat_cmp (n + i) ps ≡ slice_get (values_of ps) i
-  value_at-from [] n i h = refl
-  value_at-from (p ∷ ps) n zero h = rw (nat_cmp-eq (n + 0) p.0 (omega arith))
-  value_at-from (p ∷ ps) n (suc i) h =
-      let next : n + suc i ≡ suc n + i = omega arith in
-      let later : value_at nat_cmp (n + suc i) (p ∷ ps) ≡ value_at nat_cmp (n + suc i) ps = rw (nat_cmp-gt (n + suc i) p.0 (omega arith)) in
-      later ∙ ap (λ k. value_at nat_cmp k ps) next ∙ value_at-from ps (suc n) i h.1
-
-  pub value_at_place : (ps : List (ℕ × V)) (n i : ℕ) → IsNumbered ps n → value_at nat_cmp i ps ≡ slice_get (values_of ps) i
-  value_at_place ps n i h =
-      let same : i ≡ 0 + i = omega arith in
-      ap (λ k. value_at nat_cmp k ps) same ∙ value_at-from ps 0 i h.counts
-
-  -- before a place past the last one stand all pairs, and after it none
-  before_end : (ps : List (ℕ × V)) (n k : ℕ) → CountsFrom n ps → n + length ps ≤ k → pairs_before nat_cmp k ps ≡ ps
-  before_end [] n k h le = refl
-  before_end (p ∷ ps) n k h le = rw (nat_cmp-gt k p.0 (omega arith)) (ap (λ qs. p ∷ qs) (before_end ps (suc n) k h.1 (omega arith)))
-
-  after_end : (ps : List (ℕ × V)) (n k : ℕ) → CountsFrom n ps → n + length ps ≤ k → pairs_after nat_cmp k ps ≡ []
-  after_end [] n k h le = refl
-  after_end (p ∷ ps) n k h le = rw (nat_cmp-gt k p.0 (omega arith)) (after_end ps (suc n) k h.1 (omega arith))
-
-  CountsFrom-more : (ps : List (ℕ × V)) (n k : ℕ) (v : V) → CountsFrom n ps → k ≡ n + length ps → CountsFrom n (ps ++ (k, v) ∷ [])
-  CountsFrom-more [] n k v h e = (omega arith, tt)
-  CountsFrom-more (p ∷ ps) n k v h e = (h.0, CountsFrom-more ps (suc n) k v h.1 (omega arith))
-
-  -- the pairs with one more at their end
-  pub pairs_with-end : (ps : List (ℕ × V)) (n : ℕ) (v : V) → IsNumbered ps n → pairs_with nat_cmp n v ps ≡ ps ++ (n, v) ∷ []
-  pairs_with-end ps n v h =
-      let all = h.all in
-      ap₂ (λ qs rs. qs ++ (n, v) ∷ rs) (before_end ps 0 n h.counts (omega arith)) (after_end ps 0 n h.counts (omega arith))
-
-  pub is_numbered_with : (ps qs : List (ℕ × V)) (n m : ℕ) (v : V) → IsNumbered ps n → m ≡ n + 1 → qs ≡ pairs_with nat_cmp n v ps → IsNumbered qs m
-  is_numbered_with ps qs n m v h e is =
-      let all = h.all in
-      let whole : qs ≡ ps ++ (n, v) ∷ [] = is ∙ pairs_with-end ps n v h in
-      record {
-        counts = subst (CountsFrom 0) (sym whole) (CountsFrom-more ps 0 n v h.counts (omega arith));
-        all = ap length whole ∙ grind (arith, length-append);
-      }
-
-  pub values_of_with : (ps qs : List (ℕ × V)) (n : ℕ) (v : V) → IsNumbered ps n → qs ≡ pairs_with nat_cmp n v ps → values_of qs ≡ values_of ps ++ v ∷ []
-  values_of_with ps qs n v h is = ap values_of (is ∙ pairs_with-end ps n v h) ∙ map-append (λ p. p.1) ps ((n, v) ∷ [])
 
 -- the pairs at one key, among those before or after another
 module _ {V : Type 0} where

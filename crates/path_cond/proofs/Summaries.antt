@@ -2,7 +2,7 @@
 use Rattle.std.proofs.Common.{◌≡◌, ℕ, zero, suc, ◌+◌, ◌-◌, ◌*◌, ◌^◌, ◌<◌, ◌≤◌, ◌==◌, min, Bool, true, false, cond, ◌&&◌, ◌||◌, List, [], ◌∷◌, ◌++◌, map, length, Option, Some, None, refl, sym, ap, ap₂, ◌∙◌, mul_assoc, append_assoc, arith, ◌⊎◌, inl, inr}
 use Rattle.std.specs.Prelude.{reverse}
 use Rattle.std.specs.List.{list_any, position_from}
-use Rattle.std.proofs.lemmas.List.{reverse-append, reverse-reverse, append-nil}
+use Rattle.std.proofs.lemmas.List.{reverse-append, append-nil}
 use Rattle.std.proofs.lemmas.List.Folds.{list_any-append}
 use Rattle.std.proofs.lemmas.Bool.Decides.{nat_tests}
 use Rattle.std.proofs.Math.Nat.{mul_comm, mul-suc}
@@ -99,17 +99,13 @@ singles_next n (f ∷ entries) e =
     ∙ sym (append_assoc (singles_at n (single_case f)) (singles_from (suc n) entries) (singles_at (n + suc (length entries)) (single_case e)))
 
 singles_on : (entries : List Entry) (e : Entry) (n : ℕ) (one : Bool) (old new : List Single) → n ≡ length entries → one ≡ has_one_case e
-    → old ≡ reverse (singles_from 0 entries)
-    → new ≡ reverse (singles_at n (cond one (first_case (cases_of (view e.0) e.1)) [])) ++ old
-    → new ≡ reverse (singles_from 0 (entries ++ e ∷ []))
+    → old ≡ singles_from 0 entries
+    → new ≡ old ++ singles_at n (cond one (first_case (cases_of (view e.0) e.1)) [])
+    → new ≡ singles_from 0 (entries ++ e ∷ [])
 singles_on entries e n one old new is ans was now =
     let here : n ≡ 0 + length entries = omega arith in
-    now ∙ (λ i. reverse (singles_at (here i) (cond (ans i) (first_case (cases_of (view e.0) e.1)) [])) ++ was i)
-    ∙ sym (reverse-append (singles_from 0 entries) (singles_at (0 + length entries) (single_case e)))
-    ∙ ap reverse (sym (singles_next 0 entries e))
-
-pub singles_twice : (xs : List Single) → reverse (reverse xs) ≡ xs
-singles_twice xs = reverse-reverse xs
+    now ∙ (λ i. was i ++ singles_at (here i) (cond (ans i) (first_case (cases_of (view e.0) e.1)) []))
+    ∙ sym (singles_next 0 entries e)
 
 one_capped : (n : ℕ) → (capped n == 1) ≡ (n == 1)
 one_capped zero = refl
@@ -120,7 +116,7 @@ pub known_more : (entries : List Entry) (e : Entry) (kind : Kind) (pick cases : 
     → new.inside ≡ cond (is_inside_kind kind) (pick ∷ old.inside) old.inside
     → new.outside ≡ cond (is_outside_kind kind) (pick ∷ old.outside) old.outside
     → new.choices ≡ capped (old.choices * cases)
-    → new.singles ≡ reverse (singles_at pick (cond (is_inside_kind kind && (cases == 1)) (first_case (cases_of (view e.0) e.1)) [])) ++ old.singles
+    → new.singles ≡ old.singles ++ singles_at pick (cond (is_inside_kind kind && (cases == 1)) (first_case (cases_of (view e.0) e.1)) [])
     → new.caseless ≡ broken_after old.caseless (cases == 0) pick
     → Adds old.marks new.marks (λ s. is_inside_kind kind && occurs_in s (view e.0))
     → IsKnown entries old → IsKnown (entries ++ e ∷ []) new

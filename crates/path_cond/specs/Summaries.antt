@@ -81,6 +81,6 @@ pub record IsKnown (entries : List Entry) (k : Summary) : Type 0 where
   pub inside_are : k.inside ≡ reverse (picks_where is_inside 0 entries)
   pub outside_are : k.outside ≡ reverse (picks_where is_outside 0 entries)
   pub choices_are : k.choices ≡ capped (product (map entry_case_count entries))
-  pub singles_are : k.singles ≡ reverse (singles_from 0 entries)
+  pub singles_are : k.singles ≡ singles_from 0 entries
   pub caseless_is : k.caseless ≡ position_from has_no_cases 0 entries
   pub marks_are : (s : SymId) → has_mark k.marks s ≡ list_any (couples s) entries

@@ -10,7 +10,7 @@ use crate::domain::{all_hold, solutions_in};
 use crate::kept::{broken_with, simple_with};
 use crate::marks::Marks;
 use crate::sequence::Sequence;
-use crate::singles::{Single, oldest_first};
+use crate::singles::Single;
 use crate::summary::Summary;
 use path_cases::laws::an_inside_formula_has_cases;
 use path_formula::Formula;
@@ -234,11 +234,10 @@ impl PathCond {
 
     /// The bounds of the inside formulas that have one case alone, each with its formula's pick, in the order of the formulas.
     /// Takes the time of their number.
-    #[tactic(auto, using(crate::proofs::Summaries::singles_twice))]
     pub fn singles(&self, alloc: Global) -> Result<Vec<Single>, NoMemory>
         ensures { IfOk result (λ list. list.items ≡ singles self.now) }
     {
-        oldest_first(alloc, &self.summary.singles)
+        self.summary.singles.to_vec(alloc)
     }
 
     /// The least pick of an inside formula without cases.

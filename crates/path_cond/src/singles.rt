@@ -1,15 +1,15 @@
 //! The bounds of inside formulas that have one case.
 
-ghost use Rattle.std.specs.Prelude.{◌≡◌, ◌++◌, [], true, reverse, if◌then◌else◌, IfOk};
+ghost use Rattle.std.specs.Prelude.{◌≡◌, ◌++◌, [], true, if◌then◌else◌, IfOk};
 ghost use Rattle.path_formula.specs.View.{view};
 ghost use Rattle.path_cases.specs.Bounds.{lists_of};
 ghost use Rattle.path_cases.specs.Cases.{cases_of};
 ghost use Rattle.path_cases.specs.Splits.{CanSplit};
 ghost use Rattle.path_cond.specs.Kept.{first_case, singles_at};
 
+use crate::sequence::Sequence;
 use path_cases::{SymBound, cases};
 use path_formula::Formula;
-use sn_tree::Shared;
 use sn_width::NoMemory;
 use std::alloc::Global;
 
@@ -18,16 +18,6 @@ use std::alloc::Global;
 pub struct Single {
     pub bound: SymBound,
     pub pick: u32,
-}
-
-/// The same singles.
-pub(crate) fn same_singles(singles: &Shared<Single>) -> Result<Shared<Single>, NoMemory>
-    ensures { IfOk result (λ list. list ≡ singles.now) }
-{
-    match singles.fork() {
-        Ok(list) => Ok(list),
-        Err(_) => Err(NoMemory),
-    }
 }
 
 /// The bounds of the first case.
@@ -40,54 +30,42 @@ fn first_case(cases: &[Vec<SymBound>]) -> &[SymBound]
     cases[0].as_slice()
 }
 
-/// The singles, with the bounds of a case on top.
+/// The singles, and then the bounds of a case.
 fn with_case(
     alloc: Global,
-    singles: &Shared<Single>,
+    singles: &Sequence<Single>,
     case: &[SymBound],
     pick: u32,
-) -> Result<Shared<Single>, NoMemory>
-    ensures { IfOk result (λ list. list ≡ reverse (singles_at pick case.now) ++ singles.now) }
+) -> Result<Sequence<Single>, NoMemory>
+    ensures { IfOk result (λ list. list ≡ singles.now ++ singles_at pick case.now) }
 {
-    let mut list = same_singles(singles)?;
+    let mut list = singles.fork()?;
     for bound in case {
         let single = Single {
             bound: *bound,
             pick,
         };
-        match list.push(alloc, single) {
-            Ok(longer) => list = longer,
-            Err(_) => return Err(NoMemory),
-        }
+        list = list.push(alloc, single)?;
     }
     Ok(list)
 }
 
-/// The singles, with the bounds of the first case of one more formula on top, where it has `one` case alone.
+/// The singles, and then the bounds of the first case of one more formula, where it has `one` case alone.
 pub(crate) fn singles_with(
     alloc: Global,
-    singles: &Shared<Single>,
+    singles: &Sequence<Single>,
     formula: &Formula,
     holds: bool,
     one: bool,
     pick: u32,
-) -> Result<Shared<Single>, NoMemory>
+) -> Result<Sequence<Single>, NoMemory>
     requires { one ≡ true → CanSplit (view formula.now) }
     ensures { IfOk result (λ list. list
-        ≡ reverse (singles_at pick (if one then first_case (cases_of (view formula.now) holds) else [])) ++ singles.now) }
+        ≡ singles.now ++ singles_at pick (if one then first_case (cases_of (view formula.now) holds) else [])) }
 {
     if !one {
-        return same_singles(singles);
+        return singles.fork();
     }
     let cases = cases(alloc, formula, holds)?;
     with_case(alloc, singles, first_case(&cases), pick)
-}
-
-/// The singles from the oldest on; they stand the newest first.
-pub(crate) fn oldest_first(alloc: Global, singles: &Shared<Single>) -> Result<Vec<Single>, NoMemory>
-    ensures { IfOk result (λ list. list.items ≡ reverse singles.now) }
-{
-    let mut list: Vec<Single> = singles.iter().copied().collect(alloc)?;
-    list.reverse();
-    Ok(list)
 }

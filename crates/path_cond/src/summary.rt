@@ -9,7 +9,8 @@ ghost use Rattle.path_cond.specs.Conditions.{Entry, broken_after};
 ghost use Rattle.path_cond.specs.Summaries.{IsKnown, entry_case_count, is_inside_kind, is_outside_kind};
 
 use crate::marks::{Marks, marked};
-use crate::singles::{Single, same_singles, singles_with};
+use crate::sequence::Sequence;
+use crate::singles::{Single, singles_with};
 use path_cases::case_count_of;
 use path_formula::{Formula, Kind};
 use sn_tree::Shared;
@@ -25,8 +26,8 @@ pub(crate) struct Summary {
     pub(crate) outside: Shared<u32>,
     /// The number of choices of a case of each inside formula.
     pub(crate) choices: u64,
-    /// The bounds of the inside formulas that have one case, the newest first.
-    pub(crate) singles: Shared<Single>,
+    /// The bounds of the inside formulas that have one case.
+    pub(crate) singles: Sequence<Single>,
     /// The least pick of an inside formula without cases.
     pub(crate) caseless: Option<u32>,
     /// A mark for each symbol that occurs in an inside formula.
@@ -122,7 +123,7 @@ impl Summary {
             inside: Shared::empty(),
             outside: Shared::empty(),
             choices: 1,
-            singles: Shared::empty(),
+            singles: Sequence::empty(),
             caseless: None,
             marks: Marks::none(),
         }
@@ -133,7 +134,7 @@ impl Summary {
     {
         let inside = same(&self.inside)?;
         let outside = same(&self.outside)?;
-        let singles = same_singles(&self.singles)?;
+        let singles = self.singles.fork()?;
         let marks = self.marks.fork()?;
         Ok(Summary {
             inside,

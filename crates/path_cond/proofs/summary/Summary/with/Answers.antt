@@ -1,6 +1,5 @@
 use Rattle.std.proofs.Common.{Bool, ◌&&◌, [], ◌∷◌, ◌++◌, cond, ap, subst, ◌∙◌}
 use Rattle.sn_width.specs.declared.ids.SymId.{SymId}
-use Rattle.std.specs.Prelude.{reverse}
 use Rattle.path_formula.specs.View.{view}
 use Rattle.path_cases.specs.Cases.{cases_of}
 use Rattle.path_cond.specs.Kept.{first_case, singles_at}
@@ -19,7 +18,7 @@ returns c = λ entries is h.
     (c.in_ok-outside.ensures ∙ ap (λ b. cond b (c.args.pick ∷ old.outside) old.outside) c.is_outside.ensures)
     c.saturating_mul.ensures
     (c.in_ok-singles.ensures
-    ∙ ap (λ b. reverse (singles_at c.args.pick (cond b (first_case (cases_of (view c.args.formula.now) c.args.holds)) [])) ++ old.singles) c.is_single.ensures)
+    ∙ ap (λ b. old.singles ++ singles_at c.args.pick (cond b (first_case (cases_of (view c.args.formula.now) c.args.holds)) [])) c.is_single.ensures)
     c.first_with.ensures
     (subst (λ (b : Bool). Adds old.marks c.in_ok-marks.marks (λ (s : SymId). b && occurs_in s (view c.args.formula.now))) c.is_inside-splits.ensures c.in_ok-marks.ensures)
     h
