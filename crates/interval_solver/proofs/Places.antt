@@ -6,7 +6,7 @@ use Rattle.std.proofs.Math.ListN.{set}
 use Rattle.std.proofs.lemmas.Bool.{eq-eqb, ne_eqb, lt-ltb, le-ltb}
 use Rattle.std.specs.declared.cmp.Ordering.TheVariants.{Less, Equal, Greater}
 use Rattle.sn_tree.specs.Pairs.{pairs_before, pairs_after, value_at, pairs_with}
-use Rattle.path_cond.specs.Numbered.{CountsFrom, IsNumbered, values_of}
+use Rattle.interval_solver.specs.Numbered.{CountsFrom, IsNumbered, values_of}
 
 nat_cmp-lt : (x y : ℕ) → x < y → nat_cmp x y ≡ Less
 nat_cmp-lt x y h = rw (lt-ltb x y h)

@@ -19,7 +19,7 @@ pub(crate) struct Sets {
 impl Model for Sets {
     ghost use Rattle.std.specs.Prelude.{List};
     ghost use Rattle.sn_ranges.specs.Ranges.{RangeSet};
-    ghost use Rattle.path_cond.specs.Numbered.{values_of, IsNumbered};
+    ghost use Rattle.interval_solver.specs.Numbered.{values_of, IsNumbered};
 
     ghost Value = { List RangeSet };
 

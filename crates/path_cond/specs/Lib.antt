@@ -1,5 +1,4 @@
 pub mod Linked
-pub mod Numbered
 pub mod Seen
 pub mod Occurring
 pub mod Kept

@@ -1,5 +1,5 @@
 use Rattle.std.proofs.Common.{◌<◌, length, sym, subst}
-use Rattle.path_cond.specs.Numbered.{values_of}
+use Rattle.interval_solver.specs.Numbered.{values_of}
 use Rattle.interval_solver.proofs.Places.{is_numbered_with}
 use Rattle.interval_solver.proofs.sets.Sets.with.Goals as goal
 
