@@ -1,3 +1,4 @@
+pub mod Ahead
 pub mod Bodies
 pub mod Many
 pub mod Rooms

@@ -11,6 +11,7 @@ use crate::cursor::Cursor;
 use crate::misread::Misread;
 use crate::net::{read_side, read_spot};
 use crate::reference::read_target;
+use sefl_grammar::Keyword;
 use sefl_syntax::{Ask, Cond, RawPlace, Target};
 
 #[tactic(auto, unfolding(crate::specs::Nets::place))]
@@ -27,10 +28,10 @@ fn read_place(words: &mut Cursor) -> Result<RawPlace, Misread>
 fn read_with_test(words: &mut Cursor) -> Result<Cond, Misread>
     ensures { Answers cond_tree result words.new (with_test words.old) }
 {
-    if !words.begins_with("with") {
+    if !words.begins_with(Keyword::With) {
         return Ok(Cond::True);
     }
-    words.key("with")?;
+    words.key(Keyword::With)?;
     read_cond(words, MOST_OPEN)
 }
 
@@ -38,7 +39,7 @@ fn read_with_test(words: &mut Cursor) -> Result<Cond, Misread>
 fn read_reach(words: &mut Cursor) -> Result<Ask, Misread>
     ensures { Answers ask_tree result words.new (reach words.old) }
 {
-    words.key("reach")?;
+    words.key(Keyword::Reach)?;
     let place = read_place(words)?;
     let test = read_with_test(words)?;
     Ok(Ask::Reach { place, test })
@@ -50,7 +51,7 @@ fn read_target_at(words: &mut Cursor) -> Result<(Target, RawPlace), Misread>
     ensures { Answers (λ x. x) result words.new (target_at words.old) }
 {
     let target = read_target(words)?;
-    words.key("at")?;
+    words.key(Keyword::At)?;
     let place = read_place(words)?;
     Ok((target, place))
 }
@@ -59,7 +60,7 @@ fn read_target_at(words: &mut Cursor) -> Result<(Target, RawPlace), Misread>
 fn read_invariant(words: &mut Cursor) -> Result<Ask, Misread>
     ensures { Answers ask_tree result words.new (invariant words.old) }
 {
-    words.key("invariant")?;
+    words.key(Keyword::Invariant)?;
     let (target, place) = read_target_at(words)?;
     Ok(Ask::Invariant { target, place })
 }
@@ -68,7 +69,7 @@ fn read_invariant(words: &mut Cursor) -> Result<Ask, Misread>
 fn read_visible(words: &mut Cursor) -> Result<Ask, Misread>
     ensures { Answers ask_tree result words.new (visible words.old) }
 {
-    words.key("visible")?;
+    words.key(Keyword::Visible)?;
     let (target, place) = read_target_at(words)?;
     Ok(Ask::Visible { target, place })
 }
@@ -77,10 +78,10 @@ fn read_visible(words: &mut Cursor) -> Result<Ask, Misread>
 fn read_question(words: &mut Cursor) -> Result<Ask, Misread>
     ensures { Answers ask_tree result words.new (question words.old) }
 {
-    if words.begins_with("reach") {
+    if words.begins_with(Keyword::Reach) {
         return read_reach(words);
     }
-    if words.begins_with("invariant") {
+    if words.begins_with(Keyword::Invariant) {
         return read_invariant(words);
     }
     read_visible(words)
@@ -90,9 +91,9 @@ fn read_question(words: &mut Cursor) -> Result<Ask, Misread>
 fn read_ask(words: &mut Cursor) -> Result<Ask, Misread>
     ensures { Answers ask_tree result words.new (ask words.old) }
 {
-    words.key("ask")?;
+    words.key(Keyword::Ask)?;
     let ask = read_question(words)?;
-    words.key(";")?;
+    words.key(Keyword::Semicolon)?;
     Ok(ask)
 }
 
@@ -103,7 +104,7 @@ pub(crate) fn read_asks(words: &mut Cursor) -> Result<Vec<Ask>, Misread>
 {
     let mut found = Vec::new(words.alloc());
     for _ in 0..words.count() {
-        if !words.begins_with("ask") {
+        if !words.begins_with(Keyword::Ask) {
             return Ok(found);
         }
         let item = read_ask(words)?;

@@ -11,6 +11,7 @@ use crate::head::{Head, head_ahead};
 use crate::misread::Misread;
 use crate::statement::read_statement;
 use crate::version::Version;
+use sefl_grammar::Keyword;
 use sefl_syntax::Instr;
 
 /// The most constructs that may be open at once.
@@ -29,9 +30,9 @@ pub(crate) fn read_block(
     if room == 0 {
         return Err(Misread::Unexpected);
     }
-    words.key("{")?;
+    words.key(Keyword::OpenBrace)?;
     let code = read_instrs(words, version, room - 1)?;
-    words.key("}")?;
+    words.key(Keyword::CloseBrace)?;
     Ok(code)
 }
 
@@ -43,7 +44,7 @@ fn read_instrs(words: &mut Cursor, version: Version, room: u32) -> Result<Vec<In
 {
     let mut found = Vec::new(words.alloc());
     for _ in 0..words.count() {
-        if words.begins_with("}") {
+        if words.begins_with(Keyword::CloseBrace) {
             found.shrink_to_fit();
             return Ok(found);
         }
@@ -59,7 +60,7 @@ fn read_instrs(words: &mut Cursor, version: Version, room: u32) -> Result<Vec<In
 fn read_instr(words: &mut Cursor, version: Version, room: u32) -> Result<Instr, Misread>
     ensures { Answers instr_tree result words.new (instr version room words.old) }
 {
-    if words.begins_with("{") {
+    if words.begins_with(Keyword::OpenBrace) {
         return read_block_here(words, version, room);
     }
     let Some(head) = head_ahead(words) else {
@@ -89,7 +90,7 @@ fn read_if(words: &mut Cursor, version: Version, room: u32) -> Result<Instr, Mis
 {
     let test = read_cond(words, room)?;
     let first = read_block(words, version, room)?;
-    words.key("else")?;
+    words.key(Keyword::Else)?;
     let other = read_block(words, version, room)?;
     Ok(Instr::If { test, first, other })
 }
@@ -100,7 +101,7 @@ fn read_for(words: &mut Cursor, version: Version, room: u32) -> Result<Instr, Mi
     ensures { Answers instr_tree result words.new (for_rest version room words.old) }
 {
     let var = words.name()?;
-    words.key("in")?;
+    words.key(Keyword::In)?;
     let pattern = words.text()?;
     let body = read_block(words, version, room)?;
     Ok(Instr::For { var, pattern, body })

@@ -9,6 +9,7 @@ ghost use Rattle.sefl_builder.specs.Conditions.{atom, braced_ranges, bracket, co
 use crate::cursor::Cursor;
 use crate::expr::read_expr;
 use crate::misread::Misread;
+use sefl_grammar::Keyword;
 use sefl_syntax::Cond;
 use sn_width::{Num, Rel};
 use std::alloc::{AllocError, Global};
@@ -18,22 +19,22 @@ use std::alloc::{AllocError, Global};
 fn rel_ahead(words: &Cursor) -> Option<Rel>
     ensures { result ≡ rel_ahead words.now }
 {
-    if words.begins_with("==") {
+    if words.begins_with(Keyword::Equal) {
         return Some(Rel::Eq);
     }
-    if words.begins_with("!=") {
+    if words.begins_with(Keyword::NotEqual) {
         return Some(Rel::Ne);
     }
-    if words.begins_with("<") {
+    if words.begins_with(Keyword::Less) {
         return Some(Rel::Lt);
     }
-    if words.begins_with("<=") {
+    if words.begins_with(Keyword::AtMost) {
         return Some(Rel::Le);
     }
-    if words.begins_with(">") {
+    if words.begins_with(Keyword::Greater) {
         return Some(Rel::Gt);
     }
-    if words.begins_with(">=") {
+    if words.begins_with(Keyword::AtLeast) {
         return Some(Rel::Ge);
     }
     None
@@ -56,10 +57,10 @@ fn read_range(words: &mut Cursor) -> Result<(Num, Num), Misread>
     ensures { Answers (λ x. x) result words.new (range words.old) }
 {
     let first = words.number()?;
-    if !words.begins_with("..") {
+    if !words.begins_with(Keyword::Range) {
         return Ok((first, first));
     }
-    words.key("..")?;
+    words.key(Keyword::Range)?;
     let last = words.number()?;
     Ok((first, last))
 }
@@ -68,7 +69,7 @@ fn read_range(words: &mut Cursor) -> Result<(Num, Num), Misread>
 fn read_next_range(words: &mut Cursor) -> Result<(Num, Num), Misread>
     ensures { Answers (λ x. x) result words.new (next_range words.old) }
 {
-    words.key(",")?;
+    words.key(Keyword::Comma)?;
     read_range(words)
 }
 
@@ -79,7 +80,7 @@ fn read_ranges_from(words: &mut Cursor, first: (Num, Num)) -> Result<Vec<(Num, N
 {
     let mut found = vec![in words.alloc(); first]?;
     for _ in 0..words.count() {
-        if !words.begins_with(",") {
+        if !words.begins_with(Keyword::Comma) {
             return Ok(found);
         }
         let range = read_next_range(words)?;
@@ -102,21 +103,21 @@ pub(crate) fn goes_expr(words: &Cursor) -> bool
     ensures { result ≡ goes_expr words.now }
 {
     words.begins_number()
-        || words.begins_with("(")
-        || words.begins_with("head")
-        || words.begins_with("global")
-        || words.begins_with("local")
-        || words.begins_with("$")
+        || words.begins_with(Keyword::OpenParenthesis)
+        || words.begins_with(Keyword::Head)
+        || words.begins_with(Keyword::Global)
+        || words.begins_with(Keyword::Local)
+        || words.begins_with(Keyword::Dollar)
 }
 
 #[tactic(auto, unfolding(crate::specs::Conditions::braced_ranges))]
 fn read_braced_ranges(words: &mut Cursor) -> Result<Vec<(Num, Num)>, Misread>
     ensures { Answers (λ v. v.items) result words.new (braced_ranges words.old) }
 {
-    words.key("in")?;
-    words.key("{")?;
+    words.key(Keyword::In)?;
+    words.key(Keyword::OpenBrace)?;
     let ranges = read_ranges(words)?;
-    words.key("}")?;
+    words.key(Keyword::CloseBrace)?;
     Ok(ranges)
 }
 
@@ -126,7 +127,7 @@ fn read_atom(words: &mut Cursor, room: u32) -> Result<Cond, Misread>
     ensures { Answers cond_tree result words.new (atom room words.old) }
 {
     let left = read_expr(words, room)?;
-    if words.begins_with("in") {
+    if words.begins_with(Keyword::In) {
         let ranges = read_braced_ranges(words)?;
         let test = Cond::member(words.alloc(), left, ranges)?;
         return Ok(test);
@@ -140,7 +141,7 @@ fn read_atom(words: &mut Cursor, room: u32) -> Result<Cond, Misread>
 fn read_truth(words: &mut Cursor) -> Result<Cond, Misread>
     ensures { Answers cond_tree result words.new (truth words.old) }
 {
-    words.key("true")?;
+    words.key(Keyword::True)?;
     Ok(Cond::True)
 }
 
@@ -159,7 +160,7 @@ pub(crate) fn read_cond(words: &mut Cursor, room: u32) -> Result<Cond, Misread>
     ensures { Answers cond_tree result words.new (cond room words.old) }
 {
     let first = read_conj(words, room)?;
-    if !words.begins_with("or") {
+    if !words.begins_with(Keyword::Or) {
         return Ok(first);
     }
     let members = read_conjs_from(words, room, first)?;
@@ -174,7 +175,7 @@ fn read_conjs_from(words: &mut Cursor, room: u32, first: Cond) -> Result<Vec<Con
 {
     let mut found = vec![in words.alloc(); first]?;
     for _ in 0..words.count() {
-        if !words.begins_with("or") {
+        if !words.begins_with(Keyword::Or) {
             return Ok(found);
         }
         let member = read_next_conj(words, room)?;
@@ -188,7 +189,7 @@ fn read_conjs_from(words: &mut Cursor, room: u32, first: Cond) -> Result<Vec<Con
 fn read_next_conj(words: &mut Cursor, room: u32) -> Result<Cond, Misread>
     ensures { Answers cond_tree result words.new (next_conj room words.old) }
 {
-    words.key("or")?;
+    words.key(Keyword::Or)?;
     read_conj(words, room)
 }
 
@@ -199,7 +200,7 @@ fn read_conj(words: &mut Cursor, room: u32) -> Result<Cond, Misread>
     ensures { Answers cond_tree result words.new (conj room words.old) }
 {
     let first = read_neg(words, room)?;
-    if !words.begins_with("and") {
+    if !words.begins_with(Keyword::And) {
         return Ok(first);
     }
     let members = read_negs_from(words, room, first)?;
@@ -214,7 +215,7 @@ fn read_negs_from(words: &mut Cursor, room: u32, first: Cond) -> Result<Vec<Cond
 {
     let mut found = vec![in words.alloc(); first]?;
     for _ in 0..words.count() {
-        if !words.begins_with("and") {
+        if !words.begins_with(Keyword::And) {
             return Ok(found);
         }
         let member = read_next_neg(words, room)?;
@@ -228,7 +229,7 @@ fn read_negs_from(words: &mut Cursor, room: u32, first: Cond) -> Result<Vec<Cond
 fn read_next_neg(words: &mut Cursor, room: u32) -> Result<Cond, Misread>
     ensures { Answers cond_tree result words.new (next_neg room words.old) }
 {
-    words.key("and")?;
+    words.key(Keyword::And)?;
     read_neg(words, room)
 }
 
@@ -241,10 +242,10 @@ fn read_neg(words: &mut Cursor, room: u32) -> Result<Cond, Misread>
     if goes_expr(words) {
         return read_atom(words, room);
     }
-    if words.begins_with("not") {
+    if words.begins_with(Keyword::Not) {
         return read_opposite(words, room);
     }
-    if words.begins_with("[") {
+    if words.begins_with(Keyword::OpenBracket) {
         return read_bracket(words, room);
     }
     read_truth(words)
@@ -258,7 +259,7 @@ fn read_opposite(words: &mut Cursor, room: u32) -> Result<Cond, Misread>
     if room == 0 {
         return Err(Misread::Unexpected);
     }
-    words.key("not")?;
+    words.key(Keyword::Not)?;
     let member = read_neg(words, room - 1)?;
     let cond = not_of(words.alloc(), member)?;
     Ok(cond)
@@ -272,8 +273,8 @@ fn read_bracket(words: &mut Cursor, room: u32) -> Result<Cond, Misread>
     if room == 0 {
         return Err(Misread::Unexpected);
     }
-    words.key("[")?;
+    words.key(Keyword::OpenBracket)?;
     let cond = read_cond(words, room - 1)?;
-    words.key("]")?;
+    words.key(Keyword::CloseBracket)?;
     Ok(cond)
 }

@@ -4,6 +4,7 @@ ghost use Rattle.std.specs.Prelude.{◌≡◌};
 ghost use Rattle.sefl_builder.specs.Instructions.{head_ahead, way_ahead};
 
 use crate::cursor::Cursor;
+use sefl_grammar::Keyword;
 
 /// A word that begins an instruction.
 #[derive(Clone, Copy, PartialEq, Eq)]
@@ -28,28 +29,28 @@ pub(crate) enum Head {
 pub(crate) fn head_ahead(words: &Cursor) -> Option<Head>
     ensures { result ≡ head_ahead words.now }
 {
-    if words.begins_with("allocate") {
+    if words.begins_with(Keyword::Allocate) {
         return Some(Head::Allocate);
     }
-    if words.begins_with("deallocate") {
+    if words.begins_with(Keyword::Deallocate) {
         return Some(Head::Deallocate);
     }
-    if words.begins_with("set") {
+    if words.begins_with(Keyword::Set) {
         return Some(Head::Set);
     }
-    if words.begins_with("tag") {
+    if words.begins_with(Keyword::Tag) {
         return Some(Head::Tag);
     }
-    if words.begins_with("retag") {
+    if words.begins_with(Keyword::Retag) {
         return Some(Head::Retag);
     }
-    if words.begins_with("untag") {
+    if words.begins_with(Keyword::Untag) {
         return Some(Head::Untag);
     }
-    if words.begins_with("constrain") {
+    if words.begins_with(Keyword::Constrain) {
         return Some(Head::Constrain);
     }
-    if words.begins_with("noop") {
+    if words.begins_with(Keyword::NoOp) {
         return Some(Head::NoOp);
     }
     way_ahead(words)
@@ -60,19 +61,19 @@ pub(crate) fn head_ahead(words: &Cursor) -> Option<Head>
 fn way_ahead(words: &Cursor) -> Option<Head>
     ensures { result ≡ way_ahead words.now }
 {
-    if words.begins_with("if") {
+    if words.begins_with(Keyword::If) {
         return Some(Head::If);
     }
-    if words.begins_with("for") {
+    if words.begins_with(Keyword::For) {
         return Some(Head::For);
     }
-    if words.begins_with("forward") {
+    if words.begins_with(Keyword::Forward) {
         return Some(Head::Forward);
     }
-    if words.begins_with("fork") {
+    if words.begins_with(Keyword::Fork) {
         return Some(Head::Fork);
     }
-    if words.begins_with("fail") {
+    if words.begins_with(Keyword::Fail) {
         return Some(Head::Fail);
     }
     None

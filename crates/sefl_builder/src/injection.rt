@@ -12,6 +12,7 @@ use crate::misread::Misread;
 use crate::net::read_spot;
 use crate::reference::read_target;
 use crate::statement::read_tag_line;
+use sefl_grammar::Keyword;
 use sefl_syntax::{Addr, Cond, Name, RawField, RawInjection};
 use sn_width::Num;
 
@@ -19,7 +20,7 @@ use sn_width::Num;
 fn read_tag(words: &mut Cursor) -> Result<(Name, Addr), Misread>
     ensures { Answers (λ x. x) result words.new (tag words.old) }
 {
-    words.key("tag")?;
+    words.key(Keyword::Tag)?;
     read_tag_line(words)
 }
 
@@ -30,7 +31,7 @@ fn read_tags(words: &mut Cursor) -> Result<Vec<(Name, Addr)>, Misread>
 {
     let mut found = Vec::new(words.alloc());
     for _ in 0..words.count() {
-        if !words.begins_with("tag") {
+        if !words.begins_with(Keyword::Tag) {
             return Ok(found);
         }
         let item = read_tag(words)?;
@@ -44,10 +45,10 @@ fn read_tags(words: &mut Cursor) -> Result<Vec<(Name, Addr)>, Misread>
 fn read_field_value(words: &mut Cursor) -> Result<Option<Num>, Misread>
     ensures { Answers (λ x. x) result words.new (field_value words.old) }
 {
-    if !words.begins_with("=") {
+    if !words.begins_with(Keyword::Equals) {
         return Ok(None);
     }
-    words.key("=")?;
+    words.key(Keyword::Equals)?;
     let value = words.number()?;
     Ok(Some(value))
 }
@@ -56,10 +57,10 @@ fn read_field_value(words: &mut Cursor) -> Result<Option<Num>, Misread>
 fn read_field(words: &mut Cursor) -> Result<RawField, Misread>
     ensures { Answers (λ x. x) result words.new (field words.old) }
 {
-    words.key("field")?;
+    words.key(Keyword::Field)?;
     let target = read_target(words)?;
     let value = read_field_value(words)?;
-    words.key(";")?;
+    words.key(Keyword::Semicolon)?;
     Ok(RawField { target, value })
 }
 
@@ -70,7 +71,7 @@ fn read_fields(words: &mut Cursor) -> Result<Vec<RawField>, Misread>
 {
     let mut found = Vec::new(words.alloc());
     for _ in 0..words.count() {
-        if !words.begins_with("field") {
+        if !words.begins_with(Keyword::Field) {
             return Ok(found);
         }
         let item = read_field(words)?;
@@ -83,9 +84,9 @@ fn read_fields(words: &mut Cursor) -> Result<Vec<RawField>, Misread>
 fn read_test(words: &mut Cursor) -> Result<Cond, Misread>
     ensures { Answers cond_tree result words.new (where_test words.old) }
 {
-    words.key("where")?;
+    words.key(Keyword::Where)?;
     let test = read_cond(words, MOST_OPEN)?;
-    words.key(";")?;
+    words.key(Keyword::Semicolon)?;
     Ok(test)
 }
 
@@ -96,7 +97,7 @@ fn read_tests(words: &mut Cursor) -> Result<Vec<Cond>, Misread>
 {
     let mut found = Vec::new(words.alloc());
     for _ in 0..words.count() {
-        if !words.begins_with("where") {
+        if !words.begins_with(Keyword::Where) {
             return Ok(found);
         }
         let item = read_test(words)?;
@@ -110,13 +111,13 @@ fn read_tests(words: &mut Cursor) -> Result<Vec<Cond>, Misread>
 pub(crate) fn read_injection(words: &mut Cursor) -> Result<RawInjection, Misread>
     ensures { Answers injection_tree result words.new (injection words.old) }
 {
-    words.key("inject")?;
+    words.key(Keyword::Inject)?;
     let (node, port) = read_spot(words)?;
-    words.key("{")?;
+    words.key(Keyword::OpenBrace)?;
     let tags = read_tags(words)?;
     let fields = read_fields(words)?;
     let tests = read_tests(words)?;
-    words.key("}")?;
+    words.key(Keyword::CloseBrace)?;
     Ok(RawInjection {
         node,
         port,

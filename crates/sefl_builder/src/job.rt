@@ -10,17 +10,18 @@ use crate::injection::read_injection;
 use crate::misread::Misread;
 use crate::net::read_net;
 use crate::version::Version;
+use sefl_grammar::Keyword;
 use sefl_syntax::Job;
 
 #[tactic(auto, unfolding(crate::specs::Nets::version))]
 fn read_version(words: &mut Cursor) -> Result<Version, Misread>
     ensures { Answers (λ x. x) result words.new (version words.old) }
 {
-    if words.begins_with("1") {
-        words.key("1")?;
+    if words.begins_with(Keyword::One) {
+        words.key(Keyword::One)?;
         return Ok(Version::Old);
     }
-    words.key("2")?;
+    words.key(Keyword::Two)?;
     Ok(Version::New)
 }
 
@@ -29,9 +30,9 @@ fn read_version(words: &mut Cursor) -> Result<Version, Misread>
 fn read_heading(words: &mut Cursor) -> Result<Version, Misread>
     ensures { Answers (λ x. x) result words.new (heading words.old) }
 {
-    words.key("symnet")?;
+    words.key(Keyword::Symnet)?;
     let version = read_version(words)?;
-    words.key(";")?;
+    words.key(Keyword::Semicolon)?;
     Ok(version)
 }
 

@@ -12,6 +12,7 @@ mod injection;
 mod job;
 pub mod laws;
 mod misread;
+mod names;
 mod net;
 mod reference;
 mod statement;

@@ -9,17 +9,18 @@ use crate::code::{MOST_OPEN, read_block};
 use crate::cursor::Cursor;
 use crate::misread::Misread;
 use crate::version::Version;
+use sefl_grammar::Keyword;
 use sefl_syntax::{Body, Link, Name, NodeDecl, PortCode, RawNet, RawNode, Side, Style, TableKind};
 
 #[tactic(auto, unfolding(crate::specs::Nets::side))]
 pub(crate) fn read_side(words: &mut Cursor) -> Result<Side, Misread>
     ensures { Answers (λ x. x) result words.new (side words.old) }
 {
-    if words.begins_with("in") {
-        words.key("in")?;
+    if words.begins_with(Keyword::In) {
+        words.key(Keyword::In)?;
         return Ok(Side::Inward);
     }
-    words.key("out")?;
+    words.key(Keyword::Out)?;
     Ok(Side::Outward)
 }
 
@@ -29,7 +30,7 @@ pub(crate) fn read_spot(words: &mut Cursor) -> Result<(Name, u32), Misread>
     ensures { Answers (λ x. x) result words.new (spot words.old) }
 {
     let name = words.name()?;
-    words.key(".")?;
+    words.key(Keyword::Dot)?;
     let port = words.port()?;
     Ok((name, port))
 }
@@ -49,7 +50,7 @@ fn read_port_code(words: &mut Cursor, version: Version) -> Result<PortCode, Misr
 fn goes_port_code(words: &Cursor) -> bool
     ensures { result ≡ goes_port_code words.now }
 {
-    words.begins_with("in") || words.begins_with("out")
+    words.begins_with(Keyword::In) || words.begins_with(Keyword::Out)
 }
 
 /// Reads the codes of a node's ports.
@@ -74,11 +75,11 @@ fn read_node(words: &mut Cursor, version: Version) -> Result<RawNode, Misread>
     ensures { Answers node_tree result words.new (node version words.old) }
 {
     let ins = words.port()?;
-    words.key("->")?;
+    words.key(Keyword::Arrow)?;
     let outs = words.port()?;
-    words.key("{")?;
+    words.key(Keyword::OpenBrace)?;
     let codes = read_port_codes(words, version)?;
-    words.key("}")?;
+    words.key(Keyword::CloseBrace)?;
     Ok(RawNode { ins, outs, codes })
 }
 
@@ -86,11 +87,11 @@ fn read_node(words: &mut Cursor, version: Version) -> Result<RawNode, Misread>
 fn read_table_kind(words: &mut Cursor) -> Result<TableKind, Misread>
     ensures { Answers (λ x. x) result words.new (table_kind words.old) }
 {
-    if words.begins_with("mac") {
-        words.key("mac")?;
+    if words.begins_with(Keyword::Mac) {
+        words.key(Keyword::Mac)?;
         return Ok(TableKind::Mac);
     }
-    words.key("fib")?;
+    words.key(Keyword::Fib)?;
     Ok(TableKind::Fib)
 }
 
@@ -98,15 +99,15 @@ fn read_table_kind(words: &mut Cursor) -> Result<TableKind, Misread>
 fn read_style(words: &mut Cursor) -> Result<Style, Misread>
     ensures { Answers (λ x. x) result words.new (style words.old) }
 {
-    if words.begins_with("chain") {
-        words.key("chain")?;
+    if words.begins_with(Keyword::Chain) {
+        words.key(Keyword::Chain)?;
         return Ok(Style::Chain);
     }
-    if words.begins_with("grouped") {
-        words.key("grouped")?;
+    if words.begins_with(Keyword::Grouped) {
+        words.key(Keyword::Grouped)?;
         return Ok(Style::Grouped);
     }
-    words.key("egress")?;
+    words.key(Keyword::Egress)?;
     Ok(Style::Egress)
 }
 
@@ -115,11 +116,11 @@ fn read_style(words: &mut Cursor) -> Result<Style, Misread>
 fn read_table(words: &mut Cursor) -> Result<Body, Misread>
     ensures { Answers body_tree result words.new (table words.old) }
 {
-    words.key("=")?;
+    words.key(Keyword::Equals)?;
     let kind = read_table_kind(words)?;
     let file = words.text()?;
     let style = read_style(words)?;
-    words.key(";")?;
+    words.key(Keyword::Semicolon)?;
     Ok(Body::Table { kind, file, style })
 }
 
@@ -139,7 +140,7 @@ fn read_body(words: &mut Cursor, version: Version) -> Result<Body, Misread>
 fn read_decl(words: &mut Cursor, version: Version) -> Result<NodeDecl, Misread>
     ensures { Answers decl_tree result words.new (decl version words.old) }
 {
-    words.key("node")?;
+    words.key(Keyword::Node)?;
     let name = words.name()?;
     let body = read_body(words, version)?;
     Ok(NodeDecl { name, body })
@@ -152,7 +153,7 @@ fn read_nodes(words: &mut Cursor, version: Version) -> Result<Vec<NodeDecl>, Mis
 {
     let mut found = Vec::new(words.alloc());
     for _ in 0..words.count() {
-        if !words.begins_with("node") {
+        if !words.begins_with(Keyword::Node) {
             return Ok(found);
         }
         let item = read_decl(words, version)?;
@@ -165,11 +166,11 @@ fn read_nodes(words: &mut Cursor, version: Version) -> Result<Vec<NodeDecl>, Mis
 fn read_link(words: &mut Cursor) -> Result<Link, Misread>
     ensures { Answers (λ x. x) result words.new (link words.old) }
 {
-    words.key("link")?;
+    words.key(Keyword::Link)?;
     let (from, from_port) = read_spot(words)?;
-    words.key("->")?;
+    words.key(Keyword::Arrow)?;
     let (to, to_port) = read_spot(words)?;
-    words.key(";")?;
+    words.key(Keyword::Semicolon)?;
     Ok(Link {
         from,
         from_port,
@@ -185,7 +186,7 @@ fn read_links(words: &mut Cursor) -> Result<Vec<Link>, Misread>
 {
     let mut found = Vec::new(words.alloc());
     for _ in 0..words.count() {
-        if !words.begins_with("link") {
+        if !words.begins_with(Keyword::Link) {
             return Ok(found);
         }
         let item = read_link(words)?;

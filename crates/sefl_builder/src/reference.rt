@@ -5,6 +5,7 @@ ghost use Rattle.sefl_builder.specs.Terms.{addr, ahead, back, bound, header, met
 
 use crate::cursor::Cursor;
 use crate::misread::Misread;
+use sefl_grammar::Keyword;
 use sefl_syntax::{Addr, Scope, Target};
 use sn_width::Width;
 
@@ -22,7 +23,7 @@ fn read_ahead(words: &mut Cursor) -> Result<i32, Misread>
 fn read_back(words: &mut Cursor) -> Result<i32, Misread>
     ensures { Answers (λ x. x) result words.new (back words.old) }
 {
-    words.key("-")?;
+    words.key(Keyword::Minus)?;
     let offset = words.offset()?;
     Ok(-(offset as i32))
 }
@@ -32,10 +33,10 @@ fn read_back(words: &mut Cursor) -> Result<i32, Misread>
 fn read_signed(words: &mut Cursor) -> Result<i32, Misread>
     ensures { Answers (λ x. x) result words.new (signed words.old) }
 {
-    if words.begins_with("-") {
+    if words.begins_with(Keyword::Minus) {
         return read_back(words);
     }
-    words.key("+")?;
+    words.key(Keyword::Plus)?;
     read_ahead(words)
 }
 
@@ -86,7 +87,7 @@ pub(crate) fn read_addr(words: &mut Cursor) -> Result<Addr, Misread>
 fn read_sized(words: &mut Cursor) -> Result<Width, Misread>
     ensures { Answers (λ x. x) result words.new (sized words.old) }
 {
-    words.key(":")?;
+    words.key(Keyword::Colon)?;
     words.width()
 }
 
@@ -94,7 +95,7 @@ fn read_sized(words: &mut Cursor) -> Result<Width, Misread>
 fn read_header(words: &mut Cursor) -> Result<Target, Misread>
     ensures { Answers (λ x. x) result words.new (header words.old) }
 {
-    words.key("head")?;
+    words.key(Keyword::Head)?;
     let addr = read_addr(words)?;
     let width = read_sized(words)?;
     Ok(Target::Header { addr, width })
@@ -104,11 +105,11 @@ fn read_header(words: &mut Cursor) -> Result<Target, Misread>
 fn read_scope(words: &mut Cursor) -> Result<Scope, Misread>
     ensures { Answers (λ x. x) result words.new (scope words.old) }
 {
-    if words.begins_with("global") {
-        words.key("global")?;
+    if words.begins_with(Keyword::Global) {
+        words.key(Keyword::Global)?;
         return Ok(Scope::Global);
     }
-    words.key("local")?;
+    words.key(Keyword::Local)?;
     Ok(Scope::Local)
 }
 
@@ -126,7 +127,7 @@ fn read_meta(words: &mut Cursor) -> Result<Target, Misread>
 fn read_bound(words: &mut Cursor) -> Result<Target, Misread>
     ensures { Answers (λ x. x) result words.new (bound words.old) }
 {
-    words.key("$")?;
+    words.key(Keyword::Dollar)?;
     let var = words.name()?;
     let width = read_sized(words)?;
     Ok(Target::Bound { var, width })
@@ -137,10 +138,10 @@ fn read_bound(words: &mut Cursor) -> Result<Target, Misread>
 pub(crate) fn read_target(words: &mut Cursor) -> Result<Target, Misread>
     ensures { Answers (λ x. x) result words.new (target words.old) }
 {
-    if words.begins_with("head") {
+    if words.begins_with(Keyword::Head) {
         return read_header(words);
     }
-    if words.begins_with("$") {
+    if words.begins_with(Keyword::Dollar) {
         return read_bound(words);
     }
     read_meta(words)

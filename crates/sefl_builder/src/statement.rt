@@ -11,6 +11,7 @@ use crate::head::Head;
 use crate::misread::Misread;
 use crate::reference::{read_addr, read_target};
 use crate::version::Version;
+use sefl_grammar::Keyword;
 use sefl_syntax::{Addr, Instr, Name, Target};
 
 /// Reads a target and its semicolon.
@@ -19,7 +20,7 @@ fn read_target_line(words: &mut Cursor) -> Result<Target, Misread>
     ensures { Answers (λ x. x) result words.new (target_line words.old) }
 {
     let target = read_target(words)?;
-    words.key(";")?;
+    words.key(Keyword::Semicolon)?;
     Ok(target)
 }
 
@@ -44,8 +45,8 @@ fn read_deallocate(words: &mut Cursor) -> Result<Instr, Misread>
 fn read_any(words: &mut Cursor, target: Target) -> Result<Instr, Misread>
     ensures { Answers instr_tree result words.new (any_rest target words.old) }
 {
-    words.key("any")?;
-    words.key(";")?;
+    words.key(Keyword::Any)?;
+    words.key(Keyword::Semicolon)?;
     Ok(Instr::AssignAny(target))
 }
 
@@ -55,7 +56,7 @@ fn read_assign(words: &mut Cursor, room: u32, target: Target) -> Result<Instr, M
     ensures { Answers instr_tree result words.new (assign_rest room target words.old) }
 {
     let value = read_expr(words, room)?;
-    words.key(";")?;
+    words.key(Keyword::Semicolon)?;
     Ok(Instr::Assign { target, value })
 }
 
@@ -64,7 +65,7 @@ fn read_set(words: &mut Cursor, room: u32) -> Result<Instr, Misread>
     ensures { Answers instr_tree result words.new (set_rest room words.old) }
 {
     let target = read_target(words)?;
-    words.key("=")?;
+    words.key(Keyword::Equals)?;
     if goes_expr(words) {
         return read_assign(words, room, target);
     }
@@ -77,9 +78,9 @@ pub(crate) fn read_tag_line(words: &mut Cursor) -> Result<(Name, Addr), Misread>
     ensures { Answers (λ x. x) result words.new (tag_line words.old) }
 {
     let name = words.name()?;
-    words.key("=")?;
+    words.key(Keyword::Equals)?;
     let addr = read_addr(words)?;
-    words.key(";")?;
+    words.key(Keyword::Semicolon)?;
     Ok((name, addr))
 }
 
@@ -113,7 +114,7 @@ fn read_untag(words: &mut Cursor) -> Result<Instr, Misread>
     ensures { Answers instr_tree result words.new (untag_rest words.old) }
 {
     let name = words.name()?;
-    words.key(";")?;
+    words.key(Keyword::Semicolon)?;
     Ok(Instr::DestroyTag(name))
 }
 
@@ -122,7 +123,7 @@ fn read_constrain(words: &mut Cursor, room: u32) -> Result<Instr, Misread>
     ensures { Answers instr_tree result words.new (constrain_rest room words.old) }
 {
     let test = read_cond(words, room)?;
-    words.key(";")?;
+    words.key(Keyword::Semicolon)?;
     Ok(Instr::Constrain(test))
 }
 
@@ -131,7 +132,7 @@ fn read_fail(words: &mut Cursor) -> Result<Instr, Misread>
     ensures { Answers instr_tree result words.new (fail_rest words.old) }
 {
     let text = words.text()?;
-    words.key(";")?;
+    words.key(Keyword::Semicolon)?;
     Ok(Instr::Fail(text))
 }
 
@@ -140,7 +141,7 @@ fn read_forward(words: &mut Cursor) -> Result<Instr, Misread>
     ensures { Answers instr_tree result words.new (forward_rest words.old) }
 {
     let port = words.port()?;
-    words.key(";")?;
+    words.key(Keyword::Semicolon)?;
     Ok(Instr::Forward(port))
 }
 
@@ -148,7 +149,7 @@ fn read_forward(words: &mut Cursor) -> Result<Instr, Misread>
 fn read_next_port(words: &mut Cursor) -> Result<u32, Misread>
     ensures { Answers (λ x. x) result words.new (next_port words.old) }
 {
-    words.key(",")?;
+    words.key(Keyword::Comma)?;
     words.port()
 }
 
@@ -159,7 +160,7 @@ fn read_ports_from(words: &mut Cursor, first: u32) -> Result<Vec<u32>, Misread>
 {
     let mut found = vec![in words.alloc(); first]?;
     for _ in 0..words.count() {
-        if !words.begins_with(",") {
+        if !words.begins_with(Keyword::Comma) {
             return Ok(found);
         }
         let port = read_next_port(words)?;
@@ -184,7 +185,7 @@ fn read_fork(words: &mut Cursor) -> Result<Instr, Misread>
     ensures { Answers instr_tree result words.new (fork_rest words.old) }
 {
     let ports = read_ports(words)?;
-    words.key(";")?;
+    words.key(Keyword::Semicolon)?;
     Ok(Instr::Fork(ports))
 }
 
@@ -192,7 +193,7 @@ fn read_fork(words: &mut Cursor) -> Result<Instr, Misread>
 fn read_no_op(words: &mut Cursor) -> Result<Instr, Misread>
     ensures { Answers instr_tree result words.new (no_op_rest words.old) }
 {
-    words.key(";")?;
+    words.key(Keyword::Semicolon)?;
     Ok(Instr::NoOp)
 }
 

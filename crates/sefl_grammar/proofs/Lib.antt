@@ -12,6 +12,7 @@ pub mod FoundTerms
 pub mod Going
 pub mod Judged
 pub mod Leaves
+pub mod Naming
 pub mod Nets
 pub mod Printing
 pub mod PrintedCodes

@@ -6,6 +6,7 @@ ghost use Rattle.sefl_lex.specs.declared.token.TokenKind.TheVariants.{Number as 
 ghost use Rattle.sefl_grammar.specs.Table.{alternative_of};
 ghost use Rattle.sefl_grammar.specs.Automaton.{behind, by_kind, find, may_end, named, numbered, quoted};
 
+use crate::known_word::KnownWord;
 use crate::symbol::Symbol;
 use crate::symbol::Symbol::*;
 use crate::table::{Alternative, alternatives};
@@ -24,7 +25,7 @@ const MOST_WIDTH: u128 = 128;
 pub(crate) fn behind(
     symbol: Symbol,
     kind: TokenKind,
-    word: &str,
+    word: &KnownWord,
     value: u128,
 ) -> Option<&'static [Symbol]>
     requires { kind ≡ ANumber → value ≡ value_of word.now }
@@ -43,11 +44,11 @@ pub(crate) fn may_end(symbol: Symbol) -> bool
     matches!(symbol, SumTail | NotEnd | TestTail | Asks)
 }
 
-fn find(word: &str, table: &'static [Alternative]) -> Option<&'static [Symbol]>
+fn find(word: &KnownWord, table: &'static [Alternative]) -> Option<&'static [Symbol]>
     ensures { option_copied result ≡ find word.now (map alternative_of table.now) }
 {
     for (first, then) in table {
-        if word == *first {
+        if word.is(*first) {
             return Some(then);
         }
     }

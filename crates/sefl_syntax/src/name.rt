@@ -18,26 +18,28 @@ use std::cmp::Ordering;
 use std::fmt;
 use std::hash::{Hash, Hasher};
 use std::marker::Model;
+use std::rc::RcStr;
 
 /// The most bytes that a name has.
 const MOST_BYTES: usize = 64;
 
 /// A name of 1 to 64 bytes: a letter or `_`, then letters, digits and `_`, all of them ASCII.
-/// Contracts see the list of its bytes.
+/// Contracts see the list of its bytes. Copies share the text, and each takes eight bytes.
 #[derive(Drop)]
 pub struct Name {
-    text: String,
+    text: RcStr,
 }
 
 impl Model for Name {
-    ghost use Rattle.std.specs.Prelude.{ℕ, List, IsTrue, string_bytes};
+    ghost use Rattle.std.specs.Prelude.{ℕ, List, IsTrue};
+    ghost use Rattle.std.specs.Rc.{rc_str_bytes};
     ghost use Rattle.sefl_syntax.specs.Name.{is_name};
 
     ghost Value = { List ℕ };
 
-    ghost view = { λ name. string_bytes name.text };
+    ghost view = { λ name. rc_str_bytes name.text };
 
-    ghost invariant = { λ name. IsTrue (is_name (string_bytes name.text)) };
+    ghost invariant = { λ name. IsTrue (is_name (rc_str_bytes name.text)) };
 }
 
 impl Name {
@@ -49,7 +51,7 @@ impl Name {
         if !is_name(text.as_bytes()) {
             return Ok(None);
         }
-        let text = String::from_str(alloc, text)?;
+        let text = RcStr::from_str(alloc, text)?;
         Ok(Some(Name { text }))
     }
 
