@@ -1,4 +1,3 @@
-pub mod Ahead
 pub mod Bodies
 pub mod Many
 pub mod Rooms

@@ -47,11 +47,6 @@ abbrev pub begins_with : List ℕ → List Word → Bool
 begins_with text [] = false
 begins_with text (w ∷ ws) = bytes_eq w.text text
 
--- the text of the first word
-abbrev pub text_ahead : List Word → Option (List ℕ)
-text_ahead [] = None
-text_ahead (w ∷ ws) = Some w.text
-
 abbrev pub begins_name : List Word → Bool
 begins_name [] = false
 begins_name (w ∷ ws) = is_name_kind w.kind

@@ -11,7 +11,6 @@ use crate::cursor::Cursor;
 use crate::misread::Misread;
 use crate::net::{read_side, read_spot};
 use crate::reference::read_target;
-use sefl_grammar::Keyword;
 use sefl_syntax::{Ask, Cond, RawPlace, Target};
 
 #[tactic(auto, unfolding(crate::specs::Nets::place))]
@@ -28,10 +27,10 @@ fn read_place(words: &mut Cursor) -> Result<RawPlace, Misread>
 fn read_with_test(words: &mut Cursor) -> Result<Cond, Misread>
     ensures { Answers cond_tree result words.new (with_test words.old) }
 {
-    if !words.begins_with(Keyword::With) {
+    if !words.begins_with("with") {
         return Ok(Cond::True);
     }
-    words.key(Keyword::With)?;
+    words.key("with")?;
     read_cond(words, MOST_OPEN)
 }
 
@@ -39,7 +38,7 @@ fn read_with_test(words: &mut Cursor) -> Result<Cond, Misread>
 fn read_reach(words: &mut Cursor) -> Result<Ask, Misread>
     ensures { Answers ask_tree result words.new (reach words.old) }
 {
-    words.key(Keyword::Reach)?;
+    words.key("reach")?;
     let place = read_place(words)?;
     let test = read_with_test(words)?;
     Ok(Ask::Reach { place, test })
@@ -51,7 +50,7 @@ fn read_target_at(words: &mut Cursor) -> Result<(Target, RawPlace), Misread>
     ensures { Answers (λ x. x) result words.new (target_at words.old) }
 {
     let target = read_target(words)?;
-    words.key(Keyword::At)?;
+    words.key("at")?;
     let place = read_place(words)?;
     Ok((target, place))
 }
@@ -60,7 +59,7 @@ fn read_target_at(words: &mut Cursor) -> Result<(Target, RawPlace), Misread>
 fn read_invariant(words: &mut Cursor) -> Result<Ask, Misread>
     ensures { Answers ask_tree result words.new (invariant words.old) }
 {
-    words.key(Keyword::Invariant)?;
+    words.key("invariant")?;
     let (target, place) = read_target_at(words)?;
     Ok(Ask::Invariant { target, place })
 }
@@ -69,7 +68,7 @@ fn read_invariant(words: &mut Cursor) -> Result<Ask, Misread>
 fn read_visible(words: &mut Cursor) -> Result<Ask, Misread>
     ensures { Answers ask_tree result words.new (visible words.old) }
 {
-    words.key(Keyword::Visible)?;
+    words.key("visible")?;
     let (target, place) = read_target_at(words)?;
     Ok(Ask::Visible { target, place })
 }
@@ -78,10 +77,10 @@ fn read_visible(words: &mut Cursor) -> Result<Ask, Misread>
 fn read_question(words: &mut Cursor) -> Result<Ask, Misread>
     ensures { Answers ask_tree result words.new (question words.old) }
 {
-    if words.begins_with(Keyword::Reach) {
+    if words.begins_with("reach") {
         return read_reach(words);
     }
-    if words.begins_with(Keyword::Invariant) {
+    if words.begins_with("invariant") {
         return read_invariant(words);
     }
     read_visible(words)
@@ -91,9 +90,9 @@ fn read_question(words: &mut Cursor) -> Result<Ask, Misread>
 fn read_ask(words: &mut Cursor) -> Result<Ask, Misread>
     ensures { Answers ask_tree result words.new (ask words.old) }
 {
-    words.key(Keyword::Ask)?;
+    words.key("ask")?;
     let ask = read_question(words)?;
-    words.key(Keyword::Semicolon)?;
+    words.key(";")?;
     Ok(ask)
 }
 
@@ -104,7 +103,7 @@ pub(crate) fn read_asks(words: &mut Cursor) -> Result<Vec<Ask>, Misread>
 {
     let mut found = Vec::new(words.alloc());
     for _ in 0..words.count() {
-        if !words.begins_with(Keyword::Ask) {
+        if !words.begins_with("ask") {
             return Ok(found);
         }
         let item = read_ask(words)?;

@@ -11,7 +11,6 @@ use crate::head::{Head, head_ahead};
 use crate::misread::Misread;
 use crate::statement::read_statement;
 use crate::version::Version;
-use sefl_grammar::Keyword;
 use sefl_syntax::Instr;
 
 /// The most constructs that may be open at once.
@@ -30,9 +29,9 @@ pub(crate) fn read_block(
     if room == 0 {
         return Err(Misread::Unexpected);
     }
-    words.key(Keyword::OpenBrace)?;
+    words.key("{")?;
     let code = read_instrs(words, version, room - 1)?;
-    words.key(Keyword::CloseBrace)?;
+    words.key("}")?;
     Ok(code)
 }
 
@@ -44,7 +43,7 @@ fn read_instrs(words: &mut Cursor, version: Version, room: u32) -> Result<Vec<In
 {
     let mut found = Vec::new(words.alloc());
     for _ in 0..words.count() {
-        if words.begins_with(Keyword::CloseBrace) {
+        if words.begins_with("}") {
             found.shrink_to_fit();
             return Ok(found);
         }
@@ -60,7 +59,7 @@ fn read_instrs(words: &mut Cursor, version: Version, room: u32) -> Result<Vec<In
 fn read_instr(words: &mut Cursor, version: Version, room: u32) -> Result<Instr, Misread>
     ensures { Answers instr_tree result words.new (instr version room words.old) }
 {
-    if words.begins_with(Keyword::OpenBrace) {
+    if words.begins_with("{") {
         return read_block_here(words, version, room);
     }
     let Some(head) = head_ahead(words) else {
@@ -90,7 +89,7 @@ fn read_if(words: &mut Cursor, version: Version, room: u32) -> Result<Instr, Mis
 {
     let test = read_cond(words, room)?;
     let first = read_block(words, version, room)?;
-    words.key(Keyword::Else)?;
+    words.key("else")?;
     let other = read_block(words, version, room)?;
     Ok(Instr::If { test, first, other })
 }
@@ -101,7 +100,7 @@ fn read_for(words: &mut Cursor, version: Version, room: u32) -> Result<Instr, Mi
     ensures { Answers instr_tree result words.new (for_rest version room words.old) }
 {
     let var = words.name()?;
-    words.key(Keyword::In)?;
+    words.key("in")?;
     let pattern = words.text()?;
     let body = read_block(words, version, room)?;
     Ok(Instr::For { var, pattern, body })

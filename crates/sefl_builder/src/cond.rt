@@ -9,7 +9,6 @@ ghost use Rattle.sefl_builder.specs.Conditions.{atom, braced_ranges, bracket, co
 use crate::cursor::Cursor;
 use crate::expr::read_expr;
 use crate::misread::Misread;
-use sefl_grammar::Keyword;
 use sefl_syntax::Cond;
 use sn_width::{Num, Rel};
 use std::alloc::{AllocError, Global};
@@ -19,22 +18,22 @@ use std::alloc::{AllocError, Global};
 fn rel_ahead(words: &Cursor) -> Option<Rel>
     ensures { result ≡ rel_ahead words.now }
 {
-    if words.begins_with(Keyword::Equal) {
+    if words.begins_with("==") {
         return Some(Rel::Eq);
     }
-    if words.begins_with(Keyword::NotEqual) {
+    if words.begins_with("!=") {
         return Some(Rel::Ne);
     }
-    if words.begins_with(Keyword::Less) {
+    if words.begins_with("<") {
         return Some(Rel::Lt);
     }
-    if words.begins_with(Keyword::AtMost) {
+    if words.begins_with("<=") {
         return Some(Rel::Le);
     }
-    if words.begins_with(Keyword::Greater) {
+    if words.begins_with(">") {
         return Some(Rel::Gt);
     }
-    if words.begins_with(Keyword::AtLeast) {
+    if words.begins_with(">=") {
         return Some(Rel::Ge);
     }
     None
@@ -57,10 +56,10 @@ fn read_range(words: &mut Cursor) -> Result<(Num, Num), Misread>
     ensures { Answers (λ x. x) result words.new (range words.old) }
 {
     let first = words.number()?;
-    if !words.begins_with(Keyword::Range) {
+    if !words.begins_with("..") {
         return Ok((first, first));
     }
-    words.key(Keyword::Range)?;
+    words.key("..")?;
     let last = words.number()?;
     Ok((first, last))
 }
@@ -69,7 +68,7 @@ fn read_range(words: &mut Cursor) -> Result<(Num, Num), Misread>
 fn read_next_range(words: &mut Cursor) -> Result<(Num, Num), Misread>
     ensures { Answers (λ x. x) result words.new (next_range words.old) }
 {
-    words.key(Keyword::Comma)?;
+    words.key(",")?;
     read_range(words)
 }
 
@@ -80,7 +79,7 @@ fn read_ranges_from(words: &mut Cursor, first: (Num, Num)) -> Result<Vec<(Num, N
 {
     let mut found = vec![in words.alloc(); first]?;
     for _ in 0..words.count() {
-        if !words.begins_with(Keyword::Comma) {
+        if !words.begins_with(",") {
             return Ok(found);
         }
         let range = read_next_range(words)?;
@@ -103,21 +102,21 @@ pub(crate) fn goes_expr(words: &Cursor) -> bool
     ensures { result ≡ goes_expr words.now }
 {
     words.begins_number()
-        || words.begins_with(Keyword::OpenParenthesis)
-        || words.begins_with(Keyword::Head)
-        || words.begins_with(Keyword::Global)
-        || words.begins_with(Keyword::Local)
-        || words.begins_with(Keyword::Dollar)
+        || words.begins_with("(")
+        || words.begins_with("head")
+        || words.begins_with("global")
+        || words.begins_with("local")
+        || words.begins_with("$")
 }
 
 #[tactic(auto, unfolding(crate::specs::Conditions::braced_ranges))]
 fn read_braced_ranges(words: &mut Cursor) -> Result<Vec<(Num, Num)>, Misread>
     ensures { Answers (λ v. v.items) result words.new (braced_ranges words.old) }
 {
-    words.key(Keyword::In)?;
-    words.key(Keyword::OpenBrace)?;
+    words.key("in")?;
+    words.key("{")?;
     let ranges = read_ranges(words)?;
-    words.key(Keyword::CloseBrace)?;
+    words.key("}")?;
     Ok(ranges)
 }
 
@@ -127,7 +126,7 @@ fn read_atom(words: &mut Cursor, room: u32) -> Result<Cond, Misread>
     ensures { Answers cond_tree result words.new (atom room words.old) }
 {
     let left = read_expr(words, room)?;
-    if words.begins_with(Keyword::In) {
+    if words.begins_with("in") {
         let ranges = read_braced_ranges(words)?;
         let test = Cond::member(words.alloc(), left, ranges)?;
         return Ok(test);
@@ -141,7 +140,7 @@ fn read_atom(words: &mut Cursor, room: u32) -> Result<Cond, Misread>
 fn read_truth(words: &mut Cursor) -> Result<Cond, Misread>
     ensures { Answers cond_tree result words.new (truth words.old) }
 {
-    words.key(Keyword::True)?;
+    words.key("true")?;
     Ok(Cond::True)
 }
 
@@ -160,7 +159,7 @@ pub(crate) fn read_cond(words: &mut Cursor, room: u32) -> Result<Cond, Misread>
     ensures { Answers cond_tree result words.new (cond room words.old) }
 {
     let first = read_conj(words, room)?;
-    if !words.begins_with(Keyword::Or) {
+    if !words.begins_with("or") {
         return Ok(first);
     }
     let members = read_conjs_from(words, room, first)?;
@@ -175,7 +174,7 @@ fn read_conjs_from(words: &mut Cursor, room: u32, first: Cond) -> Result<Vec<Con
 {
     let mut found = vec![in words.alloc(); first]?;
     for _ in 0..words.count() {
-        if !words.begins_with(Keyword::Or) {
+        if !words.begins_with("or") {
             return Ok(found);
         }
         let member = read_next_conj(words, room)?;
@@ -189,7 +188,7 @@ fn read_conjs_from(words: &mut Cursor, room: u32, first: Cond) -> Result<Vec<Con
 fn read_next_conj(words: &mut Cursor, room: u32) -> Result<Cond, Misread>
     ensures { Answers cond_tree result words.new (next_conj room words.old) }
 {
-    words.key(Keyword::Or)?;
+    words.key("or")?;
     read_conj(words, room)
 }
 
@@ -200,7 +199,7 @@ fn read_conj(words: &mut Cursor, room: u32) -> Result<Cond, Misread>
     ensures { Answers cond_tree result words.new (conj room words.old) }
 {
     let first = read_neg(words, room)?;
-    if !words.begins_with(Keyword::And) {
+    if !words.begins_with("and") {
         return Ok(first);
     }
     let members = read_negs_from(words, room, first)?;
@@ -215,7 +214,7 @@ fn read_negs_from(words: &mut Cursor, room: u32, first: Cond) -> Result<Vec<Cond
 {
     let mut found = vec![in words.alloc(); first]?;
     for _ in 0..words.count() {
-        if !words.begins_with(Keyword::And) {
+        if !words.begins_with("and") {
             return Ok(found);
         }
         let member = read_next_neg(words, room)?;
@@ -229,7 +228,7 @@ fn read_negs_from(words: &mut Cursor, room: u32, first: Cond) -> Result<Vec<Cond
 fn read_next_neg(words: &mut Cursor, room: u32) -> Result<Cond, Misread>
     ensures { Answers cond_tree result words.new (next_neg room words.old) }
 {
-    words.key(Keyword::And)?;
+    words.key("and")?;
     read_neg(words, room)
 }
 
@@ -242,10 +241,10 @@ fn read_neg(words: &mut Cursor, room: u32) -> Result<Cond, Misread>
     if goes_expr(words) {
         return read_atom(words, room);
     }
-    if words.begins_with(Keyword::Not) {
+    if words.begins_with("not") {
         return read_opposite(words, room);
     }
-    if words.begins_with(Keyword::OpenBracket) {
+    if words.begins_with("[") {
         return read_bracket(words, room);
     }
     read_truth(words)
@@ -259,7 +258,7 @@ fn read_opposite(words: &mut Cursor, room: u32) -> Result<Cond, Misread>
     if room == 0 {
         return Err(Misread::Unexpected);
     }
-    words.key(Keyword::Not)?;
+    words.key("not")?;
     let member = read_neg(words, room - 1)?;
     let cond = not_of(words.alloc(), member)?;
     Ok(cond)
@@ -273,8 +272,8 @@ fn read_bracket(words: &mut Cursor, room: u32) -> Result<Cond, Misread>
     if room == 0 {
         return Err(Misread::Unexpected);
     }
-    words.key(Keyword::OpenBracket)?;
+    words.key("[")?;
     let cond = read_cond(words, room - 1)?;
-    words.key(Keyword::CloseBracket)?;
+    words.key("]")?;
     Ok(cond)
 }

@@ -2,14 +2,11 @@
 
 ghost use Rattle.std.specs.Prelude.{◌≡◌, ◌≤◌, All, IfOk, length};
 ghost use Rattle.sefl_lex.specs.Reads.{IsTokenOf};
-ghost use Rattle.sefl_grammar.specs.Keywords.{keyword_text};
 ghost use Rattle.sefl_grammar.specs.Words.{words_of};
-ghost use Rattle.sefl_builder.specs.Reading.{Answers, begins_with, begins_name, begins_number, text_ahead};
+ghost use Rattle.sefl_builder.specs.Reading.{Answers, begins_with, begins_name, begins_number};
 ghost use Rattle.sefl_builder.specs.Leaves.{key, name, number, number_in, offset, port, skip, text, width};
 
 use crate::misread::Misread;
-use crate::names::Names;
-use sefl_grammar::{Keyword, KnownWord};
 use sefl_lex::{Token, TokenKind, number_value, text_body, token_text};
 use sefl_syntax::{Name, Text};
 use sn_width::{Num, Width};
@@ -31,9 +28,6 @@ pub(crate) struct Cursor<'a> {
     alloc: Global,
     text: &'a str,
     left: &'a [Token],
-    /// The first of them.
-    ahead: Option<KnownWord<'a>>,
-    names: Names,
 }
 
 impl<'a> Model for Cursor<'a> {
@@ -41,25 +35,12 @@ impl<'a> Model for Cursor<'a> {
     ghost use Rattle.sefl_lex.specs.Reads.{IsTokenOf};
     ghost use Rattle.sefl_grammar.specs.Word.{Word};
     ghost use Rattle.sefl_grammar.specs.Words.{words_of};
-    ghost use Rattle.sefl_builder.specs.Reading.{text_ahead};
-    ghost use Rattle.std.specs.Prelude.{◌≡◌};
 
     ghost Value = { List Word };
 
     ghost view = { λ c. words_of c.text.now c.left.now };
 
-    ghost invariant = { λ c. All (IsTokenOf c.text.now) c.left.now × (c.ahead ≡ text_ahead (words_of c.text.now c.left.now)) };
-}
-
-/// The first word.
-fn ahead_of<'a>(text: &'a str, left: &[Token]) -> Option<KnownWord<'a>>
-    requires { All (IsTokenOf text.now) left.now }
-    ensures { result ≡ text_ahead (words_of text.now left.now) }
-{
-    match left {
-        [] => None,
-        [first, ..] => Some(KnownWord::of(token_text(text, *first))),
-    }
+    ghost invariant = { λ c. All (IsTokenOf c.text.now) c.left.now };
 }
 
 impl<'a> Cursor<'a> {
@@ -72,8 +53,6 @@ impl<'a> Cursor<'a> {
             alloc,
             text,
             left: tokens,
-            ahead: ahead_of(text, tokens),
-            names: Names::new(alloc),
         }
     }
 
@@ -90,13 +69,12 @@ impl<'a> Cursor<'a> {
     }
 
     /// Whether the next word is this one.
-    #[tactic(auto, using(crate::proofs::Ahead::begins_none, crate::proofs::Ahead::begins_some))]
-    pub(crate) fn begins_with(&self, word: Keyword) -> bool
-        ensures { result ≡ begins_with (keyword_text word) self.now }
+    pub(crate) fn begins_with(&self, word: &str) -> bool
+        ensures { result ≡ begins_with word.now self.now }
     {
-        match &self.ahead {
-            None => false,
-            Some(ahead) => ahead.is(word),
+        match self.left {
+            [] => false,
+            [first, ..] => token_text(self.text, *first) == word,
         }
     }
 
@@ -122,17 +100,16 @@ impl<'a> Cursor<'a> {
 
     /// Takes this word.
     #[tactic(auto, unfolding(crate::specs::Leaves::key))]
-    pub(crate) fn key(&mut self, word: Keyword) -> Result<(), Misread>
-        ensures { Answers (λ x. x) result self.new (key (keyword_text word) self.old) }
+    pub(crate) fn key(&mut self, word: &str) -> Result<(), Misread>
+        ensures { Answers (λ x. x) result self.new (key word.now self.old) }
     {
-        let [_, rest @ ..] = self.left else {
+        let [first, rest @ ..] = self.left else {
             return Err(Misread::Unexpected);
         };
-        if !self.begins_with(word) {
+        if token_text(self.text, *first) != word {
             return Err(Misread::Unexpected);
         }
         self.left = rest;
-        self.ahead = ahead_of(self.text, rest);
         Ok(())
     }
 
@@ -145,7 +122,6 @@ impl<'a> Cursor<'a> {
             return Err(Misread::Unexpected);
         };
         self.left = rest;
-        self.ahead = ahead_of(self.text, rest);
         Ok(())
     }
 
@@ -157,11 +133,10 @@ impl<'a> Cursor<'a> {
         let [first, rest @ ..] = self.left else {
             return Err(Misread::Unexpected);
         };
-        let Some(name) = self.names.name(self.alloc, token_text(self.text, *first))? else {
+        let Some(name) = Name::of(self.alloc, token_text(self.text, *first))? else {
             return Err(Misread::Unexpected);
         };
         self.left = rest;
-        self.ahead = ahead_of(self.text, rest);
         Ok(name)
     }
 
@@ -178,7 +153,6 @@ impl<'a> Cursor<'a> {
         }
         let text = Text::of(self.alloc, text_body(self.text, *first))?;
         self.left = rest;
-        self.ahead = ahead_of(self.text, rest);
         Ok(text)
     }
 
@@ -195,7 +169,6 @@ impl<'a> Cursor<'a> {
         }
         let value = number_value(self.text, *first);
         self.left = rest;
-        self.ahead = ahead_of(self.text, rest);
         Ok(value)
     }
 

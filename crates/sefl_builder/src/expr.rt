@@ -9,7 +9,6 @@ ghost use Rattle.sefl_builder.specs.Terms.{constant_here, expr, goes_sum, group,
 use crate::cursor::Cursor;
 use crate::misread::Misread;
 use crate::reference::read_target;
-use sefl_grammar::Keyword;
 use sefl_syntax::{Expr, Sign};
 use std::alloc::{AllocError, Global};
 
@@ -33,18 +32,18 @@ fn read_reading(words: &mut Cursor) -> Result<Expr, Misread>
 fn goes_sum(words: &Cursor) -> bool
     ensures { result ≡ goes_sum words.now }
 {
-    words.begins_with(Keyword::Plus) || words.begins_with(Keyword::Minus)
+    words.begins_with("+") || words.begins_with("-")
 }
 
 #[tactic(auto, unfolding(crate::specs::Terms::sign))]
 fn read_sign(words: &mut Cursor) -> Result<Sign, Misread>
     ensures { Answers (λ x. x) result words.new (sign words.old) }
 {
-    if words.begins_with(Keyword::Plus) {
-        words.key(Keyword::Plus)?;
+    if words.begins_with("+") {
+        words.key("+")?;
         return Ok(Sign::Plus);
     }
-    words.key(Keyword::Minus)?;
+    words.key("-")?;
     Ok(Sign::Minus)
 }
 
@@ -81,9 +80,9 @@ fn read_group(words: &mut Cursor, room: u32) -> Result<Expr, Misread>
     if room == 0 {
         return Err(Misread::Unexpected);
     }
-    words.key(Keyword::OpenParenthesis)?;
+    words.key("(")?;
     let expr = read_expr(words, room - 1)?;
-    words.key(Keyword::CloseParenthesis)?;
+    words.key(")")?;
     Ok(expr)
 }
 
@@ -96,7 +95,7 @@ fn read_operand(words: &mut Cursor, room: u32) -> Result<Expr, Misread>
     if words.begins_number() {
         return read_constant(words);
     }
-    if words.begins_with(Keyword::OpenParenthesis) {
+    if words.begins_with("(") {
         return read_group(words, room);
     }
     read_reading(words)

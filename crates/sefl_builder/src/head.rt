@@ -4,7 +4,6 @@ ghost use Rattle.std.specs.Prelude.{◌≡◌};
 ghost use Rattle.sefl_builder.specs.Instructions.{head_ahead, way_ahead};
 
 use crate::cursor::Cursor;
-use sefl_grammar::Keyword;
 
 /// A word that begins an instruction.
 #[derive(Clone, Copy, PartialEq, Eq)]
@@ -29,28 +28,28 @@ pub(crate) enum Head {
 pub(crate) fn head_ahead(words: &Cursor) -> Option<Head>
     ensures { result ≡ head_ahead words.now }
 {
-    if words.begins_with(Keyword::Allocate) {
+    if words.begins_with("allocate") {
         return Some(Head::Allocate);
     }
-    if words.begins_with(Keyword::Deallocate) {
+    if words.begins_with("deallocate") {
         return Some(Head::Deallocate);
     }
-    if words.begins_with(Keyword::Set) {
+    if words.begins_with("set") {
         return Some(Head::Set);
     }
-    if words.begins_with(Keyword::Tag) {
+    if words.begins_with("tag") {
         return Some(Head::Tag);
     }
-    if words.begins_with(Keyword::Retag) {
+    if words.begins_with("retag") {
         return Some(Head::Retag);
     }
-    if words.begins_with(Keyword::Untag) {
+    if words.begins_with("untag") {
         return Some(Head::Untag);
     }
-    if words.begins_with(Keyword::Constrain) {
+    if words.begins_with("constrain") {
         return Some(Head::Constrain);
     }
-    if words.begins_with(Keyword::NoOp) {
+    if words.begins_with("noop") {
         return Some(Head::NoOp);
     }
     way_ahead(words)
@@ -61,19 +60,19 @@ pub(crate) fn head_ahead(words: &Cursor) -> Option<Head>
 fn way_ahead(words: &Cursor) -> Option<Head>
     ensures { result ≡ way_ahead words.now }
 {
-    if words.begins_with(Keyword::If) {
+    if words.begins_with("if") {
         return Some(Head::If);
     }
-    if words.begins_with(Keyword::For) {
+    if words.begins_with("for") {
         return Some(Head::For);
     }
-    if words.begins_with(Keyword::Forward) {
+    if words.begins_with("forward") {
         return Some(Head::Forward);
     }
-    if words.begins_with(Keyword::Fork) {
+    if words.begins_with("fork") {
         return Some(Head::Fork);
     }
-    if words.begins_with(Keyword::Fail) {
+    if words.begins_with("fail") {
         return Some(Head::Fail);
     }
     None

@@ -12,7 +12,6 @@ use crate::misread::Misread;
 use crate::net::read_spot;
 use crate::reference::read_target;
 use crate::statement::read_tag_line;
-use sefl_grammar::Keyword;
 use sefl_syntax::{Addr, Cond, Name, RawField, RawInjection};
 use sn_width::Num;
 
@@ -20,7 +19,7 @@ use sn_width::Num;
 fn read_tag(words: &mut Cursor) -> Result<(Name, Addr), Misread>
     ensures { Answers (λ x. x) result words.new (tag words.old) }
 {
-    words.key(Keyword::Tag)?;
+    words.key("tag")?;
     read_tag_line(words)
 }
 
@@ -31,7 +30,7 @@ fn read_tags(words: &mut Cursor) -> Result<Vec<(Name, Addr)>, Misread>
 {
     let mut found = Vec::new(words.alloc());
     for _ in 0..words.count() {
-        if !words.begins_with(Keyword::Tag) {
+        if !words.begins_with("tag") {
             return Ok(found);
         }
         let item = read_tag(words)?;
@@ -45,10 +44,10 @@ fn read_tags(words: &mut Cursor) -> Result<Vec<(Name, Addr)>, Misread>
 fn read_field_value(words: &mut Cursor) -> Result<Option<Num>, Misread>
     ensures { Answers (λ x. x) result words.new (field_value words.old) }
 {
-    if !words.begins_with(Keyword::Equals) {
+    if !words.begins_with("=") {
         return Ok(None);
     }
-    words.key(Keyword::Equals)?;
+    words.key("=")?;
     let value = words.number()?;
     Ok(Some(value))
 }
@@ -57,10 +56,10 @@ fn read_field_value(words: &mut Cursor) -> Result<Option<Num>, Misread>
 fn read_field(words: &mut Cursor) -> Result<RawField, Misread>
     ensures { Answers (λ x. x) result words.new (field words.old) }
 {
-    words.key(Keyword::Field)?;
+    words.key("field")?;
     let target = read_target(words)?;
     let value = read_field_value(words)?;
-    words.key(Keyword::Semicolon)?;
+    words.key(";")?;
     Ok(RawField { target, value })
 }
 
@@ -71,7 +70,7 @@ fn read_fields(words: &mut Cursor) -> Result<Vec<RawField>, Misread>
 {
     let mut found = Vec::new(words.alloc());
     for _ in 0..words.count() {
-        if !words.begins_with(Keyword::Field) {
+        if !words.begins_with("field") {
             return Ok(found);
         }
         let item = read_field(words)?;
@@ -84,9 +83,9 @@ fn read_fields(words: &mut Cursor) -> Result<Vec<RawField>, Misread>
 fn read_test(words: &mut Cursor) -> Result<Cond, Misread>
     ensures { Answers cond_tree result words.new (where_test words.old) }
 {
-    words.key(Keyword::Where)?;
+    words.key("where")?;
     let test = read_cond(words, MOST_OPEN)?;
-    words.key(Keyword::Semicolon)?;
+    words.key(";")?;
     Ok(test)
 }
 
@@ -97,7 +96,7 @@ fn read_tests(words: &mut Cursor) -> Result<Vec<Cond>, Misread>
 {
     let mut found = Vec::new(words.alloc());
     for _ in 0..words.count() {
-        if !words.begins_with(Keyword::Where) {
+        if !words.begins_with("where") {
             return Ok(found);
         }
         let item = read_test(words)?;
@@ -111,13 +110,13 @@ fn read_tests(words: &mut Cursor) -> Result<Vec<Cond>, Misread>
 pub(crate) fn read_injection(words: &mut Cursor) -> Result<RawInjection, Misread>
     ensures { Answers injection_tree result words.new (injection words.old) }
 {
-    words.key(Keyword::Inject)?;
+    words.key("inject")?;
     let (node, port) = read_spot(words)?;
-    words.key(Keyword::OpenBrace)?;
+    words.key("{")?;
     let tags = read_tags(words)?;
     let fields = read_fields(words)?;
     let tests = read_tests(words)?;
-    words.key(Keyword::CloseBrace)?;
+    words.key("}")?;
     Ok(RawInjection {
         node,
         port,

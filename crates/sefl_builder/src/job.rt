@@ -10,18 +10,17 @@ use crate::injection::read_injection;
 use crate::misread::Misread;
 use crate::net::read_net;
 use crate::version::Version;
-use sefl_grammar::Keyword;
 use sefl_syntax::Job;
 
 #[tactic(auto, unfolding(crate::specs::Nets::version))]
 fn read_version(words: &mut Cursor) -> Result<Version, Misread>
     ensures { Answers (λ x. x) result words.new (version words.old) }
 {
-    if words.begins_with(Keyword::One) {
-        words.key(Keyword::One)?;
+    if words.begins_with("1") {
+        words.key("1")?;
         return Ok(Version::Old);
     }
-    words.key(Keyword::Two)?;
+    words.key("2")?;
     Ok(Version::New)
 }
 
@@ -30,9 +29,9 @@ fn read_version(words: &mut Cursor) -> Result<Version, Misread>
 fn read_heading(words: &mut Cursor) -> Result<Version, Misread>
     ensures { Answers (λ x. x) result words.new (heading words.old) }
 {
-    words.key(Keyword::Symnet)?;
+    words.key("symnet")?;
     let version = read_version(words)?;
-    words.key(Keyword::Semicolon)?;
+    words.key(";")?;
     Ok(version)
 }
 

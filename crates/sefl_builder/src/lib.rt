@@ -12,7 +12,6 @@ mod injection;
 mod job;
 pub mod laws;
 mod misread;
-mod names;
 mod net;
 mod reference;
 mod statement;

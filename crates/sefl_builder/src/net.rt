@@ -9,18 +9,17 @@ use crate::code::{MOST_OPEN, read_block};
 use crate::cursor::Cursor;
 use crate::misread::Misread;
 use crate::version::Version;
-use sefl_grammar::Keyword;
 use sefl_syntax::{Body, Link, Name, NodeDecl, PortCode, RawNet, RawNode, Side, Style, TableKind};
 
 #[tactic(auto, unfolding(crate::specs::Nets::side))]
 pub(crate) fn read_side(words: &mut Cursor) -> Result<Side, Misread>
     ensures { Answers (λ x. x) result words.new (side words.old) }
 {
-    if words.begins_with(Keyword::In) {
-        words.key(Keyword::In)?;
+    if words.begins_with("in") {
+        words.key("in")?;
         return Ok(Side::Inward);
     }
-    words.key(Keyword::Out)?;
+    words.key("out")?;
     Ok(Side::Outward)
 }
 
@@ -30,7 +29,7 @@ pub(crate) fn read_spot(words: &mut Cursor) -> Result<(Name, u32), Misread>
     ensures { Answers (λ x. x) result words.new (spot words.old) }
 {
     let name = words.name()?;
-    words.key(Keyword::Dot)?;
+    words.key(".")?;
     let port = words.port()?;
     Ok((name, port))
 }
@@ -50,7 +49,7 @@ fn read_port_code(words: &mut Cursor, version: Version) -> Result<PortCode, Misr
 fn goes_port_code(words: &Cursor) -> bool
     ensures { result ≡ goes_port_code words.now }
 {
-    words.begins_with(Keyword::In) || words.begins_with(Keyword::Out)
+    words.begins_with("in") || words.begins_with("out")
 }
 
 /// Reads the codes of a node's ports.
@@ -75,11 +74,11 @@ fn read_node(words: &mut Cursor, version: Version) -> Result<RawNode, Misread>
     ensures { Answers node_tree result words.new (node version words.old) }
 {
     let ins = words.port()?;
-    words.key(Keyword::Arrow)?;
+    words.key("->")?;
     let outs = words.port()?;
-    words.key(Keyword::OpenBrace)?;
+    words.key("{")?;
     let codes = read_port_codes(words, version)?;
-    words.key(Keyword::CloseBrace)?;
+    words.key("}")?;
     Ok(RawNode { ins, outs, codes })
 }
 
@@ -87,11 +86,11 @@ fn read_node(words: &mut Cursor, version: Version) -> Result<RawNode, Misread>
 fn read_table_kind(words: &mut Cursor) -> Result<TableKind, Misread>
     ensures { Answers (λ x. x) result words.new (table_kind words.old) }
 {
-    if words.begins_with(Keyword::Mac) {
-        words.key(Keyword::Mac)?;
+    if words.begins_with("mac") {
+        words.key("mac")?;
         return Ok(TableKind::Mac);
     }
-    words.key(Keyword::Fib)?;
+    words.key("fib")?;
     Ok(TableKind::Fib)
 }
 
@@ -99,15 +98,15 @@ fn read_table_kind(words: &mut Cursor) -> Result<TableKind, Misread>
 fn read_style(words: &mut Cursor) -> Result<Style, Misread>
     ensures { Answers (λ x. x) result words.new (style words.old) }
 {
-    if words.begins_with(Keyword::Chain) {
-        words.key(Keyword::Chain)?;
+    if words.begins_with("chain") {
+        words.key("chain")?;
         return Ok(Style::Chain);
     }
-    if words.begins_with(Keyword::Grouped) {
-        words.key(Keyword::Grouped)?;
+    if words.begins_with("grouped") {
+        words.key("grouped")?;
         return Ok(Style::Grouped);
     }
-    words.key(Keyword::Egress)?;
+    words.key("egress")?;
     Ok(Style::Egress)
 }
 
@@ -116,11 +115,11 @@ fn read_style(words: &mut Cursor) -> Result<Style, Misread>
 fn read_table(words: &mut Cursor) -> Result<Body, Misread>
     ensures { Answers body_tree result words.new (table words.old) }
 {
-    words.key(Keyword::Equals)?;
+    words.key("=")?;
     let kind = read_table_kind(words)?;
     let file = words.text()?;
     let style = read_style(words)?;
-    words.key(Keyword::Semicolon)?;
+    words.key(";")?;
     Ok(Body::Table { kind, file, style })
 }
 
@@ -140,7 +139,7 @@ fn read_body(words: &mut Cursor, version: Version) -> Result<Body, Misread>
 fn read_decl(words: &mut Cursor, version: Version) -> Result<NodeDecl, Misread>
     ensures { Answers decl_tree result words.new (decl version words.old) }
 {
-    words.key(Keyword::Node)?;
+    words.key("node")?;
     let name = words.name()?;
     let body = read_body(words, version)?;
     Ok(NodeDecl { name, body })
@@ -153,7 +152,7 @@ fn read_nodes(words: &mut Cursor, version: Version) -> Result<Vec<NodeDecl>, Mis
 {
     let mut found = Vec::new(words.alloc());
     for _ in 0..words.count() {
-        if !words.begins_with(Keyword::Node) {
+        if !words.begins_with("node") {
             return Ok(found);
         }
         let item = read_decl(words, version)?;
@@ -166,11 +165,11 @@ fn read_nodes(words: &mut Cursor, version: Version) -> Result<Vec<NodeDecl>, Mis
 fn read_link(words: &mut Cursor) -> Result<Link, Misread>
     ensures { Answers (λ x. x) result words.new (link words.old) }
 {
-    words.key(Keyword::Link)?;
+    words.key("link")?;
     let (from, from_port) = read_spot(words)?;
-    words.key(Keyword::Arrow)?;
+    words.key("->")?;
     let (to, to_port) = read_spot(words)?;
-    words.key(Keyword::Semicolon)?;
+    words.key(";")?;
     Ok(Link {
         from,
         from_port,
@@ -186,7 +185,7 @@ fn read_links(words: &mut Cursor) -> Result<Vec<Link>, Misread>
 {
     let mut found = Vec::new(words.alloc());
     for _ in 0..words.count() {
-        if !words.begins_with(Keyword::Link) {
+        if !words.begins_with("link") {
             return Ok(found);
         }
         let item = read_link(words)?;

@@ -5,7 +5,6 @@ ghost use Rattle.sefl_builder.specs.Terms.{addr, ahead, back, bound, header, met
 
 use crate::cursor::Cursor;
 use crate::misread::Misread;
-use sefl_grammar::Keyword;
 use sefl_syntax::{Addr, Scope, Target};
 use sn_width::Width;
 
@@ -23,7 +22,7 @@ fn read_ahead(words: &mut Cursor) -> Result<i32, Misread>
 fn read_back(words: &mut Cursor) -> Result<i32, Misread>
     ensures { Answers (λ x. x) result words.new (back words.old) }
 {
-    words.key(Keyword::Minus)?;
+    words.key("-")?;
     let offset = words.offset()?;
     Ok(-(offset as i32))
 }
@@ -33,10 +32,10 @@ fn read_back(words: &mut Cursor) -> Result<i32, Misread>
 fn read_signed(words: &mut Cursor) -> Result<i32, Misread>
     ensures { Answers (λ x. x) result words.new (signed words.old) }
 {
-    if words.begins_with(Keyword::Minus) {
+    if words.begins_with("-") {
         return read_back(words);
     }
-    words.key(Keyword::Plus)?;
+    words.key("+")?;
     read_ahead(words)
 }
 
@@ -87,7 +86,7 @@ pub(crate) fn read_addr(words: &mut Cursor) -> Result<Addr, Misread>
 fn read_sized(words: &mut Cursor) -> Result<Width, Misread>
     ensures { Answers (λ x. x) result words.new (sized words.old) }
 {
-    words.key(Keyword::Colon)?;
+    words.key(":")?;
     words.width()
 }
 
@@ -95,7 +94,7 @@ fn read_sized(words: &mut Cursor) -> Result<Width, Misread>
 fn read_header(words: &mut Cursor) -> Result<Target, Misread>
     ensures { Answers (λ x. x) result words.new (header words.old) }
 {
-    words.key(Keyword::Head)?;
+    words.key("head")?;
     let addr = read_addr(words)?;
     let width = read_sized(words)?;
     Ok(Target::Header { addr, width })
@@ -105,11 +104,11 @@ fn read_header(words: &mut Cursor) -> Result<Target, Misread>
 fn read_scope(words: &mut Cursor) -> Result<Scope, Misread>
     ensures { Answers (λ x. x) result words.new (scope words.old) }
 {
-    if words.begins_with(Keyword::Global) {
-        words.key(Keyword::Global)?;
+    if words.begins_with("global") {
+        words.key("global")?;
         return Ok(Scope::Global);
     }
-    words.key(Keyword::Local)?;
+    words.key("local")?;
     Ok(Scope::Local)
 }
 
@@ -127,7 +126,7 @@ fn read_meta(words: &mut Cursor) -> Result<Target, Misread>
 fn read_bound(words: &mut Cursor) -> Result<Target, Misread>
     ensures { Answers (λ x. x) result words.new (bound words.old) }
 {
-    words.key(Keyword::Dollar)?;
+    words.key("$")?;
     let var = words.name()?;
     let width = read_sized(words)?;
     Ok(Target::Bound { var, width })
@@ -138,10 +137,10 @@ fn read_bound(words: &mut Cursor) -> Result<Target, Misread>
 pub(crate) fn read_target(words: &mut Cursor) -> Result<Target, Misread>
     ensures { Answers (λ x. x) result words.new (target words.old) }
 {
-    if words.begins_with(Keyword::Head) {
+    if words.begins_with("head") {
         return read_header(words);
     }
-    if words.begins_with(Keyword::Dollar) {
+    if words.begins_with("$") {
         return read_bound(words);
     }
     read_meta(words)

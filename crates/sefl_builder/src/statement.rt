@@ -11,7 +11,6 @@ use crate::head::Head;
 use crate::misread::Misread;
 use crate::reference::{read_addr, read_target};
 use crate::version::Version;
-use sefl_grammar::Keyword;
 use sefl_syntax::{Addr, Instr, Name, Target};
 
 /// Reads a target and its semicolon.
@@ -20,7 +19,7 @@ fn read_target_line(words: &mut Cursor) -> Result<Target, Misread>
     ensures { Answers (λ x. x) result words.new (target_line words.old) }
 {
     let target = read_target(words)?;
-    words.key(Keyword::Semicolon)?;
+    words.key(";")?;
     Ok(target)
 }
 
@@ -45,8 +44,8 @@ fn read_deallocate(words: &mut Cursor) -> Result<Instr, Misread>
 fn read_any(words: &mut Cursor, target: Target) -> Result<Instr, Misread>
     ensures { Answers instr_tree result words.new (any_rest target words.old) }
 {
-    words.key(Keyword::Any)?;
-    words.key(Keyword::Semicolon)?;
+    words.key("any")?;
+    words.key(";")?;
     Ok(Instr::AssignAny(target))
 }
 
@@ -56,7 +55,7 @@ fn read_assign(words: &mut Cursor, room: u32, target: Target) -> Result<Instr, M
     ensures { Answers instr_tree result words.new (assign_rest room target words.old) }
 {
     let value = read_expr(words, room)?;
-    words.key(Keyword::Semicolon)?;
+    words.key(";")?;
     Ok(Instr::Assign { target, value })
 }
 
@@ -65,7 +64,7 @@ fn read_set(words: &mut Cursor, room: u32) -> Result<Instr, Misread>
     ensures { Answers instr_tree result words.new (set_rest room words.old) }
 {
     let target = read_target(words)?;
-    words.key(Keyword::Equals)?;
+    words.key("=")?;
     if goes_expr(words) {
         return read_assign(words, room, target);
     }
@@ -78,9 +77,9 @@ pub(crate) fn read_tag_line(words: &mut Cursor) -> Result<(Name, Addr), Misread>
     ensures { Answers (λ x. x) result words.new (tag_line words.old) }
 {
     let name = words.name()?;
-    words.key(Keyword::Equals)?;
+    words.key("=")?;
     let addr = read_addr(words)?;
-    words.key(Keyword::Semicolon)?;
+    words.key(";")?;
     Ok((name, addr))
 }
 
@@ -114,7 +113,7 @@ fn read_untag(words: &mut Cursor) -> Result<Instr, Misread>
     ensures { Answers instr_tree result words.new (untag_rest words.old) }
 {
     let name = words.name()?;
-    words.key(Keyword::Semicolon)?;
+    words.key(";")?;
     Ok(Instr::DestroyTag(name))
 }
 
@@ -123,7 +122,7 @@ fn read_constrain(words: &mut Cursor, room: u32) -> Result<Instr, Misread>
     ensures { Answers instr_tree result words.new (constrain_rest room words.old) }
 {
     let test = read_cond(words, room)?;
-    words.key(Keyword::Semicolon)?;
+    words.key(";")?;
     Ok(Instr::Constrain(test))
 }
 
@@ -132,7 +131,7 @@ fn read_fail(words: &mut Cursor) -> Result<Instr, Misread>
     ensures { Answers instr_tree result words.new (fail_rest words.old) }
 {
     let text = words.text()?;
-    words.key(Keyword::Semicolon)?;
+    words.key(";")?;
     Ok(Instr::Fail(text))
 }
 
@@ -141,7 +140,7 @@ fn read_forward(words: &mut Cursor) -> Result<Instr, Misread>
     ensures { Answers instr_tree result words.new (forward_rest words.old) }
 {
     let port = words.port()?;
-    words.key(Keyword::Semicolon)?;
+    words.key(";")?;
     Ok(Instr::Forward(port))
 }
 
@@ -149,7 +148,7 @@ fn read_forward(words: &mut Cursor) -> Result<Instr, Misread>
 fn read_next_port(words: &mut Cursor) -> Result<u32, Misread>
     ensures { Answers (λ x. x) result words.new (next_port words.old) }
 {
-    words.key(Keyword::Comma)?;
+    words.key(",")?;
     words.port()
 }
 
@@ -160,7 +159,7 @@ fn read_ports_from(words: &mut Cursor, first: u32) -> Result<Vec<u32>, Misread>
 {
     let mut found = vec![in words.alloc(); first]?;
     for _ in 0..words.count() {
-        if !words.begins_with(Keyword::Comma) {
+        if !words.begins_with(",") {
             return Ok(found);
         }
         let port = read_next_port(words)?;
@@ -185,7 +184,7 @@ fn read_fork(words: &mut Cursor) -> Result<Instr, Misread>
     ensures { Answers instr_tree result words.new (fork_rest words.old) }
 {
     let ports = read_ports(words)?;
-    words.key(Keyword::Semicolon)?;
+    words.key(";")?;
     Ok(Instr::Fork(ports))
 }
 
@@ -193,7 +192,7 @@ fn read_fork(words: &mut Cursor) -> Result<Instr, Misread>
 fn read_no_op(words: &mut Cursor) -> Result<Instr, Misread>
     ensures { Answers instr_tree result words.new (no_op_rest words.old) }
 {
-    words.key(Keyword::Semicolon)?;
+    words.key(";")?;
     Ok(Instr::NoOp)
 }
 

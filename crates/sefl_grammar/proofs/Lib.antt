@@ -12,7 +12,6 @@ pub mod FoundTerms
 pub mod Going
 pub mod Judged
 pub mod Leaves
-pub mod Naming
 pub mod Nets
 pub mod Printing
 pub mod PrintedCodes

@@ -1,8 +1,6 @@
 -- The table of the grammar.
 use denote.Ref.{Bor}
 use Rattle.std.specs.Prelude.{ℕ, List, [], ◌∷◌, codes}
-use Rattle.sefl_grammar.specs.declared.keyword.Keyword.{Keyword}
-use Rattle.sefl_grammar.specs.Keywords.{keyword_text}
 use Rattle.sefl_grammar.specs.declared.symbol.Symbol.{Symbol}
 use Rattle.sefl_grammar.specs.declared.symbol.Symbol.TheVariants.{Start, Version, Nodes, OldNodes, Links, NodeBody, OldNodeBody, TableKind, Style, Codes, OldCodes, Block, OldBlock, Instrs, OldInstrs, Value, Ports, MorePorts, Target, Addr, AddrSign, Operand, SumTail, Test, NotEnd, TestTail, Relation, RangeTail, MoreRanges, Tags, Fields, Wheres, FieldTarget, FieldValue, Asks, Question, Side, With, Name, Number, Port, Offset, Width, Text, Semicolon, Colon, Dot, Equals, Arrow, OpenBrace, CloseParenthesis, CloseBracket, In, Else, At}
 
@@ -10,8 +8,8 @@ use Rattle.sefl_grammar.specs.declared.symbol.Symbol.TheVariants.{Start, Version
 abbrev pub Alternative : Type 0
 Alternative = List ℕ × List Symbol
 
-abbrev pub alternative_of : Keyword × Bor (List Symbol) → Alternative
-alternative_of a = (keyword_text a.0, a.1.now)
+abbrev pub alternative_of : Bor (List ℕ) × Bor (List Symbol) → Alternative
+alternative_of a = (a.0.now, a.1.now)
 
 -- the words that may come first in a symbol's place, each with what is to come behind it
 abbrev pub alternatives : Symbol → List Alternative

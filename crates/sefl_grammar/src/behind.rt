@@ -6,7 +6,6 @@ ghost use Rattle.sefl_lex.specs.declared.token.TokenKind.TheVariants.{Number as 
 ghost use Rattle.sefl_grammar.specs.Table.{alternative_of};
 ghost use Rattle.sefl_grammar.specs.Automaton.{behind, by_kind, find, may_end, named, numbered, quoted};
 
-use crate::known_word::KnownWord;
 use crate::symbol::Symbol;
 use crate::symbol::Symbol::*;
 use crate::table::{Alternative, alternatives};
@@ -25,7 +24,7 @@ const MOST_WIDTH: u128 = 128;
 pub(crate) fn behind(
     symbol: Symbol,
     kind: TokenKind,
-    word: &KnownWord,
+    word: &str,
     value: u128,
 ) -> Option<&'static [Symbol]>
     requires { kind ≡ ANumber → value ≡ value_of word.now }
@@ -44,11 +43,11 @@ pub(crate) fn may_end(symbol: Symbol) -> bool
     matches!(symbol, SumTail | NotEnd | TestTail | Asks)
 }
 
-fn find(word: &KnownWord, table: &'static [Alternative]) -> Option<&'static [Symbol]>
+fn find(word: &str, table: &'static [Alternative]) -> Option<&'static [Symbol]>
     ensures { option_copied result ≡ find word.now (map alternative_of table.now) }
 {
     for (first, then) in table {
-        if word.is(*first) {
+        if word == *first {
             return Some(then);
         }
     }

@@ -8,7 +8,6 @@ ghost use Rattle.sefl_grammar.specs.Words.{IsFound, Takes, finding_of, or_later,
 
 use crate::behind::may_end;
 use crate::depth::is_deep;
-use crate::known_word::KnownWord;
 use crate::stack::take_word;
 use crate::symbol::Symbol;
 use sefl_lex::{Token, TokenKind, number_value, token_text};
@@ -54,8 +53,7 @@ fn take_token(stack: &mut Vec<Symbol>, text: &str, token: Token) -> Result<bool,
     } else {
         0
     };
-    let word = KnownWord::of(token_text(text, token));
-    take_word(stack, token.kind, &word, value)
+    take_word(stack, token.kind, token_text(text, token), value)
 }
 
 /// The first place after which too many constructs are open, with the one that was just read.

@@ -5,14 +5,10 @@
 mod behind;
 mod depth;
 mod examination;
-mod keyword;
-mod known_word;
 pub mod laws;
 mod stack;
 mod symbol;
 mod table;
 
 pub use examination::{Finding, examine};
-pub use keyword::Keyword;
-pub use known_word::KnownWord;
 pub use symbol::Symbol;

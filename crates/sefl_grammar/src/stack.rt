@@ -7,7 +7,6 @@ ghost use Rattle.sefl_grammar.specs.Automaton.{step};
 ghost use Rattle.sefl_grammar.specs.Words.{Takes};
 
 use crate::behind::{behind, may_end};
-use crate::known_word::KnownWord;
 use crate::symbol::Symbol;
 use sefl_lex::TokenKind;
 use std::alloc::AllocError;
@@ -28,7 +27,7 @@ fn push_all(stack: &mut Vec<Symbol>, symbols: &[Symbol]) -> Result<(), AllocErro
 pub(crate) fn take_word(
     stack: &mut Vec<Symbol>,
     kind: TokenKind,
-    word: &KnownWord,
+    word: &str,
     value: u128,
 ) -> Result<bool, AllocError>
     requires { kind ≡ Number → value ≡ value_of word.now }
