@@ -7,6 +7,7 @@ mod fields;
 mod items;
 pub mod laws;
 mod leaves;
+mod printed;
 mod records;
 mod refutations;
 mod report;
