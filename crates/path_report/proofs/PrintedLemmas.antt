@@ -34,6 +34,14 @@ all_with : {A : Type 0} (P : A → Type 0) (xs : List A) (x : A) → AllByRecurs
 all_with P [] x all h = (h, tt)
 all_with P (y ∷ xs) x all h = (all.0, all_with P xs x all.1 h)
 
+-- so of what was pushed, and of what was mapped
+pub pushed : {A : Type 0} (P : A → Type 0) (xs ys : List A) (x : A) → ys ≡ xs ++ x ∷ [] → AllByRecursion P xs → P x → AllByRecursion P ys
+pushed P xs ys x is all h = subst (AllByRecursion P) (sym is) (all_with P xs x all h)
+
+pub mapped : {A B : Type 0} (P : B → Type 0) (f : A → B) (xs : List A) → AllByRecursion (λ x. P (f x)) xs → AllByRecursion P (map f xs)
+mapped P f [] all = tt
+mapped P f (x ∷ xs) all = (all.0, mapped P f xs all.1)
+
 one_more : (net : Network) (items : List Record) (item : Record) (bytes left rest : List ℕ) →
     BeginsWithAll net items bytes left → BeginsWith net (has_some items) item left rest → BeginsWithAll net (items ++ item ∷ []) bytes rest
 one_more net items item bytes left rest all one =

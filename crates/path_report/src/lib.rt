@@ -11,6 +11,8 @@ mod printed;
 mod records;
 mod refutations;
 mod report;
+mod scanned;
+mod scanner;
 mod terms;
 mod verdicts;
 

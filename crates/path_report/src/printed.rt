@@ -9,6 +9,8 @@ ghost use Rattle.path_report.specs.Printed.{BeginsWith, BeginsWithAll, IsFrame, 
 
 use crate::decoder::Decoder;
 use crate::report::{ReportFault, read_whole};
+use crate::scanned::Direct;
+use crate::scanner::{Miss, Scanner};
 use kept_texts::{OfNet, Pieces};
 use net_check::Net;
 use path_records::Record;
@@ -91,10 +93,7 @@ fn object_end(text: &[u8]) -> Option<usize>
 }
 
 /// The text up to the brace that closes the first object, and what is behind it.
-fn cut_object(text: &[u8]) -> Option<(&[u8], &[u8])>
-    ensures whole { IfSome result (λ cut. text.now ≡ cut.0.now ++ cut.1.now) }
-    ensures shorter { IfSome result (λ cut. length cut.1.now < length text.now) }
-{
+fn cut_object(text: &[u8]) -> Option<(&[u8], &[u8])> {
     let end = object_end(text)?;
     text.split_at_checked(end + 1)
 }
@@ -133,17 +132,31 @@ fn frame(alloc: Global, net: &Net, head: &[u8], tail: &[u8]) -> Result<Option<Re
     }
 }
 
-/// The record of a text, where it has the form of one; a comma may stand before it.
-fn record_of(alloc: Global, net: &Net, text: &[u8]) -> Result<Option<Record>, NoMemory>
+/// The record that the text begins with, by its value; a comma may stand before it.
+fn by_value(alloc: Global, net: &Net, text: &[u8]) -> Result<Option<Record>, NoMemory>
     ensures { IfOk result (λ found. IfSome found (λ item. RecordFits (network net.now) item)) }
 {
     let names = NetNames { net };
     let decoder = Decoder { net };
-    let bare = text.strip_prefix(b",").unwrap_or(text);
-    match read_value(alloc, &names, Part::Record, bare) {
+    let Some((front, _)) = cut_object(text) else {
+        return Ok(None);
+    };
+    match read_value(alloc, &names, Part::Record, front) {
         Ok(value) => Ok(Some(decoder.record(alloc, &value)?)),
         Err(ShapeFault::NoMemory) => Err(NoMemory),
         Err(_) => Ok(None),
+    }
+}
+
+/// The record that the text begins with, read as it is printed, and else by its value.
+fn some_record(alloc: Global, net: &Net, text: &[u8]) -> Result<Option<Record>, NoMemory>
+    ensures { IfOk result (λ found. IfSome found (λ item. RecordFits (network net.now) item)) }
+{
+    let direct = Direct { alloc, net };
+    match direct.record(&mut Scanner::new(text)) {
+        Ok(item) => Ok(Some(item)),
+        Err(Miss::NoMemory) => Err(NoMemory),
+        Err(Miss::Form) => by_value(alloc, net, text),
     }
 }
 
@@ -169,17 +182,14 @@ fn first_record<'b, N: OfNet>(
     ensures begins { IfOk result (λ found. IfSome found (λ first. BeginsWith N.net later first.0 text.now first.1.now)) }
     ensures shorter { IfOk result (λ found. IfSome found (λ first. length first.1.now < length text.now)) }
 {
-    let Some((front, rest)) = cut_object(text) else {
-        return Ok(None);
-    };
-    let Some(item) = record_of(alloc, net, front)? else {
+    let bare = text.strip_prefix(b",").unwrap_or(text);
+    let Some(item) = some_record(alloc, net, bare)? else {
         return Ok(None);
     };
     pieces.write(later, &item)?;
-    if pieces.text().as_bytes() == front {
-        Ok(Some((item, rest)))
-    } else {
-        Ok(None)
+    match text.strip_prefix(pieces.text().as_bytes()) {
+        Some(rest) if rest.len() < text.len() => Ok(Some((item, rest))),
+        _ => Ok(None),
     }
 }
 
