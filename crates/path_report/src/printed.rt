@@ -170,6 +170,27 @@ fn has_some(items: &[Record]) -> bool
     }
 }
 
+/// The first bytes, and what is behind them.
+fn cut(text: &[u8], count: usize) -> Option<(&[u8], &[u8])>
+    ensures whole { IfSome result (λ cut. text.now ≡ cut.0.now ++ cut.1.now) }
+    ensures shorter { IfSome result (λ cut. 0 < count → length cut.1.now < length text.now) }
+{
+    text.split_at_checked(count)
+}
+
+/// What is behind the piece that the text begins with.
+fn behind<'b>(text: &'b [u8], piece: &[u8]) -> Option<&'b [u8]>
+    ensures whole { IfSome result (λ rest. text.now ≡ piece.now ++ rest.now) }
+    ensures shorter { IfSome result (λ rest. length rest.now < length text.now) }
+{
+    let (front, rest) = cut(text, piece.len())?;
+    if !piece.is_empty() && front == piece {
+        Some(rest)
+    } else {
+        None
+    }
+}
+
 /// The record that the text begins with, and what is behind it, where it is printed so.
 fn first_record<'b, N: OfNet>(
     alloc: Global,
@@ -187,9 +208,9 @@ fn first_record<'b, N: OfNet>(
         return Ok(None);
     };
     pieces.write(later, &item)?;
-    match text.strip_prefix(pieces.text().as_bytes()) {
-        Some(rest) if rest.len() < text.len() => Ok(Some((item, rest))),
-        _ => Ok(None),
+    match behind(text, pieces.text().as_bytes()) {
+        Some(rest) => Ok(Some((item, rest))),
+        None => Ok(None),
     }
 }
 
