@@ -1,5 +1,5 @@
 -- The pieces of a printed report make its text.
-use Rattle.std.proofs.Common.{◌≡◌, ◌∙◌, ap, sym, subst, refl, ℕ, Bool, true, false, List, [], ◌∷◌, ◌++◌, map, Vec, Global, append_assoc}
+use Rattle.std.proofs.Common.{◌≡◌, ◌∙◌, ap, sym, subst, ℕ, Bool, true, false, List, [], ◌∷◌, ◌++◌, map, Vec, Global, append_assoc}
 use Rattle.std.proofs.lemmas.List.{append-nil, map-append}
 use Rattle.std.specs.Prelude.{IsUtf8}
 use Rattle.std.specs.List.{AllByRecursion}
@@ -10,7 +10,7 @@ use Rattle.path_records.specs.declared.records.Record.{Record}
 use Rattle.record_text.specs.Records.{record_data}
 use Rattle.record_text.specs.Reports.{head_text, record_pieces, report_text, tail_text}
 use Rattle.record_text.specs.declared.report.Report.{Report}
-use Rattle.report_forms.specs.Fits.{RecordFits, ReportFits}
+use Rattle.report_forms.specs.Fits.{RecordFits}
 use Rattle.kept_texts.specs.Kept.{has_some, piece}
 use Rattle.path_report.specs.Printed.{BeginsWith, BeginsWithAll, IsFrame, IsPrinted}
 
