@@ -277,7 +277,7 @@ impl Direct<'_> {
         Ok(Some(known_node(self.alloc, self.net, name)?))
     }
 
-    /// The items of a list.
+    /// The items of a list, without spare room: most lists are short, and all records are kept.
     #[tactic(auto, using(crate::proofs::PrintedLemmas::pushed))]
     fn list<T: Item>(&self, text: &mut Scanner<'_>) -> Result<Vec<T>, Miss>
         ensures { IfOk result (λ found. AllByRecursion (T.Fits (network self.now.net.now)) found.items) }
@@ -289,6 +289,7 @@ impl Direct<'_> {
         for _ in 0..text.room() {
             found.push(T::scan(self, text)?)?;
             if text.closes()? {
+                found.shrink_to_fit();
                 return Ok(found);
             }
         }
