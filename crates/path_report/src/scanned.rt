@@ -14,7 +14,7 @@ use cell_stacks::Cell;
 use lin_term::Term;
 use net_check::Net;
 use path_records::{Fields, Record};
-use refutation_check::{Cause, Listed, Refutation, Refute, Verdict};
+use refutation_check::{Cause, Listed, Refute, Verdict};
 use report_names::{NetNames, known_meta, known_node, known_place, known_tag};
 use report_shape::{Names, Part};
 use sefl_meaning::{Decision, End, Failure, Place};
