@@ -6,3 +6,4 @@ pub mod Round
 pub mod Reduces
 pub mod Lists
 pub mod Whole
+pub mod PrintedLemmas

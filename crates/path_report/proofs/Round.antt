@@ -19,6 +19,7 @@ use Rattle.record_text.specs.Reports.{data_of, report_data, report_line, report_
 use Rattle.report_forms.specs.Seen.{line_seen, report_seen}
 use Rattle.report_forms.specs.Fits.{LineFits, ReportFits}
 use Rattle.path_report.specs.Having.{HasForm}
+use Rattle.path_report.specs.Printed.{IsPrinted}
 use Rattle.path_report.specs.Reading.{refusal, ReadsReport, GivesBack, Shows}
 use Rattle.path_report.specs.declared.report.ReportFault.{ReportFault}
 use Rattle.path_report.specs.declared.report.ReportFault.TheVariants.{NotJson, NotReport, NoMemory}
@@ -44,6 +45,12 @@ HaveForm = (net : Network) (report : Report) → ReportFits net report → HasFo
 
 abbrev pub AreOne : Type 0
 AreOne = (net : Network) (report found : Report) → ReportFits net report → ReportFits net found → data_of net report ≡ data_of net found → report_seen report ≡ report_seen found
+
+-- what is in its printed form is read as that report
+pub printed_reads : ReadsLines → HaveForm → (net : Network) (bytes : List ℕ) (report : Report) → IsPrinted net bytes report → ReadsReport net bytes (Ok report)
+printed_reads lines formed net bytes report is =
+    let form = formed net report is.fits in
+    (record { utf8 = is.utf8; value = ap read is.text ∙ lines (knows net) part.Report (data_of net report) form }, form, is.fits)
 
 by_answer : AreOne → (net : Network) (report : Report) (bytes : List ℕ) (r : Result Report ReportFault) → ReportFits net report → HasForm net part.Report (data_of net report) → IsTextOf bytes (data_of net report) →
     ReadsReport net bytes r → GivesBack report r

@@ -1,2 +1,3 @@
 pub mod Having
+pub mod Printed
 pub mod Reading

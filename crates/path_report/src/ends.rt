@@ -36,7 +36,7 @@ fn layout_fault(number: u64) -> LayoutFault
 }
 
 /// The failure of a number from 1 to 8.
-fn failure_of(number: u64) -> Failure
+pub(crate) fn failure_of(number: u64) -> Failure
     requires least { 1 ≤ number }
     requires most { number ≤ 8 }
     ensures { (site : ℕ) → failure_data result site ≡ fault_data number site }

@@ -7,9 +7,12 @@ mod fields;
 mod items;
 pub mod laws;
 mod leaves;
+mod printed;
 mod records;
 mod refutations;
 mod report;
+mod scanned;
+mod scanner;
 mod terms;
 mod verdicts;
 

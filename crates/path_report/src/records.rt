@@ -68,7 +68,7 @@ impl Decoder<'_> {
         Ok(Record::Unexplored { decisions })
     }
 
-    fn record(&self, alloc: Global, value: &Value) -> Result<Record, NoMemory>
+    pub(crate) fn record(&self, alloc: Global, value: &Value) -> Result<Record, NoMemory>
         requires { HasForm (network self.now.net.now) part.Record (view value.now) }
         ensures shown { IfOk result (λ record'. record_data (network self.now.net.now) record' ≡ view value.now) }
         ensures fits { IfOk result (λ record'. RecordFits (network self.now.net.now) record') }

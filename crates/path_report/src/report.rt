@@ -13,6 +13,7 @@ ghost use Rattle.path_report.specs.Having.{HasForm, Holds};
 ghost use Rattle.path_report.specs.Reading.{refusal, ReadsReport, GivesBack};
 
 use crate::decoder::{Decoder, field};
+use crate::printed::read_printed;
 use net_check::Net;
 use record_text::Report;
 use report_forms::laws::reports_have_their_form;
@@ -87,7 +88,8 @@ impl Decoder<'_> {
     }
 }
 
-fn read(alloc: Global, net: &Net, bytes: &[u8]) -> Result<Report, ReportFault>
+/// Reads the report by the one value that the bytes are the text of.
+pub(crate) fn read_whole(alloc: Global, net: &Net, bytes: &[u8]) -> Result<Report, ReportFault>
     ensures { ReadsReport (network net.now) bytes.now result }
 {
     let names = NetNames { net };
@@ -95,6 +97,18 @@ fn read(alloc: Global, net: &Net, bytes: &[u8]) -> Result<Report, ReportFault>
     match read_value(alloc, &names, Part::Report, bytes) {
         Ok(value) => Ok(decoder.report(alloc, &value)?),
         Err(fault) => Err(refusal(fault)),
+    }
+}
+
+/// Reads the report record by record where it is in its printed form, and else by its one value.
+fn read(alloc: Global, net: &Net, bytes: &[u8]) -> Result<Report, ReportFault>
+    ensures { ReadsReport (network net.now) bytes.now result }
+{
+    reports_have_their_form();
+    shaped_lines_are_read();
+    match read_printed(alloc, net, bytes)? {
+        Some(report) => Ok(report),
+        None => read_whole(alloc, net, bytes),
     }
 }
 
