@@ -136,8 +136,12 @@ module _ {S : Type 0} (told : S → FolderTold) (gives : S → List ℕ → ℕ 
       no_fault (table kind name style) is h = true≢false (sym is)
   unfilled_on (suc i) node (x ∷ ds) fault d u m v is all has (inr (own, n, codes, h)) =
       let (first, others) = first_and x i ds all in
-      inr (own, u, own_codes m n x.body own first codes u,
-      unfilled_on i node ds fault d u m v is others has (subst (λ s. UpTo s (nodes_with_code i node ds) fault v) (own_state m n x.body own first codes) h))
+      inr (
+        own,
+        u,
+        own_codes m n x.body own first codes u,
+        unfilled_on i node ds fault d u m v is others has (subst (λ s. UpTo s (nodes_with_code i node ds) fault v) (own_state m n x.body own first codes) h),
+      )
 
   pub fails_at : (i : ℕ) (ds : List DeclTree) (fault : InputFault) (d : DeclTree) (u v : S) → slice_get ds i ≡ Some d → all_code (take i ds) ≡ true
       → LoadsNoCode told gives u d.body fault v → UpTo u ds fault v

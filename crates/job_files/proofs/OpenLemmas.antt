@@ -1,15 +1,17 @@
 -- The file of a job that is opened, as an input.
-use Rattle.std.proofs.Common.{◌≡◌, inl, inr, refl, ap, sym, ℕ, List, [], ◌∷◌}
+use Rattle.std.proofs.Common.{◌≡◌, inl, inr, refl, ap, ℕ, List, [], ◌∷◌, map, Result, Ok, Err, IfOk, IfErr}
 use Rattle.sn_width.specs.declared.ids.Site.{Site}
 use Rattle.sn_edge.specs.Told.{FolderTold, PatternsTold}
 use Rattle.sn_edge.specs.declared.folder.Loaded.{Loaded}
 use Rattle.sn_edge.specs.declared.patterns.Found.{Found}
 use Rattle.sefl_syntax.specs.Trees.{AskTree, JobTree}
+use Rattle.sefl_syntax.specs.Views.{ask_tree}
 use Rattle.pattern_answers.specs.Asking.{IsStep}
-use Rattle.net_check.specs.Network.{Network, Entry}
+use Rattle.net_check.specs.Network.{Network, Entry, entry, network}
+use Rattle.net_check.specs.declared.acceptance.Accepted.{Accepted}
 use Rattle.command_edge.specs.declared.fault.InputFault.{InputFault}
 use Rattle.command_edge.specs.declared.fault.InputFault.TheVariants.{BadPattern, Refused, NoMemory}
-use Rattle.run_answers.specs.Inputs.{AllOpen, FirstFails, a_job, a_made_job, a_net}
+use Rattle.run_answers.specs.Inputs.{AllOpen, FirstFails, a_job, a_made_job, a_net, given_of}
 use Rattle.run_answers.specs.Jobs.{AcceptFails, IsBadAt, IsTaken}
 use Rattle.run_answers.specs.Loading.{LoadsJob, LoadsNoJob}
 use Rattle.run_answers.specs.Outside.{Outside, outside}
@@ -52,3 +54,34 @@ module _ {F P : Type 0} (told : F → FolderTold) (gives : F → List ℕ → �
   pub made_refused : (f : F) (p q : P) (job : JobTree) (fault : InputFault) → AcceptFails Refuses p job fault q
       → FirstFails here (f, p) (a_made_job job ∷ []) fault (f, q)
   made_refused f p q job fault fails = inl (not_accepted f p q job fault fails)
+
+  -- the answer of acceptance, as that of the input
+  module _ (f g : F) (p q : P) (job : JobTree) (answer : Result Accepted InputFault) where
+    pub opened_by : (name : List ℕ) → LoadsJob told gives f name job g → IfOk answer (λ a. Takes p job (network a.net) (entry a.injection) q)
+        → IfOk answer (λ a. map ask_tree a.asks.items ≡ job.asks) → IfOk answer (λ a. AllOpen here (f, p) (a_job name ∷ []) (given_of a ∷ []) (g, q))
+    opened_by name loads taken asks = by answer taken asks
+      where
+        by : (r : Result Accepted InputFault) → IfOk r (λ a. Takes p job (network a.net) (entry a.injection) q) → IfOk r (λ a. map ask_tree a.asks.items ≡ job.asks)
+            → IfOk r (λ a. AllOpen here (f, p) (a_job name ∷ []) (given_of a ∷ []) (g, q))
+        by (Ok a) taken asks = job_opens f g p q name job (network a.net) (entry a.injection) (map ask_tree a.asks.items) loads taken asks
+        by (Err fault) taken asks = tt
+
+    pub refused_by : (name : List ℕ) → LoadsJob told gives f name job g → IfErr answer (λ fault. AcceptFails Refuses p job fault q)
+        → IfErr answer (λ fault. FirstFails here (f, p) (a_job name ∷ []) fault (g, q))
+    refused_by name loads fails = by answer fails
+      where
+        by : (r : Result Accepted InputFault) → IfErr r (λ fault. AcceptFails Refuses p job fault q) → IfErr r (λ fault. FirstFails here (f, p) (a_job name ∷ []) fault (g, q))
+        by (Ok a) fails = tt
+        by (Err fault) fails = job_refused f g p q name job fault loads fails
+
+  -- the same of a job that was made
+  module _ (f : F) (p q : P) (job : JobTree) where
+    pub made_by : (answer : Result Accepted InputFault) → IfOk answer (λ a. Takes p job (network a.net) (entry a.injection) q)
+        → IfOk answer (λ a. map ask_tree a.asks.items ≡ job.asks) → IfOk answer (λ a. AllOpen here (f, p) (a_made_job job ∷ []) (given_of a ∷ []) (f, q))
+    made_by (Ok a) taken asks = made_opens f p q job (network a.net) (entry a.injection) (map ask_tree a.asks.items) taken asks
+    made_by (Err fault) taken asks = tt
+
+    pub unmade_by : (answer : Result Accepted InputFault) → IfErr answer (λ fault. AcceptFails Refuses p job fault q)
+        → IfErr answer (λ fault. FirstFails here (f, p) (a_made_job job ∷ []) fault (f, q))
+    unmade_by (Ok a) fails = tt
+    unmade_by (Err fault) fails = made_refused f p q job fault fails

@@ -1,5 +1,5 @@
 -- What is loaded is what the folder tells of its files.
-use Rattle.std.proofs.Common.{◌≡◌, ◌∙◌, sym, subst, refl, inl, inr, ℕ, List, [], ◌∷◌}
+use Rattle.std.proofs.Common.{◌≡◌, ◌∙◌, sym, subst, inl, inr, ℕ, List, [], ◌∷◌}
 use Rattle.sn_edge.specs.Told.{FolderTold}
 use Rattle.sn_edge.specs.declared.folder.Loaded.{Loaded}
 use Rattle.sefl_syntax.specs.Trees.{NodeTree, BodyTree, code, table, DeclTree, JobTree}

@@ -2,7 +2,7 @@ use Rattle.std.proofs.Common.{◌≡◌, ◌∙◌, sym, ap, subst, Some, arith}
 use Rattle.std.specs.Prelude.{slice_get}
 use Rattle.std.proofs.lemmas.List.{length-map}
 use Rattle.std.proofs.lemmas.Result.{err_from_is_err_and}
-use Rattle.sefl_syntax.specs.Views.{body_tree, decl_tree, job_tree, node_tree}
+use Rattle.sefl_syntax.specs.Views.{decl_tree, job_tree, node_tree}
 use Rattle.sn_edge.specs.Told.{FolderKept-on}
 use Rattle.job_files.proofs.FillLemmas.{Steps, all_filled, decl_at, fails_at, given_code, had_code, table_at}
 use Rattle.job_files.proofs.table.fill_tables.Goals as goal
