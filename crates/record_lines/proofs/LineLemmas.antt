@@ -1,5 +1,5 @@
 -- What the pieces of records leave in a sink.
-use Rattle.std.proofs.Common.{◌≡◌, ◌∙◌, ap, sym, subst, refl, ℕ, ◌+◌, ◌<◌, ◌^◌, arith, Bool, true, false, List, [], ◌∷◌, ◌++◌, map, Option, append_assoc}
+use Rattle.std.proofs.Common.{◌≡◌, ◌∙◌, ap, sym, subst, refl, ℕ, ◌+◌, ◌<◌, ◌^◌, arith, Bool, true, false, List, [], ◌∷◌, ◌++◌, map, append_assoc}
 use Rattle.std.proofs.lemmas.Bool.{true≢false}
 use Rattle.std.proofs.lemmas.List.{append-nil, map-append}
 use Rattle.std.proofs.lemmas.List.Elements.{filter-append}
@@ -95,9 +95,9 @@ module _ {K : Type 0} (told : K → SinkTold) (gives : K → List ℕ → Put �
   Lines = HasLines told gives net sides IsFirst
 
   -- before memory ended
-  module _ (own_sides : RefutedSides) (over : Bool) (open : over ≡ false) (before now : K) (some : Bool) (refuted : ℕ) where
+  module _ (own_sides : RefutedSides) (over : Bool) (goes_on : over ≡ false) (before now : K) (some : Bool) (refuted : ℕ) where
     opened : (items : List Record) → Lines before own_sides over some refuted items → Lines before own_sides false some refuted items
-    opened items has = subst (λ b. Lines before own_sides b some refuted items) open has
+    opened items has = subst (λ b. Lines before own_sides b some refuted items) goes_on has
 
     -- the piece of one more was put
     pub one_more : (item : Record) → is_written own_sides item ≡ true → RecordInRange item → IsUtf8 (piece_text net some item) → (count : ℕ) → count < 2 ^ 64
@@ -124,7 +124,7 @@ module _ {K : Type 0} (told : K → SinkTold) (gives : K → List ℕ → Put �
                 (IsUtf8-append (records_text net before_it) (piece_text net (has_some before_it) item) has.of_types.utf8
                 (subst (λ b. IsUtf8 (piece_text net b item)) has.has utf8));
           };
-        } in subst (λ b. Lines now own_sides b true count (items ++ item ∷ [])) (sym open) all
+        } in subst (λ b. Lines now own_sides b true count (items ++ item ∷ [])) (sym goes_on) all
 
     -- one more is not written
     pub one_counted : (item : Record) → is_written own_sides item ≡ false → RecordInRange item → (count : ℕ) → count < 2 ^ 64 → count ≡ refuted + refuted_by item
@@ -146,7 +146,7 @@ module _ {K : Type 0} (told : K → SinkTold) (gives : K → List ℕ → Put �
             few = subst (λ n. n < 2 ^ 64) counted small;
             utf8 = subst (λ xs. IsUtf8 (records_text net xs)) same has.of_types.utf8;
           };
-        } in subst (λ b. Lines before own_sides b some count (items ++ item ∷ [])) (sym open) all
+        } in subst (λ b. Lines before own_sides b some count (items ++ item ∷ [])) (sym goes_on) all
 
     -- a beginning of its piece was put
     pub stops_in : (item : Record) → is_written own_sides item ≡ true → ((part : List ℕ) × IsPrefix part (piece_text net some item) × TakesPart told gives before part now)
