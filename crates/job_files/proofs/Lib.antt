@@ -1,3 +1,2 @@
 pub mod FillLemmas
 pub mod ReadLemmas
-pub mod OpenLemmas

@@ -25,33 +25,33 @@ pub enum RefutedSides {
     Counted,
 }
 
-/// Which records are written, and the state of a sink before the first of them.
-pub trait Mark<K> {
+/// Which records are written, and what a sink held before the first of them.
+pub trait Mark {
+    ghost use Rattle.std.specs.Prelude.{ℕ, List, Option};
     ghost use Rattle.record_lines.specs.declared.lines.RefutedSides.{RefutedSides as Sides};
 
     ghost sides: { Sides };
 
-    ghost is_first: { K → Type 0 };
+    ghost known: { Option (List ℕ) };
 }
 
-impl<K> Mark<K> for Brand {
+impl Mark for Brand {
+    ghost use Rattle.std.specs.Prelude.{None};
     ghost use Rattle.record_lines.specs.declared.lines.RefutedSides.TheVariants.{Written};
 
     ghost sides = { Written };
 
-    ghost is_first = { λ _. ⊥ };
+    ghost known = { None };
 }
 
 /// Puts a record of all that is found in a net and that is written into a sink, behind a comma where another one was put before it. It
 /// keeps none of them, and makes none of a refuted side that is only counted.
 #[derive(Drop)]
-pub struct Lines<'a, 'p, 'n, N: OfNet, M: Mark<K>, K: Sink> {
+pub struct Lines<'a, 'p, 'n, N: OfNet, M: Mark, K: Sink> {
     pub alloc: Global,
     pub pieces: &'p mut Pieces<'n, N>,
     pub out: &'a mut K,
     pub sides: RefutedSides,
-    /// Whether there was no memory for a piece. Then nothing more is put.
-    pub over: bool,
     /// Whether a record was put.
     pub some: bool,
     /// How many refuted sides were taken.
@@ -182,19 +182,15 @@ fn found_task<N: OfNet>(
     }
 }
 
-impl<N: OfNet, M: Mark<K>, K: Sink> Observer for Lines<'_, '_, '_, N, M, K> {
+impl<N: OfNet, M: Mark, K: Sink> Observer for Lines<'_, '_, '_, N, M, K> {
     type Found = Found;
 
     ghost use Rattle.record_lines.specs.Lines.{by_records, lines_seen};
 
     ghost seen = { λ lines. by_records
-        (lines_seen K.told K.put_gives N.net M.sides M.is_first lines.out.now lines.sides lines.over lines.some lines.refuted)
-        lines.out.ghost_name };
+        (lines_seen N.net M.sides M.known (K.told lines.out.now) lines.sides lines.some lines.refuted) lines.out.ghost_name };
 
     fn see(&mut self, found: Found, decisions: &[Decision]) -> Took {
-        if self.over {
-            return Took::NoMemory;
-        }
         match found_task(
             self.alloc,
             self.pieces,
@@ -211,10 +207,7 @@ impl<N: OfNet, M: Mark<K>, K: Sink> Observer for Lines<'_, '_, '_, N, M, K> {
                     Took::More
                 }
                 Put::Failed => Took::Stop,
-                Put::NoMemory => {
-                    self.over = true;
-                    Took::NoMemory
-                }
+                Put::NoMemory => Took::NoMemory,
             },
             Task::Count { refuted } => {
                 self.refuted = refuted;
