@@ -1,10 +1,10 @@
 -- A file that is loaded, and why it is not.
-use Rattle.std.specs.Prelude.{ℕ, ◌≡◌, ◌≤◌, ◌<◌, List, length, Option, Some, None, IsSomeAnd, Result, Ok, Err, Vec}
+use Rattle.std.specs.Prelude.{ℕ, ◌≡◌, ◌⊎◌, ◌≤◌, ◌<◌, List, length, Option, Some, None, IsSomeAnd, Result, Ok, Err, Vec}
 use Rattle.std.specs.Option.{ForSome}
 use Rattle.std.specs.declared.alloc.Global.{Global}
 use Rattle.sn_edge.specs.declared.folder.Loaded.{Loaded}
 use Rattle.sn_edge.specs.declared.folder.Loaded.TheVariants.{Bytes, Absent, TooBig as Longer, Failed, NoMemory as NoRoom}
-use Rattle.sn_edge.specs.Told.{FolderTold, PatternsTold}
+use Rattle.sn_edge.specs.Told.{FolderKept, FolderTold, PatternsTold}
 use Rattle.command_edge.specs.declared.fault.InputFault.{InputFault}
 use Rattle.command_edge.specs.declared.fault.InputFault.TheVariants.{NoFile, ReadFault, TooBig, BadPattern, NoMemory}
 
@@ -23,6 +23,29 @@ LoadFails files limit name (ReadFault own) = own ≡ name
 LoadFails files limit name (TooBig own) = (own ≡ name) × ForSome files (λ at. IsSomeAnd (at name) (λ bytes. limit < length bytes))
 LoadFails files limit name NoMemory = Unit {0}
 LoadFails files limit name _ = ⊥
+
+-- one load, by what folders tell, and by what it may answer and leave
+module _ {S : Type 0} (told : S → FolderTold) (gives : S → List ℕ → ℕ → Loaded → S → Type 0) (limit : ℕ) (name : List ℕ) where
+  -- the file under the name was loaded once, and had these bytes
+  pub record IsLoaded (u : S) (bytes : List ℕ) (v : S) : Type 0 where
+    pub answer : Vec ℕ Global
+    pub answered : gives u name limit (Bytes answer) v
+    pub is : answer.items ≡ bytes
+    pub file : HasFile (told u).files limit name bytes
+    pub kept : FolderKept (told u) (told v)
+
+  -- the answer that tells why it has none; for want of memory no load may have been begun
+  abbrev pub IsAnswerOf : S → InputFault → S → Type 0
+  IsAnswerOf u (NoFile own) v = gives u name limit Absent v
+  IsAnswerOf u (ReadFault own) v = gives u name limit Failed v
+  IsAnswerOf u (TooBig own) v = gives u name limit Longer v
+  IsAnswerOf u NoMemory v = (v ≡ u) ⊎ gives u name limit NoRoom v
+  IsAnswerOf u _ v = ⊥
+
+  -- a load of it was made, and gave none
+  pub record IsNotLoaded (u : S) (fault : InputFault) (v : S) : Type 0 where
+    pub answered : IsAnswerOf u fault v
+    pub fails : LoadFails (told u).files limit name fault
 
 -- what comes of a load of the file under the name
 abbrev pub bytes_of : Loaded → List ℕ → Result (Vec ℕ Global) InputFault

@@ -1,9 +1,10 @@
 -- What the own work of a command comes to, and what is put of a text in one piece.
-use Rattle.std.specs.Prelude.{ℕ, ◌≡◌, ◌<◌, List, Option, Result, Ok, Err, String, string_bytes}
-use Rattle.std.specs.Io.KnownBytes.{append_known}
+use Rattle.std.specs.Prelude.{ℕ, ◌≡◌, ◌<◌, List, [], Result, Ok, Err, String, string_bytes}
 use Rattle.std.specs.declared.alloc.Global.{Global}
 use Rattle.sn_edge.specs.Pieces.{IsPrefix}
+use Rattle.sn_edge.specs.Putting.{Takes, TakesPart, TakesUntil}
 use Rattle.sn_edge.specs.Told.{SinkTold}
+use Rattle.sn_edge.specs.declared.sink.Put.{Put}
 use Rattle.command_edge.specs.declared.fault.OwnFault.{OwnFault}
 use Rattle.command_edge.specs.declared.ending.Ending.{Ending}
 use Rattle.command_edge.specs.declared.ending.Stop.{Stop}
@@ -14,22 +15,24 @@ pub data Outcome : Type 0 where
   text : Ending → List ℕ → Outcome
   refused : OwnFault → Outcome
 
--- the sink, which held what is known, gained such bytes
-abbrev pub Gains : Option (List ℕ) → Option (List ℕ) → (List ℕ → Type 0) → Type 0
-Gains known now Is = (part : List ℕ) × Is part × (now ≡ append_known known part)
+-- such bytes were put so
+abbrev pub Gains : (List ℕ → Type 0) → (List ℕ → Type 0) → Type 0
+Gains Is PutSo = (part : List ℕ) × Is part × PutSo part
 
--- the text was put in one piece, with this ending
-abbrev pub PutsWhole : Option (List ℕ) → Option (List ℕ) → List ℕ → Ending → Result Ending Stop → Type 0
-PutsWhole known now whole ending (Ok own) = (own ≡ ending) × (now ≡ append_known known whole)
-PutsWhole known now whole ending (Err Write) = Gains known now (λ part. IsPrefix part whole)
-PutsWhole known now whole ending (Err NoMemory) = now ≡ known
-PutsWhole known now whole ending _ = ⊥
+-- by what sinks tell, and by what one put may answer and leave
+module _ {S : Type 0} (told : S → SinkTold) (gives : S → List ℕ → Put → S → Type 0) (u v : S) where
+  -- the text was put in one piece, with this ending
+  abbrev pub PutsWhole : List ℕ → Ending → Result Ending Stop → Type 0
+  PutsWhole whole ending (Ok own) = (own ≡ ending) × Takes told gives u whole v
+  PutsWhole whole ending (Err Write) = Gains (λ part. IsPrefix part whole) (λ part. TakesPart told gives u part v)
+  PutsWhole whole ending (Err NoMemory) = TakesUntil told gives u [] v
+  PutsWhole whole ending _ = ⊥
 
--- it was put so, if there is one
-abbrev pub Puts : Option (List ℕ) → Option (List ℕ) → Result (Ending × String Global) OwnFault → Result Ending Stop → Type 0
-Puts known now (Ok (ending, whole)) result = PutsWhole known now (string_bytes whole) ending result
-Puts known now (Err fault) (Err (Own own)) = (own ≡ fault) × (now ≡ known)
-Puts known now _ _ = ⊥
+  -- it was put so, if there is one
+  abbrev pub Puts : Result (Ending × String Global) OwnFault → Result Ending Stop → Type 0
+  Puts (Ok (ending, whole)) result = PutsWhole (string_bytes whole) ending result
+  Puts (Err fault) (Err (Own own)) = (own ≡ fault) × (v ≡ u)
+  Puts _ _ = ⊥
 
 -- where the sink failed its count rose; and the own work refuses no input
 abbrev pub WriteShows : SinkTold → SinkTold → Result Ending Stop → Type 0

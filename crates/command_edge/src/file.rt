@@ -2,7 +2,7 @@
 
 ghost use Rattle.std.specs.Prelude.{◌≡◌, IfOk, IfErr};
 ghost use Rattle.sn_edge.specs.Told.{FolderKept};
-ghost use Rattle.command_edge.specs.Files.{FolderShows, HasFile, LoadFails, bytes_of};
+ghost use Rattle.command_edge.specs.Files.{FolderShows, IsLoaded, IsNotLoaded, bytes_of};
 ghost use Rattle.command_edge.specs.declared.limits.TheConstants.{FILE_LIMIT};
 
 use crate::fault::InputFault;
@@ -32,8 +32,8 @@ pub fn load_file<F: Folder>(
     folder: &mut F,
 ) -> Result<Vec<u8>, InputFault>
     ensures folder_kept { FolderKept (F.told folder.old) (F.told folder.new) }
-    ensures loaded { IfOk result (λ bytes. HasFile (F.told folder.old).files limit name.now bytes.items) }
-    ensures fails { IfErr result (LoadFails (F.told folder.old).files limit name.now) }
+    ensures loaded { IfOk result (λ bytes. IsLoaded F.told F.load_gives limit name.now folder.old bytes.items folder.new) }
+    ensures fails { IfErr result (λ fault. IsNotLoaded F.told F.load_gives limit name.now folder.old fault folder.new) }
     ensures shows { IfErr result (FolderShows (F.told folder.old) (F.told folder.new)) }
 {
     let own = Text::of(alloc, name)?;
@@ -47,8 +47,8 @@ pub fn load_text<F: Folder>(
     folder: &mut F,
 ) -> Result<Vec<u8>, InputFault>
     ensures folder_kept { FolderKept (F.told folder.old) (F.told folder.new) }
-    ensures loaded { IfOk result (λ bytes. HasFile (F.told folder.old).files FILE_LIMIT name.now bytes.items) }
-    ensures fails { IfErr result (LoadFails (F.told folder.old).files FILE_LIMIT name.now) }
+    ensures loaded { IfOk result (λ bytes. IsLoaded F.told F.load_gives FILE_LIMIT name.now folder.old bytes.items folder.new) }
+    ensures fails { IfErr result (λ fault. IsNotLoaded F.told F.load_gives FILE_LIMIT name.now folder.old fault folder.new) }
     ensures shows { IfErr result (FolderShows (F.told folder.old) (F.told folder.new)) }
 {
     load_file(alloc, name, FILE_LIMIT, folder)

@@ -10,7 +10,7 @@ use sn_edge::{Put, Sink};
 /// Puts the bytes of a whole text in one piece.
 fn put_whole<K: Sink>(whole: &[u8], ending: Ending, out: &mut K) -> Result<Ending, Stop>
     ensures out_kept { SinkKept (K.told out.old) (K.told out.new) }
-    ensures puts { PutsWhole (K.told out.old).taken (K.told out.new).taken whole.now ending result }
+    ensures puts { PutsWhole K.told K.put_gives out.old out.new whole.now ending result }
     ensures shows { WriteShows (K.told out.old) (K.told out.new) result }
 {
     match out.put(whole) {
@@ -26,7 +26,7 @@ pub fn put_text<K: Sink>(
     out: &mut K,
 ) -> Result<Ending, Stop>
     ensures out_kept { SinkKept (K.told out.old) (K.told out.new) }
-    ensures puts { Puts (K.told out.old).taken (K.told out.new).taken answer result }
+    ensures puts { Puts K.told K.put_gives out.old out.new answer result }
     ensures shows { WriteShows (K.told out.old) (K.told out.new) result }
 {
     match answer {

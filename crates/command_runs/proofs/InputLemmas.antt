@@ -1,7 +1,12 @@
 -- Inputs in two parts.
-use Rattle.std.proofs.Common.{inl, inr, ap, sym, subst, List, [], ◌∷◌, ◌++◌}
-use Rattle.run_answers.specs.Outside.{Outside}
-use Rattle.run_answers.specs.Inputs.{Input, Given, AllOpen, FirstFails}
+use Rattle.std.proofs.Common.{inl, inr, ap, sym, subst, refl, ℕ, List, [], ◌∷◌, ◌++◌, Result, Ok, Err, IfOk, Vec}
+use Rattle.std.specs.declared.alloc.Global.{Global}
+use Rattle.sn_edge.specs.Told.{FolderTold, PatternsTold}
+use Rattle.sn_edge.specs.declared.folder.Loaded.{Loaded}
+use Rattle.sn_edge.specs.declared.patterns.Found.{Found}
+use Rattle.command_edge.specs.Files.{IsLoaded}
+use Rattle.run_answers.specs.Outside.{Outside, outside}
+use Rattle.run_answers.specs.Inputs.{Input, Given, AllOpen, FirstFails, a_file, some_bytes}
 use Rattle.command_edge.specs.declared.fault.InputFault.{InputFault}
 
 module _ {S : Type 0} (o : Outside S) where
@@ -22,3 +27,12 @@ module _ {S : Type 0} (o : Outside S) where
       subst (λ gs. AllOpen o u js (gs ++ others) v) (sym h.0) (subst (λ s. AllOpen o s js others v) h.1 k)
   open_both u m v (i ∷ is) js given others (g, n, opens, rest, more, same) k =
       (g, n, opens, rest ++ others, open_both n m v is js rest others more k, ap (λ gs. gs ++ others) same)
+
+-- a file that is loaded is an input that is open
+pub file_opens : {F P E : Type 0} (told : F → FolderTold) (gives : F → List ℕ → ℕ → Loaded → F → Type 0) (patterns : P → PatternsTold)
+    (finds : P → List ℕ → List ℕ → Found → P → Type 0) (limit : ℕ) (name : List ℕ) (f g : F) (p : P) (answer : Result (Vec ℕ Global) E)
+    → IfOk answer (λ bytes. IsLoaded told gives limit name f bytes.items g)
+    → IfOk answer (λ bytes. AllOpen (outside told gives patterns finds) (f, p) (a_file limit name ∷ []) (some_bytes bytes.items ∷ []) (g, p))
+file_opens told gives patterns finds limit name f g p (Ok bytes) loaded =
+    (some_bytes bytes.items, (g, p), (bytes.items, (loaded, refl), refl), [], (refl, refl), refl)
+file_opens told gives patterns finds limit name f g p (Err fault) loaded = tt

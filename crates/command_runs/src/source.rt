@@ -32,11 +32,11 @@ pub trait Source {
     ) -> Result<Self::Given, InputFault>
         ensures folder_kept { FolderKept (F.told folder.old) (F.told folder.new) }
         ensures patterns_kept { PatternsKept (P.told patterns.old) (P.told patterns.new) }
-        ensures opened { IfOk result (λ given. AllOpen (outside (F.told folder.old).files P.told P.find_gives)
-            patterns.old (inputs self.now) (givens given) patterns.new) }
+        ensures opened { IfOk result (λ given. AllOpen (outside F.told F.load_gives P.told P.find_gives)
+            (folder.old, patterns.old) (inputs self.now) (givens given) (folder.new, patterns.new)) }
         ensures kept { IfOk result keeps }
-        ensures fails { IfErr result (λ fault. FirstFails (outside (F.told folder.old).files P.told P.find_gives)
-            patterns.old (inputs self.now) fault patterns.new) }
+        ensures fails { IfErr result (λ fault. FirstFails (outside F.told F.load_gives P.told P.find_gives)
+            (folder.old, patterns.old) (inputs self.now) fault (folder.new, patterns.new)) }
         ensures shows { IfErr result (InputShows (F.told folder.old) (F.told folder.new) (P.told patterns.old) (P.told patterns.new)) };
 }
 

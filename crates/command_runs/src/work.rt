@@ -32,7 +32,7 @@ pub trait Work {
     ) -> Result<Ending, Stop>
         requires { Self.From.keeps given }
         ensures out_kept { SinkKept (K.told out.old) (K.told out.new) }
-        ensures performs { Performs (K.told out.old).taken (K.told out.new).taken (work self.now) (Self.From.givens given) result }
+        ensures performs { Performs K.told K.put_gives out.old out.new (work self.now) (Self.From.givens given) result }
         ensures shows { WriteShows (K.told out.old) (K.told out.new) result };
 }
 
@@ -47,8 +47,8 @@ pub fn run<W: Work, F: Folder, P: Patterns, K: Sink>(
     ensures folder_kept { FolderKept (F.told folder.old) (F.told folder.new) }
     ensures patterns_kept { PatternsKept (P.told patterns.old) (P.told patterns.new) }
     ensures out_kept { SinkKept (K.told out.old) (K.told out.new) }
-    ensures ran { Runs (K.told out.old).taken (K.told out.new).taken (outside (F.told folder.old).files P.told P.find_gives)
-        patterns.old patterns.new (W.From.inputs (W.source work.now)) (W.work work.now) result }
+    ensures ran { Runs K.told K.put_gives out.old out.new (outside F.told F.load_gives P.told P.find_gives)
+        (folder.old, patterns.old) (folder.new, patterns.new) (W.From.inputs (W.source work.now)) (W.work work.now) result }
     ensures shows { Shows (F.told folder.old) (F.told folder.new) (P.told patterns.old) (P.told patterns.new)
         (K.told out.old) (K.told out.new) result }
 {

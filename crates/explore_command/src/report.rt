@@ -8,7 +8,7 @@ ghost use Rattle.run_answers.specs.Inputs.{given_of};
 ghost use Rattle.command_edge.specs.Puts.{WriteShows};
 ghost use Rattle.run_answers.specs.Runs.{Performs};
 ghost use Rattle.explore_command.specs.Explores.{explore_work, is_done};
-ghost use Rattle.explore_command.specs.Putting.{PutsEnd, PutsRecords, PutsRest, StopShows, tail_of};
+ghost use Rattle.explore_command.specs.Putting.{PutsEnd, PutsRecords, PutsRest, StopShows, tail_of, tail_unless};
 
 use command_edge::{Ending, Stop};
 use kept_texts::{OfNet, Pieces};
@@ -33,19 +33,23 @@ struct Tail {
     refuted: u64,
 }
 
+/// What the tail says, if memory did not end.
+fn tail_unless(over: bool, ending: Ending, refuted: u64) -> Result<Tail, Stop>
+    ensures { result ≡ tail_unless over ending refuted }
+{
+    if over {
+        return Err(Stop::NoMemory);
+    }
+    Ok(Tail { ending, refuted })
+}
+
 /// What the tail says where an exploration ended so; or why there is none.
-fn tail_of(ended: Result<Ended, NoMemory>, refuted: u64) -> Result<Tail, Stop>
-    ensures { result ≡ tail_of ended refuted }
+fn tail_of(ended: Result<Ended, NoMemory>, over: bool, refuted: u64) -> Result<Tail, Stop>
+    ensures { result ≡ tail_of ended over refuted }
 {
     match ended {
-        Ok(Ended::Whole) => Ok(Tail {
-            ending: Ending::Done,
-            refuted,
-        }),
-        Ok(Ended::Partial) => Ok(Tail {
-            ending: Ending::Partial,
-            refuted,
-        }),
+        Ok(Ended::Whole) => tail_unless(over, Ending::Done, refuted),
+        Ok(Ended::Partial) => tail_unless(over, Ending::Partial, refuted),
         Ok(Ended::Stopped) => Err(Stop::Write),
         Err(_) => Err(Stop::NoMemory),
     }
@@ -62,7 +66,7 @@ fn is_done(ending: Ending) -> bool
 }
 
 /// Puts the records as they are found, by these pieces.
-fn explore_records<N: OfNet, M: Mark, K: Sink, L: Ledger>(
+fn explore_records<N: OfNet, M: Mark<K>, K: Sink, L: Ledger>(
     alloc: Global,
     job: &Accepted,
     hops: u32,
@@ -76,13 +80,13 @@ fn explore_records<N: OfNet, M: Mark, K: Sink, L: Ledger>(
     requires limit { 0 < limit }
     requires net { network job.now.net ≡ N.net }
     requires sides { sides ≡ M.sides }
-    requires known { (K.told out.old).taken ≡ M.known }
+    requires first { M.is_first out.old }
+    requires alone { (u : K) → M.is_first u → u ≡ out.old }
     requires name { blank.name ≡ L.name }
     requires parts { blank.parts ≡ L.parts }
     requires some { 0 < blank.parts }
     ensures out_kept { SinkKept (K.told out.old) (K.told out.new) }
-    ensures puts { PutsRecords hops limit sides (network job.now.net) (entry job.now.injection)
-        M.known (K.told out.new).taken result }
+    ensures puts { PutsRecords K.told K.put_gives hops limit sides (network job.now.net) (entry job.now.injection) out.old out.new result }
     ensures shows { IfErr result (StopShows (K.told out.old) (K.told out.new)) }
 {
     exact_records_fit();
@@ -93,6 +97,7 @@ fn explore_records<N: OfNet, M: Mark, K: Sink, L: Ledger>(
         pieces,
         out,
         sides,
+        over: false,
         some: false,
         refuted: 0,
         of: PhantomData,
@@ -106,11 +111,11 @@ fn explore_records<N: OfNet, M: Mark, K: Sink, L: Ledger>(
         &mut lines,
         &mut steps,
     );
-    tail_of(ended, lines.refuted)
+    tail_of(ended, lines.over, lines.refuted)
 }
 
 /// Puts the records as they are found.
-fn put_records<N: OfNet, M: Mark, K: Sink, L: Ledger>(
+fn put_records<N: OfNet, M: Mark<K>, K: Sink, L: Ledger>(
     alloc: Global,
     job: &Accepted,
     hops: u32,
@@ -123,13 +128,13 @@ fn put_records<N: OfNet, M: Mark, K: Sink, L: Ledger>(
     requires limit { 0 < limit }
     requires net { network job.now.net ≡ N.net }
     requires sides { sides ≡ M.sides }
-    requires known { (K.told out.old).taken ≡ M.known }
+    requires first { M.is_first out.old }
+    requires alone { (u : K) → M.is_first u → u ≡ out.old }
     requires name { blank.name ≡ L.name }
     requires parts { blank.parts ≡ L.parts }
     requires some { 0 < blank.parts }
     ensures out_kept { SinkKept (K.told out.old) (K.told out.new) }
-    ensures puts { PutsRecords hops limit sides (network job.now.net) (entry job.now.injection)
-        M.known (K.told out.new).taken result }
+    ensures puts { PutsRecords K.told K.put_gives hops limit sides (network job.now.net) (entry job.now.injection) out.old out.new result }
     ensures shows { IfErr result (StopShows (K.told out.old) (K.told out.new)) }
 {
     let mut pieces: Pieces<'_, N> = Pieces::new(alloc, &job.net);
@@ -139,7 +144,7 @@ fn put_records<N: OfNet, M: Mark, K: Sink, L: Ledger>(
 /// Puts the tail.
 fn put_end<K: Sink>(alloc: Global, tail: Tail, out: &mut K) -> Result<Ending, Stop>
     ensures out_kept { SinkKept (K.told out.old) (K.told out.new) }
-    ensures puts { PutsEnd (K.told out.old).taken (K.told out.new).taken tail result }
+    ensures puts { PutsEnd K.told K.put_gives out.old out.new tail result }
     ensures shows { IfErr result (StopShows (K.told out.old) (K.told out.new)) }
 {
     match put_tail(alloc, tail.refuted, is_done(tail.ending), out) {
@@ -161,8 +166,7 @@ fn put_rest<K: Sink>(
     requires job { AreOfOneJob (network job.now.net) (entry job.now.injection) }
     requires limit { 0 < limit }
     ensures out_kept { SinkKept (K.told out.old) (K.told out.new) }
-    ensures puts { PutsRest hops limit sides (network job.now.net) (entry job.now.injection)
-        (K.told out.old).taken (K.told out.new).taken result }
+    ensures puts { PutsRest K.told K.put_gives hops limit sides (network job.now.net) (entry job.now.injection) out.old out.new result }
     ensures shows { IfErr result (StopShows (K.told out.old) (K.told out.new)) }
 {
     let tail = put_records::<Brand, Brand, K, Brand>(
@@ -189,8 +193,7 @@ pub(crate) fn put_report<K: Sink>(
     requires job { AreOfOneJob (network job.now.net) (entry job.now.injection) }
     requires limit { 0 < limit }
     ensures out_kept { SinkKept (K.told out.old) (K.told out.new) }
-    ensures performs { Performs (K.told out.old).taken (K.told out.new).taken
-        (explore_work hops limit sides) (given_of job.now ∷ []) result }
+    ensures performs { Performs K.told K.put_gives out.old out.new (explore_work hops limit sides) (given_of job.now ∷ []) result }
     ensures shows { WriteShows (K.told out.old) (K.told out.new) result }
 {
     lines_join();

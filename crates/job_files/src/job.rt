@@ -7,7 +7,8 @@ ghost use Rattle.net_check.specs.Sound.{AreOfOneJob};
 ghost use Rattle.sn_edge.specs.Told.{FolderKept};
 ghost use Rattle.command_edge.specs.Files.{FolderShows};
 ghost use Rattle.run_answers.specs.Inputs.{a_job, given_of};
-ghost use Rattle.run_answers.specs.Jobs.{HasFilled, IsOnlyJob, JobFails, ReadFails};
+ghost use Rattle.run_answers.specs.Jobs.{IsOnlyJob, ReadFails};
+ghost use Rattle.run_answers.specs.Loading.{LoadsJob, LoadsNoJob};
 
 use crate::acceptance::accept_filled;
 use crate::refusal::fault_of_reading;
@@ -34,8 +35,8 @@ fn read(alloc: Global, bytes: &[u8]) -> Result<Job, InputFault>
 /// The job of the file of this name, with code for its tables.
 pub fn load_job<F: Folder>(alloc: Global, name: &str, folder: &mut F) -> Result<Job, InputFault>
     ensures folder_kept { FolderKept (F.told folder.old) (F.told folder.new) }
-    ensures job { IfOk result (λ job. HasFilled (F.told folder.old).files name.now (job_tree job)) }
-    ensures fails { IfErr result (JobFails (F.told folder.old).files name.now) }
+    ensures job { IfOk result (λ job. LoadsJob F.told F.load_gives folder.old name.now (job_tree job) folder.new) }
+    ensures fails { IfErr result (λ fault. LoadsNoJob F.told F.load_gives folder.old name.now fault folder.new) }
     ensures shows { IfErr result (FolderShows (F.told folder.old) (F.told folder.new)) }
 {
     let bytes = load_text(alloc, name, folder)?;

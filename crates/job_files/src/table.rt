@@ -6,7 +6,7 @@ ghost use Rattle.sefl_syntax.specs.Views.{body_tree, job_tree, node_tree};
 ghost use Rattle.sn_edge.specs.Told.{FolderKept};
 ghost use Rattle.command_edge.specs.Files.{FolderShows};
 ghost use Rattle.run_answers.specs.Refusals.{fault_of_table};
-ghost use Rattle.run_answers.specs.Tables.{CodeFails, FirstUnfilled, IsCodeOf, IsFilled};
+ghost use Rattle.run_answers.specs.Loading.{Fills, LoadsCode, LoadsNoCode, LoadsUpTo};
 
 use command_edge::{InputFault, load_text};
 use sefl_syntax::{Body, Job, RawNode, Text, fill};
@@ -32,9 +32,11 @@ fn table_node<F: Folder>(
 ) -> Result<Option<RawNode>, InputFault>
     ensures folder_kept { FolderKept (F.told folder.old) (F.told folder.new) }
     ensures own { IfOk result (λ found. IfNone found (is_code (body_tree body.now) ≡ true)) }
+    ensures unread { IfOk result (λ found. IfNone found (folder.new ≡ folder.old)) }
     ensures table { IfOk result (λ found. IfSome found (λ _. is_code (body_tree body.now) ≡ false)) }
-    ensures node { IfOk result (λ found. IfSome found (λ node. IsCodeOf (F.told folder.old).files (body_tree body.now) (node_tree node))) }
-    ensures fails { IfErr result (CodeFails (F.told folder.old).files (body_tree body.now)) }
+    ensures node { IfOk result (λ found. IfSome found (λ node.
+        LoadsCode F.told F.load_gives folder.old (body_tree body.now) (node_tree node) folder.new)) }
+    ensures fails { IfErr result (λ fault. LoadsNoCode F.told F.load_gives folder.old (body_tree body.now) fault folder.new) }
     ensures shows { IfErr result (FolderShows (F.told folder.old) (F.told folder.new)) }
 {
     let Body::Table { kind, file, style } = body else {
@@ -54,8 +56,8 @@ pub fn fill_tables<F: Folder>(
     folder: &mut F,
 ) -> Result<(), InputFault>
     ensures folder_kept { FolderKept (F.told folder.old) (F.told folder.new) }
-    ensures filled { OnOk result (IsFilled (F.told folder.old).files (job_tree job.old) (job_tree job.new)) }
-    ensures fails { IfErr result (FirstUnfilled (F.told folder.old).files (job_tree job.old).net.nodes) }
+    ensures filled { OnOk result (Fills F.told F.load_gives folder.old (job_tree job.old) (job_tree job.new) folder.new) }
+    ensures fails { IfErr result (λ fault. LoadsUpTo F.told F.load_gives folder.old (job_tree job.old).net.nodes fault folder.new) }
     ensures shows { IfErr result (FolderShows (F.told folder.old) (F.told folder.new)) }
 {
     for index in 0..job.net.nodes.len() {

@@ -1,7 +1,6 @@
 -- What a sink has gained of the records of a report.
 use Rattle.std.specs.Prelude.{ℕ, ◌≡◌, ◌+◌, ◌<◌, ◌^◌, Bool, true, false, List, [], ◌∷◌, ◌++◌, filter, map, sum_by, IsUtf8, Option, None, Some}
 use Rattle.std.specs.List.{AllByRecursion}
-use Rattle.std.specs.Io.KnownBytes.{append_known}
 use Rattle.serde_json.specs.Written.{comma_if, compact_text}
 use Rattle.net_check.specs.Network.{Network}
 use Rattle.exact_records.specs.View.{record_tree}
@@ -23,6 +22,7 @@ use Rattle.symbolic_engine.specs.Recorded.{ByRecords}
 use Rattle.record_text.specs.Records.{record_data}
 use Rattle.record_text.specs.Reports.{record_pieces}
 use Rattle.sn_edge.specs.Pieces.{IsPrefix}
+use Rattle.sn_edge.specs.Putting.{Takes, TakesPart, TakesUntil}
 use Rattle.sn_edge.specs.Told.{SinkTold}
 use Rattle.sn_edge.specs.declared.sink.Put.{Put}
 use Rattle.sn_edge.specs.declared.sink.Put.TheVariants.{All, Failed, NoMemory}
@@ -108,47 +108,59 @@ IsSideTask refuted side task.NoMemory = Unit {0}
 abbrev pub records_text : Network → List Record → List ℕ
 records_text net records = record_pieces false (map (record_data net) records)
 
--- what a put of this piece leaves of what was known: all of it came to that, a beginning of it, or nothing
-abbrev pub PutAs : Option (List ℕ) → Option (List ℕ) → List ℕ → Put → Type 0
-PutAs known now piece All = now ≡ append_known known piece
-PutAs known now piece Failed = (part : List ℕ) × IsPrefix part piece × (now ≡ append_known known part)
-PutAs known now piece NoMemory = now ≡ known
-
 -- what their types say of these records: their numbers are in range, they are few enough to count, and their pieces are text
 pub record AreOfTypes (net : Network) (sides : RefutedSides) (items : List Record) : Type 0 where
   pub ranges : AllByRecursion RecordInRange items
   pub few : refuted_count items < 2 ^ 64
   pub utf8 : IsUtf8 (records_text net (written_of sides items))
 
-module _ (net : Network) (sides : RefutedSides) (known now : Option (List ℕ)) where
-  -- behind what was known there are the pieces of those of these records that are written; whether there is any, and how many are
-  -- refuted sides
-  pub record HasLines (own_sides : RefutedSides) (some : Bool) (refuted : ℕ) (items : List Record) : Type 0 where
-    pub same_sides : own_sides ≡ sides
-    pub taken : now ≡ append_known known (records_text net (written_of sides items))
-    pub has : some ≡ has_some (written_of sides items)
-    pub counted : refuted ≡ refuted_count items
-    pub of_types : AreOfTypes net sides items
+-- by what sinks tell, and by what one put may answer and leave
+module _ {K : Type 0} (told : K → SinkTold) (gives : K → List ℕ → Put → K → Type 0) where
+  -- what is put of this piece: all of it, a beginning of it, or nothing
+  abbrev pub PutAs : K → K → List ℕ → Put → Type 0
+  PutAs u v piece All = Takes told gives u piece v
+  PutAs u v piece Failed = (part : List ℕ) × IsPrefix part piece × TakesPart told gives u part v
+  PutAs u v piece NoMemory = TakesUntil told gives u [] v
 
-  -- or those of all but the last, which is written, and a beginning of the piece of that
-  pub record StopsInLine (items : List Record) : Type 0 where
-    pub done : List Record
-    pub last : Record
-    pub is : items ≡ done ++ last ∷ []
-    pub put : is_written sides last ≡ true
-    pub part : List ℕ
-    pub begins : IsPrefix part (piece_text net (has_some (written_of sides done)) last)
-    pub taken : now ≡ append_known known (records_text net (written_of sides done) ++ part)
+  -- the bytes were put, and whether there was no memory for one more piece
+  abbrev pub PutSo : Bool → K → List ℕ → K → Type 0
+  PutSo false u bytes v = Takes told gives u bytes v
+  PutSo true u bytes v = TakesUntil told gives u bytes v
 
--- how lines are seen, as records
-abbrev pub lines_seen : Network → RefutedSides → Option (List ℕ) → SinkTold → RefutedSides → Bool → ℕ → Receiving Record
-lines_seen net sides known told own_sides some refuted = record {
-  StandsFor = HasLines net sides known told.taken own_sides some refuted;
-  StoppedIn = StopsInLine net sides known told.taken;
-  stops = told.faults;
-  target = 0;
-  Takes = λ item. Unit {0};
-}
+  -- since the sink was in the first state
+  module _ (net : Network) (sides : RefutedSides) (IsFirst : K → Type 0) (now : K) where
+    -- The pieces of those of these records were put that are written; whether memory ended behind them, whether there is any, and how many
+    -- are refuted sides.
+    pub record HasLines (own_sides : RefutedSides) (over some : Bool) (refuted : ℕ) (items : List Record) : Type 0 where
+      pub same_sides : own_sides ≡ sides
+      pub start : K
+      pub first : IsFirst start
+      pub puts : PutSo over start (records_text net (written_of sides items)) now
+      pub has : some ≡ has_some (written_of sides items)
+      pub counted : refuted ≡ refuted_count items
+      pub of_types : AreOfTypes net sides items
+
+    -- or those of all but the last, which is written, and a beginning of the piece of that
+    pub record StopsInLine (items : List Record) : Type 0 where
+      pub done : List Record
+      pub last : Record
+      pub is : items ≡ done ++ last ∷ []
+      pub put : is_written sides last ≡ true
+      pub part : List ℕ
+      pub begins : IsPrefix part (piece_text net (has_some (written_of sides done)) last)
+      pub start : K
+      pub first : IsFirst start
+      pub puts : TakesPart told gives start (records_text net (written_of sides done) ++ part) now
+
+    -- how lines are seen, as records
+    abbrev pub lines_seen : RefutedSides → Bool → Bool → ℕ → Receiving Record
+    lines_seen own_sides over some refuted = record {
+      StandsFor = HasLines own_sides over some refuted;
+      StoppedIn = StopsInLine;
+      stops = (told now).faults;
+      target = 0;
+      Takes = λ item. Unit {0};
+    }
 
 -- and as what is found: the records are of that
 abbrev pub by_records : Receiving Record → ℕ → Receiving (Handed Found)

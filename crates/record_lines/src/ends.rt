@@ -15,7 +15,7 @@ use std::alloc::Global;
 pub(crate) fn put_piece<K: Sink>(piece: &str, out: &mut K) -> Put
     ensures kept { SinkKept (K.told out.old) (K.told out.new) }
     ensures failed { OnFailed result ((K.told out.old).faults < (K.told out.new).faults) }
-    ensures puts { PutAs (K.told out.old).taken (K.told out.new).taken piece.now result }
+    ensures puts { PutAs K.told K.put_gives out.old out.new piece.now result }
 {
     out.put(piece.as_bytes())
 }
@@ -24,7 +24,7 @@ pub(crate) fn put_piece<K: Sink>(piece: &str, out: &mut K) -> Put
 pub fn put_head<K: Sink>(alloc: Global, hops: u32, limit: u32, out: &mut K) -> Put
     ensures kept { SinkKept (K.told out.old) (K.told out.new) }
     ensures failed { OnFailed result ((K.told out.old).faults < (K.told out.new).faults) }
-    ensures puts { PutAs (K.told out.old).taken (K.told out.new).taken (head_text hops limit) result }
+    ensures puts { PutAs K.told K.put_gives out.old out.new (head_text hops limit) result }
 {
     match head_text(alloc, hops, limit) {
         Ok(text) => put_piece(&text, out),
@@ -36,7 +36,7 @@ pub fn put_head<K: Sink>(alloc: Global, hops: u32, limit: u32, out: &mut K) -> P
 pub fn put_tail<K: Sink>(alloc: Global, refuted: u64, complete: bool, out: &mut K) -> Put
     ensures kept { SinkKept (K.told out.old) (K.told out.new) }
     ensures failed { OnFailed result ((K.told out.old).faults < (K.told out.new).faults) }
-    ensures puts { PutAs (K.told out.old).taken (K.told out.new).taken (tail_text refuted complete) result }
+    ensures puts { PutAs K.told K.put_gives out.old out.new (tail_text refuted complete) result }
 {
     match tail_text(alloc, refuted, complete) {
         Ok(text) => put_piece(&text, out),

@@ -25,33 +25,33 @@ pub enum RefutedSides {
     Counted,
 }
 
-/// Which records are written, and what a sink held before the first of them.
-pub trait Mark {
-    ghost use Rattle.std.specs.Prelude.{ℕ, List, Option};
+/// Which records are written, and the state of a sink before the first of them.
+pub trait Mark<K> {
     ghost use Rattle.record_lines.specs.declared.lines.RefutedSides.{RefutedSides as Sides};
 
     ghost sides: { Sides };
 
-    ghost known: { Option (List ℕ) };
+    ghost is_first: { K → Type 0 };
 }
 
-impl Mark for Brand {
-    ghost use Rattle.std.specs.Prelude.{None};
+impl<K> Mark<K> for Brand {
     ghost use Rattle.record_lines.specs.declared.lines.RefutedSides.TheVariants.{Written};
 
     ghost sides = { Written };
 
-    ghost known = { None };
+    ghost is_first = { λ _. ⊥ };
 }
 
 /// Puts a record of all that is found in a net and that is written into a sink, behind a comma where another one was put before it. It
 /// keeps none of them, and makes none of a refuted side that is only counted.
 #[derive(Drop)]
-pub struct Lines<'a, 'p, 'n, N: OfNet, M: Mark, K: Sink> {
+pub struct Lines<'a, 'p, 'n, N: OfNet, M: Mark<K>, K: Sink> {
     pub alloc: Global,
     pub pieces: &'p mut Pieces<'n, N>,
     pub out: &'a mut K,
     pub sides: RefutedSides,
+    /// Whether there was no memory for a piece. Then nothing more is put.
+    pub over: bool,
     /// Whether a record was put.
     pub some: bool,
     /// How many refuted sides were taken.
@@ -182,15 +182,19 @@ fn found_task<N: OfNet>(
     }
 }
 
-impl<N: OfNet, M: Mark, K: Sink> Observer for Lines<'_, '_, '_, N, M, K> {
+impl<N: OfNet, M: Mark<K>, K: Sink> Observer for Lines<'_, '_, '_, N, M, K> {
     type Found = Found;
 
     ghost use Rattle.record_lines.specs.Lines.{by_records, lines_seen};
 
     ghost seen = { λ lines. by_records
-        (lines_seen N.net M.sides M.known (K.told lines.out.now) lines.sides lines.some lines.refuted) lines.out.ghost_name };
+        (lines_seen K.told K.put_gives N.net M.sides M.is_first lines.out.now lines.sides lines.over lines.some lines.refuted)
+        lines.out.ghost_name };
 
     fn see(&mut self, found: Found, decisions: &[Decision]) -> Took {
+        if self.over {
+            return Took::NoMemory;
+        }
         match found_task(
             self.alloc,
             self.pieces,
@@ -207,7 +211,10 @@ impl<N: OfNet, M: Mark, K: Sink> Observer for Lines<'_, '_, '_, N, M, K> {
                     Took::More
                 }
                 Put::Failed => Took::Stop,
-                Put::NoMemory => Took::NoMemory,
+                Put::NoMemory => {
+                    self.over = true;
+                    Took::NoMemory
+                }
             },
             Task::Count { refuted } => {
                 self.refuted = refuted;

@@ -261,8 +261,8 @@ module _ (one_node : FilesHaveOneNode) (no_bad : NodesHaveNoBadLine) (w : World)
   same_given j k net other i e jobs nets entries = λ l. a_net (nets l) (entries l) (jobs l).asks
 
   opens_once : (i : Input) (a b : Given) (finds : List ℕ → List ℕ → Bool) → w.finds ≡ Some finds → Opens (world w) tt i a tt → Opens (world w) tt i b tt → a ≡ b
-  opens_once (a_file limit name) a b finds told (x, file, is, u) (y, file', is', v) = is ∙ (ap some_bytes (bytes_once limit name x y file file') ∙ sym is')
-  opens_once (of_job name) a b finds told (j, has, net, i, taken, is) (k, has', other, e, taken', is') =
+  opens_once (a_file limit name) a b finds told (x, file, is) (y, file', is') = is ∙ (ap some_bytes (bytes_once limit name x y file file') ∙ sym is')
+  opens_once (of_job name) a b finds told (j, m, has, net, i, taken, is) (k, n, has', other, e, taken', is') =
       let jobs = filled_once name j k has has' in
       let (nets, entries) = taken_once k net other i e finds told (subst (λ (x : JobTree). (world w).takes tt x net i tt) jobs taken) taken' in
       is ∙ (same_given j k net other i e jobs nets entries ∙ sym is')
@@ -271,19 +271,19 @@ module _ (one_node : FilesHaveOneNode) (no_bad : NodesHaveNoBadLine) (w : World)
       is ∙ (same_given j j net other i e refl nets entries ∙ sym is')
 
   opens_exclude : (i : Input) (a : Given) (f : InputFault) → IsSettled w f → Opens (world w) tt i a tt → Fails (world w) tt i f tt → ⊥
-  opens_exclude (a_file limit name) a f s (x, file, is, u) k = loads limit name x f file s k.0
-  opens_exclude (of_job name) a f s (j, has, net, i, taken, is) (inl k) = filled_excludes name j f s has k.0
-  opens_exclude (of_job name) a f s (j, has, net, i, (sound, of_net, of_entry, found, good), is) (inr (other, has', k)) =
+  opens_exclude (a_file limit name) a f s (x, file, is) k = loads limit name x f file s k
+  opens_exclude (of_job name) a f s (j, m, has, net, i, taken, is) (inl k) = filled_excludes name j f s has k
+  opens_exclude (of_job name) a f s (j, m, has, net, i, (sound, of_net, of_entry, found, good), is) (inr (other, n, has', k)) =
       let same = filled_once name j other has has' in
       accept_excludes other f s (subst IsSound same sound) (subst (λ (x : JobTree). ForSome w.is_bad (λ b. first_bad b x ≡ None)) same good) k
   opens_exclude (a_made_job j) a f s (net, i, (sound, of_net, of_entry, found, good), is) k = accept_excludes j f s sound good k
 
   fails_once : (i : Input) (f g : InputFault) → IsSettled w f → IsSettled w g → Fails (world w) tt i f tt → Fails (world w) tt i g tt → f ≡ g
-  fails_once (a_file limit name) f g s t h k = load_once limit name f g s t h.0 k.0
-  fails_once (of_job name) f g s t (inl h) (inl k) = job_fails_once name f g s t h.0 k.0
-  fails_once (of_job name) f g s t (inl h) (inr (j, has, k)) = absurd (filled_excludes name j f s has h.0)
-  fails_once (of_job name) f g s t (inr (j, has, h)) (inl k) = absurd (filled_excludes name j g t has k.0)
-  fails_once (of_job name) f g s t (inr (j, has, h)) (inr (other, has', k)) =
+  fails_once (a_file limit name) f g s t h k = load_once limit name f g s t h k
+  fails_once (of_job name) f g s t (inl h) (inl k) = job_fails_once name f g s t h k
+  fails_once (of_job name) f g s t (inl h) (inr (j, m, has, k)) = absurd (filled_excludes name j f s has h)
+  fails_once (of_job name) f g s t (inr (j, m, has, h)) (inl k) = absurd (filled_excludes name j g t has k)
+  fails_once (of_job name) f g s t (inr (j, m, has, h)) (inr (other, n, has', k)) =
       accept_once other f g s t (subst (λ (x : JobTree). AcceptFails (world w).refuses tt x f tt) (filled_once name j other has has') h) k
   fails_once (a_made_job j) f g s t h k = accept_once j f g s t h k
 

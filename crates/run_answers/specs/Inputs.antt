@@ -4,8 +4,7 @@ use Rattle.sefl_syntax.specs.Trees.{AskTree, JobTree}
 use Rattle.sefl_syntax.specs.Views.{ask_tree}
 use Rattle.net_check.specs.Network.{Network, Entry, network, entry}
 use Rattle.net_check.specs.declared.acceptance.Accepted.{Accepted}
-use Rattle.command_edge.specs.Files.{HasFile, LoadFails}
-use Rattle.run_answers.specs.Jobs.{AcceptFails, HasFilled, JobFails}
+use Rattle.run_answers.specs.Jobs.{AcceptFails}
 use Rattle.run_answers.specs.Outside.{Outside, World}
 use Rattle.command_edge.specs.declared.fault.InputFault.{InputFault}
 use Rattle.command_edge.specs.declared.fault.InputFault.TheVariants.{ReadFault, BadPattern, NoMemory}
@@ -26,18 +25,18 @@ abbrev pub given_of : Accepted → Given
 given_of a = a_net (network a.net) (entry a.injection) (map ask_tree a.asks.items)
 
 module _ {S : Type 0} (o : Outside S) where
-  -- the input gives this, the patterns going from state to state
+  -- the input gives this, the outside going from state to state
   abbrev pub Opens : S → Input → Given → S → Type 0
-  Opens u (a_file limit name) given v = (bytes : List ℕ) × HasFile o.files limit name bytes × (given ≡ some_bytes bytes) × (v ≡ u)
+  Opens u (a_file limit name) given v = (bytes : List ℕ) × o.has_file u limit name bytes v × (given ≡ some_bytes bytes)
   Opens u (a_job name) given v =
-      (j : JobTree) × HasFilled o.files name j × (net : Network) × (i : Entry) × o.takes u j net i v × (given ≡ a_net net i j.asks)
+      (j : JobTree) × (m : S) × o.has_job u name j m × (net : Network) × (i : Entry) × o.takes m j net i v × (given ≡ a_net net i j.asks)
   Opens u (a_made_job j) given v = (net : Network) × (i : Entry) × o.takes u j net i v × (given ≡ a_net net i j.asks)
 
   -- or it is refused: for its file, its text, its tables, or acceptance
   abbrev pub Fails : S → Input → InputFault → S → Type 0
-  Fails u (a_file limit name) fault v = LoadFails o.files limit name fault × (v ≡ u)
+  Fails u (a_file limit name) fault v = o.file_fails u limit name fault v
   Fails u (a_job name) fault v =
-      (JobFails o.files name fault × (v ≡ u)) ⊎ ((j : JobTree) × HasFilled o.files name j × AcceptFails o.refuses u j fault v)
+      o.job_fails u name fault v ⊎ ((j : JobTree) × (m : S) × o.has_job u name j m × AcceptFails o.refuses m j fault v)
   Fails u (a_made_job j) fault v = AcceptFails o.refuses u j fault v
 
   -- all inputs are good, in order, and give these

@@ -2,6 +2,7 @@ pub mod Flaws
 pub mod Refusals
 pub mod Tables
 pub mod Jobs
+pub mod Loading
 pub mod Outside
 pub mod Inputs
 pub mod Runs

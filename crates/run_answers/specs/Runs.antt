@@ -1,7 +1,9 @@
 -- How a command ends, by its inputs and its own work.
-use Rattle.std.specs.Prelude.{ℕ, ◌≡◌, ◌<◌, List, [], Option, Result, Ok, Err}
+use Rattle.std.specs.Prelude.{ℕ, ◌≡◌, ◌<◌, List, [], Result, Ok, Err}
 use Rattle.sn_edge.specs.Pieces.{IsPrefix}
+use Rattle.sn_edge.specs.Putting.{Takes, TakesPart, TakesUntil}
 use Rattle.sn_edge.specs.Told.{FolderTold, PatternsTold, SinkTold}
+use Rattle.sn_edge.specs.declared.sink.Put.{Put}
 use Rattle.command_edge.specs.Files.{InputShows}
 use Rattle.command_edge.specs.Puts.{Outcome, text, refused, Gains}
 use Rattle.run_answers.specs.Outside.{Outside}
@@ -32,19 +34,20 @@ abbrev pub IsRefusal : (Outcome → Type 0) → OwnFault → Type 0
 IsRefusal Comes NoWork = Unit {0}
 IsRefusal Comes fault = Comes (refused fault)
 
-module _ (known now : Option (List ℕ)) where
-  -- the own work was done
+-- by what sinks tell, and by what one put may answer and leave
+module _ {K : Type 0} (told : K → SinkTold) (gives : K → List ℕ → Put → K → Type 0) (held now : K) where
+  -- the own work was done: its text was put, a beginning of it, or nothing
   abbrev pub Performs : OwnWork → List Given → Result Ending Stop → Type 0
-  Performs w given (Ok ending) = Gains known now (λ whole. w.comes given (text ending whole))
-  Performs w given (Err (Own fault)) = (now ≡ known) × IsRefusal (w.comes given) fault
-  Performs w given (Err Write) = Gains known now (w.cut given)
-  Performs w given (Err NoMemory) = Gains known now (w.left given)
+  Performs w given (Ok ending) = Gains (λ whole. w.comes given (text ending whole)) (λ whole. Takes told gives held whole now)
+  Performs w given (Err (Own fault)) = (now ≡ held) × IsRefusal (w.comes given) fault
+  Performs w given (Err Write) = Gains (w.cut given) (λ part. TakesPart told gives held part now)
+  Performs w given (Err NoMemory) = Gains (w.left given) (λ part. TakesUntil told gives held part now)
   Performs w given (Err (ByInput fault)) = ⊥
 
   -- the command with these inputs and this work was run
   module _ {S : Type 0} (o : Outside S) (u v : S) where
     abbrev pub Runs : List Input → OwnWork → Result Ending Stop → Type 0
-    Runs inputs w (Err (ByInput fault)) = FirstFails o u inputs fault v × (now ≡ known)
+    Runs inputs w (Err (ByInput fault)) = FirstFails o u inputs fault v × (now ≡ held)
     Runs inputs w answer = (given : List Given) × AllOpen o u inputs given v × Performs w given answer
 
 -- the count that rose where the run was stopped: of the folder, of the patterns, or of the sink

@@ -16,6 +16,7 @@ use Rattle.symnet_program.specs.Program.{Cause, IsAnswered, IsCaused, RefusesInp
 use Rattle.symnet_program.specs.Run.{IsRun}
 use Rattle.symnet_program.specs.Told.{MayBeUnread}
 use Rattle.caller_edge.specs.Lists.{HasFiles, HasTexts}
+use Rattle.caller_edge.specs.Outside.{GivenState, IsGivenLoad, files_told}
 
 -- what patterns by `regex` tell and answer, by how many of them were refused
 abbrev pub regex_told : ℕ → PatternsTold
@@ -37,31 +38,36 @@ BlamesInput (NoFile name) = Unit {0}
 BlamesInput (TooBig name) = Unit {0}
 BlamesInput status = RefusesInput status
 
-module _ (entries : List (List ℕ × List ℕ)) where
-  -- the outside of a call: these files, and patterns by `regex`
-  abbrev pub around : Outside ℕ
-  around = outside (Some (file_at entries)) regex_told regex_gives
+-- the outside of a call: files in memory, and patterns by `regex`; its states are the files with their counts, and how many patterns were refused
+abbrev pub around : Outside (GivenState × ℕ)
+around = outside files_told IsGivenLoad regex_told regex_gives
 
-  -- the same as a world
-  abbrev pub listed_world : World
-  listed_world = record { at = file_at entries; finds = Some finds_match; is_bad = None }
+-- the same as a world, of these files
+abbrev pub listed_world : List (List ℕ × List ℕ) → World
+listed_world entries = record { at = file_at entries; finds = Some finds_match; is_bad = None }
 
 -- The program ran on these words over these files, after this many patterns had been refused: why it ended with this status, and wrote this.
-pub record RanAfter (before : ℕ) (words : List (List ℕ)) (entries : List (List ℕ × List ℕ)) (status : Status) (written : List ℕ) : Type 0 where
-  -- how many patterns were refused then
+pub record RanAfter (files : GivenState) (before : ℕ) (words : List (List ℕ)) (status : Status) (written : List ℕ) : Type 0 where
+  -- the files then, and how many patterns were refused
+  pub left : GivenState
   pub refusals : ℕ
-  pub run : IsRun (around entries) before refusals (read_command words) status written
+  pub run : IsRun around (files, before) (left, refusals) (read_command words) status written
   pub shown : IsShown before refusals status
-  pub told : IsCaused (world (listed_world entries)) tt tt (read_command words) status
+  pub told : IsCaused (world (listed_world files.entries)) tt tt (read_command words) status
   pub exact : (command : Command) (fault : InputFault) → read_command words ≡ Some command
-      → FirstFails (world (listed_world entries)) tt (inputs command) fault tt → IsSettled (listed_world entries) fault
-      → (status ≡ input_status fault) ⊎ MayBeUnread (listed_world entries) status
+      → FirstFails (world (listed_world files.entries)) tt (inputs command) fault tt → IsSettled (listed_world files.entries) fault
+      → (status ≡ input_status fault) ⊎ MayBeUnread (listed_world files.entries) status
   -- where no input is to blame, the command ran to its end, except for want of memory
   pub complete : (command : Command) → read_command words ≡ Some command
-      → ((blamed : Status) → BlamesInput blamed → Cause (around entries) before refusals (inputs command) (work command) blamed → ⊥) → IsAnswered status
+      → ((blamed : Status) → BlamesInput blamed → Cause around (files, before) (left, refusals) (inputs command) (work command) blamed → ⊥)
+      → IsAnswered status
+
+-- these files, of which none was asked for yet
+abbrev pub unasked : List (List ℕ × List ℕ) → GivenState
+unasked entries = record { entries = entries; misses = 0; excesses = 0 }
 
 abbrev pub Ran : List (List ℕ) → List (List ℕ × List ℕ) → Status → List ℕ → Type 0
-Ran words entries status written = RanAfter 0 words entries status written
+Ran words entries status written = RanAfter (unasked entries) 0 words status written
 
 -- As many bytes as are wanted were put into the room: the first of them begin it, and behind them it is as it was.
 pub record IsPut (bytes : List ℕ) (wanted : ℕ) (before after : List ℕ) : Type 0 where

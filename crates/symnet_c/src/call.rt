@@ -2,7 +2,7 @@
 
 ghost use Rattle.std.specs.Prelude.{◌≡◌, ◌<◌, ◌⊎◌, [], IfNone, IfOk, IfSome, map, string_bytes};
 ghost use Rattle.sn_edge.specs.MemFolder.{entry_of};
-ghost use Rattle.symnet_c.specs.Calls.{Answers, AreNoLists, HasPut, IsAnswer, IsUnread, Ran};
+ghost use Rattle.symnet_c.specs.Calls.{Answers, AreNoLists, HasPut, IsAnswer, IsUnread, RanAfter};
 ghost use Rattle.caller_edge.specs.Lists.{HasFiles, HasTexts};
 
 use crate::message::message_of;
@@ -52,9 +52,9 @@ fn read_given(alloc: Global, words: &[u8], listed: &[u8]) -> Result<Option<Given
 /// Runs the program. The contract of `symnet` is long, and goals behind its call are proved with all of it.
 fn run(alloc: Global, words: &[String], folder: &mut GivenFiles, out: &mut KeptOutput) -> Status
     requires { out.old ≡ [] }
-    ensures { Ran (map string_bytes words.now) folder.old.entries result out.new }
+    ensures { RanAfter folder.old 0 (map string_bytes words.now) result out.new }
 {
-    runs_tell::<RegexPatterns>();
+    runs_tell::<GivenFiles, RegexPatterns>();
     let mut patterns = RegexPatterns::new();
     symnet(alloc, words, folder, &mut patterns, out)
 }

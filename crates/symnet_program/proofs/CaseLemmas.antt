@@ -137,13 +137,13 @@ module _ (p : World) (name : List ℕ) (rest : List Input) (w : OwnWork) where
   of_accept fault j full has filled h = absurd h
 
   of_fault : (fault : InputFault) → Fails (world p) tt (a_job name) fault tt → FileCase (input_status fault)
-  of_fault fault (inl (inl load, same)) = of_load fault load
-  of_fault fault (inl (inr (inl (bytes, has, reads)), same)) = of_text fault bytes has reads
-  of_fault fault (inl (inr (inr (j, has, tables)), same)) = of_tables fault j has tables
-  of_fault fault (inr (full, (j, has, filled), accept)) = of_accept fault j full has filled accept
+  of_fault fault (inl (inl load)) = of_load fault load
+  of_fault fault (inl (inr (inl (bytes, has, reads)))) = of_text fault bytes has reads
+  of_fault fault (inl (inr (inr (j, has, tables)))) = of_tables fault j has tables
+  of_fault fault (inr (full, m, (j, has, filled), accept)) = of_accept fault j full has filled accept
 
   of_opens : (status : Status) (g : Given) → Opens (world p) tt (a_job name) g tt → Behind g status → FileCase status
-  of_opens status g (full, (j, has, filled), net, i, taken, is) behind =
+  of_opens status g (full, m, (j, has, filled), net, i, taken, is) behind =
       with_job status j has (is_taken full net i has filled taken (subst (λ x. Behind x status) is behind))
 
   stops : (fault : InputFault) → FirstFails (world p) tt (a_job name ∷ rest) fault tt → FileCase (input_status fault)

@@ -1,6 +1,7 @@
 -- What a status says of a run, once for all commands.
 use Rattle.std.proofs.Common.{◌≡◌, ◌⊎◌, inl, inr, ap, sym, subst, refl, List, ℕ, Option, Some, None, Bool, Result, Ok, Err, arith}
 use Rattle.sn_edge.specs.Told.{FolderTold, PatternsTold, SinkTold}
+use Rattle.sn_edge.specs.declared.folder.Loaded.{Loaded}
 use Rattle.sn_edge.specs.declared.patterns.Found.{Found}
 use Rattle.run_answers.specs.Outside.{Outside, World, Tells, outside, world}
 use Rattle.run_answers.specs.Inputs.{Input, Given, AllOpen, FirstFails, IsSettled}
@@ -78,13 +79,14 @@ module _ {S : Type 0} (o : Outside S) (u v : S) (is : List Input) (w : OwnWork) 
   cause_in (BadAsk number kind) h = comes (refused (own.BadAsk number kind)) h
   cause_in (BadCompare kind one other) h = comes (refused (own.BadCompare kind one other)) h
 
-pub told_of : {S : Type 0} (files : Option (List ℕ → Option (List ℕ))) (patterns : S → PatternsTold) (gives : S → List ℕ → List ℕ → Found → S → Type 0) (u v : S) (is : List Input) (w : OwnWork) (p : World)
-    → Tells files (patterns u) p → (status : Status) → Cause (outside files patterns gives) u v is w status → Cause (world p) tt tt is w status
-told_of files patterns gives u v is w p told status h =
-    let known : ((patterns u).matches ≡ p.finds) × ((patterns u).bad ≡ p.is_bad) = (told.finds_told, told.bad_told) in
-    cause_in (outside (Some p.at) patterns gives) u v is w p (λ fault. first_told patterns gives p u v is fault known)
-    (λ given. all_told patterns gives p u v is given known) status
-    (subst (λ fs. Cause (outside fs patterns gives) u v is w status) told.files_told h)
+module _ {F P : Type 0} (files : F → FolderTold) (gives : F → List ℕ → ℕ → Loaded → F → Type 0)
+    (patterns : P → PatternsTold) (finds : P → List ℕ → List ℕ → Found → P → Type 0) where
+  pub told_of : (u v : F × P) (is : List Input) (w : OwnWork) (p : World) → Tells (files u.0).files (patterns u.1) p → (status : Status)
+      → Cause (outside files gives patterns finds) u v is w status → Cause (world p) tt tt is w status
+  told_of u v is w p told status h =
+      cause_in (outside files gives patterns finds) u v is w p
+      (λ fault. first_told files gives patterns finds p u v is fault (told.files_told, (told.finds_told, told.bad_told)))
+      (λ given. all_told files gives patterns finds p u v is given (told.files_told, (told.finds_told, told.bad_told))) status h
 
 -- the inputs of a world are refused in one way, and then they are not all good
 pub record Decides (p : World) : Type 0 where
@@ -131,26 +133,27 @@ unread p (Some c) = tt
 
 -- ---- of the call, whose status has its cause
 
-module _ {S : Type 0} (files : Option (List ℕ → Option (List ℕ))) (patterns : S → PatternsTold) (gives : S → List ℕ → List ℕ → Found → S → Type 0) (u v : S) where
-  pub told_said : (said : Option Command) (status : Status) (p : World) → IsCaused (outside files patterns gives) u v said status → Tells files (patterns u) p
-      → IsCaused (world p) tt tt said status
+module _ {F P : Type 0} (files : F → FolderTold) (gives : F → List ℕ → ℕ → Loaded → F → Type 0)
+    (patterns : P → PatternsTold) (finds : P → List ℕ → List ℕ → Found → P → Type 0) (u v : F × P) where
+  pub told_said : (said : Option Command) (status : Status) (p : World) → IsCaused (outside files gives patterns finds) u v said status
+      → Tells (files u.0).files (patterns u.1) p → IsCaused (world p) tt tt said status
   told_said None status p caused told = (caused.0, refl)
-  told_said (Some c) status p caused told = told_of files patterns gives u v (inputs c) (work c) p told status caused
+  told_said (Some c) status p caused told = told_of files gives patterns finds u v (inputs c) (work c) p told status caused
 
   pub exact_said : (said : Option Command) (status : Status) (command : Command) (p : World) (fault : InputFault) → Decides p
-      → IsCaused (outside files patterns gives) u v said status → said ≡ Some command → Tells files (patterns u) p
+      → IsCaused (outside files gives patterns finds) u v said status → said ≡ Some command → Tells (files u.0).files (patterns u.1) p
       → FirstFails (world p) tt (inputs command) fault tt → IsSettled p fault → (status ≡ input_status fault) ⊎ MayBeUnread p status
   exact_said said status command p fault decides caused is told fails settled =
       exact_of (inputs command) (work command) p decides fault settled fails status
       (subst (λ r. IsCaused (world p) tt tt r status) is (told_said said status p caused told))
 
-  pub complete_said : (said : Option Command) (status : Status) (command : Command) (old new : FolderTold) (before after : PatternsTold) (held sink : SinkTold)
-      → IsCaused (outside files patterns gives) u v said status → said ≡ Some command
-      → Shown old new before after held sink status → new ≡ old → sink.faults ≡ held.faults
-      → ((s : Status) → RefusesInput s → Cause (outside files patterns gives) u v (inputs command) (work command) s → ⊥) → IsAnswered status
-  complete_said said status command old new before after held sink caused is shown f b good =
-      complete_of (outside files patterns gives) u v (inputs command) (work command) old new before after held sink status shown f b good
-      (subst (λ r. IsCaused (outside files patterns gives) u v r status) is caused)
+pub complete_said : {S : Type 0} (o : Outside S) (u v : S) (said : Option Command) (status : Status) (command : Command) (old new : FolderTold) (before after : PatternsTold) (held sink : SinkTold)
+    → IsCaused o u v said status → said ≡ Some command
+    → Shown old new before after held sink status → new ≡ old → sink.faults ≡ held.faults
+    → ((s : Status) → RefusesInput s → Cause o u v (inputs command) (work command) s → ⊥) → IsAnswered status
+complete_said o u v said status command old new before after held sink caused is shown f b good =
+    complete_of o u v (inputs command) (work command) old new before after held sink status shown f b good
+    (subst (λ r. IsCaused o u v r status) is caused)
 
 -- the counts that rose, by the status
 shown_input : (old new : FolderTold) (before after : PatternsTold) (held now : SinkTold) (fault : InputFault) → InputShows old new before after fault → Shown old new before after held now (input_status fault)

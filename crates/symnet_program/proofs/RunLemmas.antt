@@ -1,7 +1,10 @@
 -- One run, and what it tells each by itself.
 use Rattle.std.proofs.Common.{◌≡◌, inl, inr, ◌∙◌, ap, sym, subst, refl, List, [], ◌∷◌, ℕ, Option, Some, None, Result, Ok, Err}
-use Rattle.std.proofs.lemmas.List.{append-nil}
 use Rattle.std.specs.Io.KnownBytes.{append_known}
+use Rattle.sn_edge.specs.Putting.{TakesUntil}
+use Rattle.sn_edge.specs.Told.{SinkTold}
+use Rattle.sn_edge.specs.declared.sink.Put.{Put}
+use Rattle.sn_edge.proofs.Putting.{known_alone, takes_none, until_all, until_taken}
 use Rattle.run_answers.specs.Outside.{Outside}
 use Rattle.net_check.specs.Network.{Network, Entry}
 use Rattle.run_answers.specs.Inputs.{Input, Given, a_net, AllOpen}
@@ -9,7 +12,7 @@ use Rattle.command_edge.specs.Puts.{text}
 use Rattle.run_answers.specs.Runs.{OwnWork, IsRefusal, Runs}
 use Rattle.run_answers.specs.Status.{input_status, own_status, status_of}
 use Rattle.run_answers.specs.declared.status.Status.{Status}
-use Rattle.run_answers.specs.declared.status.Status.TheVariants.{Done, NoMemory, WriteFault, BadTable, BadPacket, Partial, TooMany, BadReport, NotConfirmed, BadAsk, BadCompare}
+use Rattle.run_answers.specs.declared.status.Status.TheVariants.{Done, NoMemory, Usage, NoFile, ReadFault, WriteFault, TooBig, Syntax, BadPattern, Refused, BadTable, BadPacket, Partial, TooMany, BadReport, NotConfirmed, BadAsk, BadCompare}
 use Rattle.command_edge.specs.declared.fault.InputFault.{InputFault}
 use Rattle.command_edge.specs.declared.fault.InputFault.TheVariants as input
 use Rattle.command_edge.specs.declared.fault.OwnFault.{OwnFault}
@@ -27,11 +30,58 @@ use Rattle.command_words.specs.declared.command.Pruned.{Pruned}
 use Rattle.symnet_program.specs.Commands.{inputs, sides_of, work}
 use Rattle.symnet_program.specs.Headline.{TellsJob}
 use Rattle.symnet_program.specs.Program.{Cause, IsCaused, MayWrite, Stops, Writes}
-use Rattle.symnet_program.specs.Run.{Ends, IsRun, IsRunOf, ReportTells, TellsMore, performed, unbegun, unopened}
+use Rattle.symnet_program.specs.Run.{Ends, IsPutWith, IsRun, IsRunOf, ReportTells, TellsMore, performed, unbegun, unopened}
 
-pub gains_nothing : (known now : Option (List ℕ)) → now ≡ known → now ≡ append_known known []
-gains_nothing None now same = same
-gains_nothing (Some xs) now same = same ∙ ap Some (sym (append-nil xs))
+-- ---- how what was written was put
+
+module _ {K : Type 0} (told : K → SinkTold) (gives : K → List ℕ → Put → K → Type 0) (old new : K) where
+  until_nothing : new ≡ old → TakesUntil told gives old [] new
+  until_nothing same = subst (λ s. TakesUntil told gives old [] s) (sym same) (until_all told gives old old [] (takes_none told gives old))
+
+  -- with a status that tells of an input, or of the own work, nothing was put
+  pub input_unput : (fault : InputFault) → new ≡ old → IsPutWith told gives old new (input_status fault) []
+  input_unput input.NoMemory same = until_nothing same
+  input_unput (input.NoFile name) same = (same, refl)
+  input_unput (input.ReadFault name) same = (same, refl)
+  input_unput (input.TooBig name) same = (same, refl)
+  input_unput (input.Syntax line column kind) same = (same, refl)
+  input_unput (input.BadTable name line kind) same = (same, refl)
+  input_unput (input.BadPattern site) same = (same, refl)
+  input_unput (input.Refused site kind) same = (same, refl)
+
+  pub own_unput : (fault : OwnFault) → new ≡ old → IsPutWith told gives old new (own_status fault) []
+  own_unput own.NoMemory same = until_nothing same
+  own_unput (own.BadTable name line kind) same = (same, refl)
+  own_unput (own.BadPacket kind) same = (same, refl)
+  own_unput (own.TooMany count) same = (same, refl)
+  own_unput (own.BadReport kind pointer) same = (same, refl)
+  own_unput (own.NotConfirmed number kind) same = (same, refl)
+  own_unput (own.BadAsk number kind) same = (same, refl)
+  own_unput (own.BadCompare kind one other) same = (same, refl)
+
+  nothing_taken : (part : List ℕ) → (new ≡ old) × (part ≡ []) → (told new).taken ≡ append_known (told old).taken part
+  nothing_taken part (same, none) = ap (λ s. (told s).taken) same ∙ (known_alone (told old).taken ∙ ap (append_known (told old).taken) (sym none))
+
+  -- what the sink tells of it
+  pub put_taken : (status : Status) (part : List ℕ) → IsPutWith told gives old new status part → (told new).taken ≡ append_known (told old).taken part
+  put_taken Done part h = h.taken
+  put_taken Partial part h = h.taken
+  put_taken WriteFault part h = h.taken
+  put_taken NoMemory part h = until_taken told gives old new part h
+  put_taken Usage part h = nothing_taken part h
+  put_taken (NoFile name) part h = nothing_taken part h
+  put_taken (ReadFault name) part h = nothing_taken part h
+  put_taken (TooBig name) part h = nothing_taken part h
+  put_taken (Syntax line column kind) part h = nothing_taken part h
+  put_taken (BadPattern site) part h = nothing_taken part h
+  put_taken (Refused site kind) part h = nothing_taken part h
+  put_taken (BadTable name line kind) part h = nothing_taken part h
+  put_taken (BadPacket kind) part h = nothing_taken part h
+  put_taken (TooMany count) part h = nothing_taken part h
+  put_taken (BadReport kind pointer) part h = nothing_taken part h
+  put_taken (NotConfirmed number kind) part h = nothing_taken part h
+  put_taken (BadAsk number kind) part h = nothing_taken part h
+  put_taken (BadCompare kind one other) part h = nothing_taken part h
 
 -- ---- the run of a command
 
@@ -60,34 +110,44 @@ module _ (law : (net : Network) (i : Entry) (hops : ℕ) → ReportsTellWalks ne
       report_tells hops limit (sides_of pruned) ending.Partial part given ranged ends
   tells_more c ranged given status part ends = tt
 
-  module _ {S : Type 0} (o : Outside S) (u v : S) (c : Command) (ranged : HasRanges c) (known now : Option (List ℕ)) where
+  module _ {S : Type 0} (o : Outside S) (u v : S) (c : Command) (ranged : HasRanges c) {K : Type 0} (told : K → SinkTold) (gives : K → List ℕ → Put → K → Type 0) (old new : K) where
     ended_so : (given : List Given) → AllOpen o u (inputs c) given v → (status : Status) (part : List ℕ) → Ends (work c) given status part
         → IsRunOf o u v c status part
     ended_so given opened status part ends = performed given opened ends (tells_more c ranged given status part ends)
 
-    pub run_of : (answer : Result Ending Stop) → Runs known now o u v (inputs c) (work c) answer
-        → (part : List ℕ) × IsRunOf o u v c (status_of answer) part × (now ≡ append_known known part)
+    -- the run, and how its text was put
+    abbrev Ran : Status → Type 0
+    Ran status = (part : List ℕ) × IsRunOf o u v c status part × IsPutWith told gives old new status part
+
+    pub run_of : (answer : Result Ending Stop) → Runs told gives old new o u v (inputs c) (work c) answer → Ran (status_of answer)
     run_of (Ok ending.Done) (given, opened, (whole, comes, gained)) = (whole, ended_so given opened Done whole comes, gained)
     run_of (Ok ending.Partial) (given, opened, (whole, comes, gained)) = (whole, ended_so given opened Partial whole comes, gained)
-    run_of (Err (ByInput fault)) h = ([], unopened fault h.0 refl refl, gains_nothing known now h.1)
+    run_of (Err (ByInput fault)) h = ([], unopened fault h.0 refl refl, input_unput told gives old new fault h.1)
     run_of (Err (Own fault)) (given, opened, h) =
-        ([], ended_so given opened (own_status fault) [] (own_ends (work c) given fault h.1), gains_nothing known now h.0)
+        ([], ended_so given opened (own_status fault) [] (own_ends (work c) given fault h.1), own_unput told gives old new fault h.0)
     run_of (Err Write) (given, opened, (part, cut, gained)) = (part, ended_so given opened WriteFault part cut, gained)
     run_of (Err NoRoom) (given, opened, (part, left, gained)) = (part, ended_so given opened NoMemory part (inr left), gained)
 
 -- the words said the command
-pub run_said : ((net : Network) (i : Entry) (hops : ℕ) → ReportsTellWalks net i hops) → {S : Type 0} (o : Outside S) (u v : S) (c : Command) → HasRanges c
-    → (known now : Option (List ℕ)) (said : Option Command) → Some c ≡ said → (answer : Result Ending Stop) (status : Status) → status ≡ status_of answer
-    → Runs known now o u v (inputs c) (work c) answer → (part : List ℕ) × IsRun o u v said status part × (now ≡ append_known known part)
-run_said law o u v c ranged known now said named answer status tells ran =
-    let (part, is, gained) = run_of law o u v c ranged known now answer ran in
-    (part, subst (λ r. IsRun o u v r status part) named (subst (λ s. IsRunOf o u v c s part) (sym tells) is), gained)
+module _ (law : (net : Network) (i : Entry) (hops : ℕ) → ReportsTellWalks net i hops) {S : Type 0} (o : Outside S) (u v : S) (c : Command) (ranged : HasRanges c)
+    {K : Type 0} (told : K → SinkTold) (gives : K → List ℕ → Put → K → Type 0) (old new : K) where
+  pub run_said : (said : Option Command) → Some c ≡ said → (answer : Result Ending Stop) (status : Status) → status ≡ status_of answer
+      → Runs told gives old new o u v (inputs c) (work c) answer
+      → (part : List ℕ) × IsRun o u v said status part × IsPutWith told gives old new status part × ((told new).taken ≡ append_known (told old).taken part)
+  run_said said named answer status tells ran =
+      let (part, is, put) = run_of law o u v c ranged told gives old new answer ran in
+      let with_it : IsPutWith told gives old new status part = subst (λ s. IsPutWith told gives old new s part) (sym tells) put in
+      (part, subst (λ r. IsRun o u v r status part) named (subst (λ s. IsRunOf o u v c s part) (sym tells) is), with_it, put_taken told gives old new status part with_it)
 
 -- memory ended while the words were read
-pub unread_run : {S : Type 0} (o : Outside S) (u : S) (known : Option (List ℕ)) (said : Option Command)
-    → (part : List ℕ) × IsRun o u u said NoMemory part × (known ≡ append_known known part)
-unread_run o u known None = ([], (inr refl, refl, refl), gains_nothing known known refl)
-unread_run o u known (Some c) = ([], unbegun refl refl refl, gains_nothing known known refl)
+module _ {S : Type 0} (o : Outside S) (u : S) {K : Type 0} (told : K → SinkTold) (gives : K → List ℕ → Put → K → Type 0) (held : K) where
+  unput : IsPutWith told gives held held NoMemory []
+  unput = until_all told gives held held [] (takes_none told gives held)
+
+  pub unread_run : (said : Option Command) → (part : List ℕ) × IsRun o u u said NoMemory part × IsPutWith told gives held held NoMemory part
+      × ((told held).taken ≡ append_known (told held).taken part)
+  unread_run None = ([], (inr refl, refl, refl), unput, known_alone (told held).taken)
+  unread_run (Some c) = ([], unbegun refl refl refl, unput, known_alone (told held).taken)
 
 -- ---- what it tells
 
@@ -196,14 +256,15 @@ module _ {S : Type 0} (o : Outside S) (u v : S) (job : List ℕ) (hops limit : �
 
   job_by : (ended : Ending) (part : List ℕ) (given : List Given) → AllOpen o u (inputs (explore job hops limit pruned)) given v → Report given ended part
       → TellsJob o u v job hops limit (sides_of pruned) ended part
-  job_by ended part given (g, m, (j, has, net, i, taken, is), rest, (none, last), all) report =
+  job_by ended part given (g, m, (j, between, has, net, i, taken, is), rest, (none, last), all) report =
       let own : Report (a_net net i j.asks ∷ []) ended part =
       subst (λ gs. Report gs ended part) (all ∙ (ap (λ x. x ∷ rest) is ∙ ap (λ r. a_net net i j.asks ∷ r) none)) report in record {
         job = j;
+        between = between;
         in_file = has;
         net = net;
         injection = i;
-        accepted = subst (λ s. o.takes u j net i s) (sym last) taken;
+        accepted = subst (λ s. o.takes between j net i s) (sym last) taken;
         report = own.0;
         walks = own.1;
       }

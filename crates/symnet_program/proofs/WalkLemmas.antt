@@ -75,6 +75,7 @@ module _ (job packet : List ℕ) (hops limit : ℕ) (p : World) (status : Status
   opens : IsGood → Opens (world p) tt (a_job job) (a_net net i is.tree.asks) tt
   opens (has, good) = (
     is.tree,
+    tt,
     has,
     net,
     i,
@@ -89,7 +90,7 @@ module _ (job packet : List ℕ) (hops limit : ℕ) (p : World) (status : Status
     refused_file fault settled fails =
         due
         (λ h. told_or (exact_of (inputs (walk job packet hops limit)) (work (walk job packet hops limit)) p decides fault settled
-        (inr (a_net net i is.tree.asks, tt, opens h, inl (fails, refl))) status caused))
+        (inr (a_net net i is.tree.asks, tt, opens h, inl fails)) status caused))
         (λ h. inr h) good
       where
         told_or : (status ≡ input_status fault) ⊎ MayBeUnread p status → (status ≡ input_status fault) ⊎ OrBad IsUnread status
@@ -118,7 +119,7 @@ module _ (job packet : List ℕ) (hops limit : ℕ) (p : World) (status : Status
       tt,
       opens h,
       some_bytes bytes ∷ [],
-      (some_bytes bytes, tt, (bytes, (short, λ at told. subst (λ f. f packet ≡ Some bytes) (same_Some p.at at told) has), refl, refl), [], (refl, refl), refl),
+      (some_bytes bytes, tt, (bytes, (short, λ at told. subst (λ f. f packet ≡ Some bytes) (same_Some p.at at told) has), refl), [], (refl, refl), refl),
       refl,
     )
 

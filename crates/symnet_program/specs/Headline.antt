@@ -2,7 +2,6 @@
 use Rattle.std.specs.Prelude.{ℕ, List}
 use Rattle.sefl_syntax.specs.Trees.{JobTree}
 use Rattle.net_check.specs.Network.{Network, Entry}
-use Rattle.run_answers.specs.Jobs.{HasFilled}
 use Rattle.run_answers.specs.Outside.{Outside}
 use Rattle.command_edge.specs.declared.ending.Ending.{Ending}
 use Rattle.record_lines.specs.declared.lines.RefutedSides.{RefutedSides}
@@ -16,14 +15,15 @@ pub record TellsWalks (net : Network) (i : Entry) (hops limit : ℕ) (sides : Re
   pub headline : IsHeadline net i hops limit sides ending whole report
   pub read_back : IsReadBack net hops limit sides report.records ending whole
 
--- The file under the name has a job, which is accepted as this net and this injection; the text is the report, with this ending, of records that are
--- exact for these; and it tells the walks of all packets.
+-- The file under the name was read and has a job, which was accepted then as this net and this injection; the text is the report, with this ending,
+-- of records that are exact for these; and it tells the walks of all packets.
 pub record TellsJob {S : Type 0} (o : Outside S) (u v : S) (name : List ℕ) (hops limit : ℕ) (sides : RefutedSides) (ending : Ending)
     (whole : List ℕ) : Type 0 where
   pub job : JobTree
-  pub in_file : HasFilled o.files name job
+  pub between : S
+  pub in_file : o.has_job u name job between
   pub net : Network
   pub injection : Entry
-  pub accepted : o.takes u job net injection v
+  pub accepted : o.takes between job net injection v
   pub report : IsReport hops limit sides net injection ending whole
   pub walks : TellsWalks net injection hops limit sides ending whole report

@@ -1,5 +1,8 @@
 -- One run of the program: what it read, why it ended so, and what it wrote.
 use Rattle.std.specs.Prelude.{ℕ, ◌≡◌, ◌⊎◌, List, [], ◌∷◌, Option, None, Some}
+use Rattle.sn_edge.specs.Putting.{Takes, TakesPart, TakesUntil}
+use Rattle.sn_edge.specs.Told.{SinkTold}
+use Rattle.sn_edge.specs.declared.sink.Put.{Put}
 use Rattle.run_answers.specs.Outside.{Outside}
 use Rattle.run_answers.specs.Inputs.{Given, AllOpen, FirstFails, a_net}
 use Rattle.run_answers.specs.Runs.{OwnWork}
@@ -44,7 +47,7 @@ TellsMore (explore job hops limit pruned) given Done part ends = ReportTells hop
 TellsMore (explore job hops limit pruned) given Partial part ends = ReportTells hops limit (sides_of pruned) ending.Partial part given ends
 TellsMore c given status part ends = Unit {0}
 
--- of an outside whose patterns go from state to state
+-- of an outside that goes from state to state
 module _ {S : Type 0} (o : Outside S) (u v : S) where
   -- A run of a command: there was no memory to begin it; or its first input that is refused is refused so; or all its inputs are good and gave
   -- this, on which its own work ended so.
@@ -58,3 +61,14 @@ module _ {S : Type 0} (o : Outside S) (u v : S) where
   abbrev pub IsRun : Option Command → Status → List ℕ → Type 0
   IsRun None status part = ((status ≡ Usage) ⊎ (status ≡ NoMemory)) × (v ≡ u) × (part ≡ [])
   IsRun (Some c) status part = IsRunOf c status part
+
+-- How what was written was put, by what sinks tell and what one put may answer and leave: with a text it was put in pieces, each of which was
+-- taken whole; where the sink failed, up to a piece that failed; where memory ended, behind the last piece nothing, or one for which there was none;
+-- and with any other status nothing was put.
+module _ {K : Type 0} (told : K → SinkTold) (gives : K → List ℕ → Put → K → Type 0) (old new : K) where
+  abbrev pub IsPutWith : Status → List ℕ → Type 0
+  IsPutWith Done part = Takes told gives old part new
+  IsPutWith Partial part = Takes told gives old part new
+  IsPutWith WriteFault part = TakesPart told gives old part new
+  IsPutWith NoMemory part = TakesUntil told gives old part new
+  IsPutWith _ part = (new ≡ old) × (part ≡ [])

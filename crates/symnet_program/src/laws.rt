@@ -15,7 +15,6 @@ ghost use Rattle.run_answers.specs.Inputs.{AllOpen, Given, IsSettled};
 ghost use Rattle.run_answers.specs.Jobs.{IsTextOf, first_bad};
 ghost use Rattle.run_answers.specs.Outside.{World, outside, world};
 ghost use Rattle.run_answers.specs.Refusals.{fault_by_rule};
-ghost use Rattle.command_edge.specs.Files.{Files};
 ghost use Rattle.command_edge.specs.Puts.{Outcome};
 ghost use Rattle.command_edge.specs.declared.ending.Ending.TheVariants as ending;
 ghost use Rattle.run_answers.specs.Tables.{FirstUnfilled, IsFilled};
@@ -34,25 +33,25 @@ ghost use Rattle.run_answers.specs.declared.status.Status.{Status as StatusOf};
 ghost use Rattle.run_answers.specs.declared.status.Status.TheVariants.{BadPattern, Done, NoFile, Partial, Syntax, TooBig};
 
 use run_answers::laws::{jobs_are_filled_once, worlds_decide};
-use sn_edge::Patterns;
+use sn_edge::{Folder, Patterns};
 use walk_command::laws::walks_have_one_outcome;
 
 /// What a run tells, each by itself. The status has its cause. The sink gained the text that the command defines, a beginning of it,
 /// or nothing. With Done `explore` wrote the report of the job in the file, and this tells all walks of all packets that meet the
 /// injection; with Partial too, but that walks may go on by decisions that were not tried.
-pub fn runs_tell<P: Patterns>()
-    ensures cause { (files : Files) (u v : P) (said : Option CommandOf) (status : StatusOf) (part : List ℕ)
-        → IsRun (outside files P.told P.find_gives) u v said status part
-        → IsCaused (outside files P.told P.find_gives) u v said status }
-    ensures written { (files : Files) (u v : P) (said : Option CommandOf) (status : StatusOf) (part : List ℕ)
-        → IsRun (outside files P.told P.find_gives) u v said status part
-        → MayWrite (outside files P.told P.find_gives) u v said status part }
-    ensures headline { (files : Files) (u v : P) (job : List ℕ) (hops limit : ℕ) (pruned : PrunedOf) (whole : List ℕ)
-        → IsRun (outside files P.told P.find_gives) u v (Some (explore job hops limit pruned)) Done whole
-        → TellsJob (outside files P.told P.find_gives) u v job hops limit (sides_of pruned) ending.Done whole }
-    ensures partial { (files : Files) (u v : P) (job : List ℕ) (hops limit : ℕ) (pruned : PrunedOf) (whole : List ℕ)
-        → IsRun (outside files P.told P.find_gives) u v (Some (explore job hops limit pruned)) Partial whole
-        → TellsJob (outside files P.told P.find_gives) u v job hops limit (sides_of pruned) ending.Partial whole }
+pub fn runs_tell<F: Folder, P: Patterns>()
+    ensures cause { (u v : F × P) (said : Option CommandOf) (status : StatusOf) (part : List ℕ)
+        → IsRun (outside F.told F.load_gives P.told P.find_gives) u v said status part
+        → IsCaused (outside F.told F.load_gives P.told P.find_gives) u v said status }
+    ensures written { (u v : F × P) (said : Option CommandOf) (status : StatusOf) (part : List ℕ)
+        → IsRun (outside F.told F.load_gives P.told P.find_gives) u v said status part
+        → MayWrite (outside F.told F.load_gives P.told P.find_gives) u v said status part }
+    ensures headline { (u v : F × P) (job : List ℕ) (hops limit : ℕ) (pruned : PrunedOf) (whole : List ℕ)
+        → IsRun (outside F.told F.load_gives P.told P.find_gives) u v (Some (explore job hops limit pruned)) Done whole
+        → TellsJob (outside F.told F.load_gives P.told P.find_gives) u v job hops limit (sides_of pruned) ending.Done whole }
+    ensures partial { (u v : F × P) (job : List ℕ) (hops limit : ℕ) (pruned : PrunedOf) (whole : List ℕ)
+        → IsRun (outside F.told F.load_gives P.told P.find_gives) u v (Some (explore job hops limit pruned)) Partial whole
+        → TellsJob (outside F.told F.load_gives P.told P.find_gives) u v job hops limit (sides_of pruned) ending.Partial whole }
 {}
 
 /// What is wrong with the job's file, or with the files of its tables, is told, unless a file was not read or there was no memory.

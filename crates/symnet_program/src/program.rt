@@ -12,7 +12,7 @@ ghost use Rattle.run_answers.specs.declared.status.Status.TheVariants.{Usage};
 ghost use Rattle.command_edge.specs.declared.fault.InputFault.{InputFault as InputFaultOf};
 ghost use Rattle.symnet_program.specs.Commands.{detail_of, inputs, kind_of, list_style_of, sides_of, style_of, work};
 ghost use Rattle.symnet_program.specs.Program.{Cause, IsAnswered, IsCaused, RefusesInput, Shown};
-ghost use Rattle.symnet_program.specs.Run.{IsRun};
+ghost use Rattle.symnet_program.specs.Run.{IsPutWith, IsRun};
 ghost use Rattle.symnet_program.specs.Told.{MayBeUnread};
 ghost use Rattle.command_words.specs.Commands.{Command as CommandOf, HasRanges, command_of, reading};
 
@@ -95,8 +95,8 @@ fn run_command<F: Folder, P: Patterns, K: Sink>(
     ensures folder_kept { FolderKept (F.told folder.old) (F.told folder.new) }
     ensures patterns_kept { PatternsKept (P.told patterns.old) (P.told patterns.new) }
     ensures out_kept { SinkKept (K.told out.old) (K.told out.new) }
-    ensures ran { Runs (K.told out.old).taken (K.told out.new).taken (outside (F.told folder.old).files P.told P.find_gives)
-        patterns.old patterns.new (inputs (command_of command.entry)) (work (command_of command.entry)) result }
+    ensures ran { Runs K.told K.put_gives out.old out.new (outside F.told F.load_gives P.told P.find_gives)
+        (folder.old, patterns.old) (folder.new, patterns.new) (inputs (command_of command.entry)) (work (command_of command.entry)) result }
     ensures shows { Shows (F.told folder.old) (F.told folder.new) (P.told patterns.old) (P.told patterns.new)
         (K.told out.old) (K.told out.new) result }
 {
@@ -239,13 +239,15 @@ pub fn symnet<F: Folder, P: Patterns, K: Sink>(
     ensures shown { Shown (F.told folder.old) (F.told folder.new) (P.told patterns.old) (P.told patterns.new)
         (K.told out.old) (K.told out.new) result }
 
-    // One run: what the inputs gave, why the command ended so on that, and what the sink gained by it: the text that the command
-    // defines, a beginning of it, or nothing. With Done `explore` wrote the report of the job that its input gave, and this tells all
-    // walks of all packets that meet the injection; and what is read of it is a report of just its records that are written. With
-    // Partial all this is so, but that walks may go on by decisions that were not tried, which the report names. `runs_tell` says
-    // what follows, each by itself.
+    // One run: each file that the command names was loaded once, in order, up to the first that was refused; what the inputs gave; why
+    // the command ended so on that; and what was put by it: the text that the command defines, a beginning of it, or nothing, and
+    // nothing behind a piece that was not taken whole. With Done `explore` wrote the report of the job that its input gave, and this
+    // tells all walks of all packets that meet the injection; and what is read of it is a report of just its records that are written.
+    // With Partial all this is so, but that walks may go on by decisions that were not tried, which the report names. `runs_tell`
+    // says what follows, each by itself.
     ensures ran { (part : List ℕ)
-        × IsRun (outside (F.told folder.old).files P.told P.find_gives) patterns.old patterns.new (reading words.now) result part
+        × IsRun (outside F.told F.load_gives P.told P.find_gives) (folder.old, patterns.old) (folder.new, patterns.new) (reading words.now) result part
+        × IsPutWith K.told K.put_gives out.old out.new result part
         × ((K.told out.new).taken ≡ append_known (K.told out.old).taken part) }
 
     // Where the outside tells a world, the cause is one in that world; and an input that is refused there is refused, unless a file was
@@ -260,7 +262,7 @@ pub fn symnet<F: Folder, P: Patterns, K: Sink>(
     ensures complete { (command : CommandOf) → reading words.now ≡ Some command
         → F.told folder.new ≡ F.told folder.old → (K.told out.new).faults ≡ (K.told out.old).faults
         → ((status : StatusOf) → RefusesInput status
-        → Cause (outside (F.told folder.old).files P.told P.find_gives) patterns.old patterns.new (inputs command)
+        → Cause (outside F.told F.load_gives P.told P.find_gives) (folder.old, patterns.old) (folder.new, patterns.new) (inputs command)
         (work command) status → ⊥)
         → IsAnswered result }
 {

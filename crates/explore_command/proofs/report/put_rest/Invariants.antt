@@ -1,3 +1,4 @@
+use Rattle.std.proofs.Common.{◌≡◌}
 use Rattle.net_check.specs.Network.{network}
 use Rattle.explore_command.proofs.report.put_rest.Given as goal
 
@@ -5,9 +6,9 @@ use Rattle.explore_command.proofs.report.put_rest.Given as goal
 abbrev pub ghosts-put_records-N-OfNet : goal.ghosts-put_records-N-OfNet
 ghosts-put_records-N-OfNet g a = record { net = network a.job.now.net }
 
--- what is written, and what the sink holds with the head
+-- what is written, and the state of the sink, which has the head
 abbrev pub ghosts-put_records-M-Mark : goal.ghosts-put_records-M-Mark
-ghosts-put_records-M-Mark g a = record { sides = a.sides; known = (g.K.Sink.told a.out.now).taken }
+ghosts-put_records-M-Mark g a = record { sides = a.sides; is_first = λ u. u ≡ a.out.now }
 
 -- the counter of this call
 abbrev pub ghosts-put_records-L-Ledger : goal.ghosts-put_records-L-Ledger

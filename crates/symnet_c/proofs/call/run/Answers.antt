@@ -1,5 +1,4 @@
-use Rattle.std.proofs.Common.{Some, map, string_bytes}
-use Rattle.sn_edge.specs.MemFolder.{file_at}
+use Rattle.std.proofs.Common.{map, string_bytes}
 use Rattle.command_words.specs.Commands.{read_command}
 use Rattle.symnet_c.proofs.Running.{ran}
 use Rattle.symnet_c.proofs.call.run.Goals as goal
@@ -9,5 +8,5 @@ returns c =
     let words = map string_bytes c.args.words.now in
     ran words c.args.folder.now c.symnet.new.folder c.symnet.result c.args.out.now c.symnet.new.out c.new-patterns.result c.symnet.new.patterns
     c.new-patterns.ensures c.requires
-    (λ part run. c.runs_tell.ensures.cause (Some (file_at c.args.folder.now.entries)) c.new-patterns.result c.symnet.new.patterns (read_command words) c.symnet.result part run)
+    (λ part run. c.runs_tell.ensures.cause (c.args.folder.now, c.new-patterns.result) (c.symnet.new.folder, c.symnet.new.patterns) (read_command words) c.symnet.result part run)
     c.symnet.ensures.shown c.symnet.ensures.ran c.symnet.ensures.told c.symnet.ensures.exact

@@ -23,12 +23,12 @@ new-requires g c = let ranges = rw (c.in-Explore.is) at c.requires in omega (ari
 
 pub returns-in-Explore-clause-ran : goal.returns-in-Explore-clause-ran
 returns-in-Explore-clause-ran g c =
-    rw (c.in-Explore.is) (subst (λ (s : RefutedSides). Runs (g.K.Sink.told c.args.out.now).taken (g.K.Sink.told c.run.new.out).taken
-    (outside (g.F.Folder.told c.args.folder.now).files g.P.Patterns.told g.P.Patterns.find_gives)
-    c.args.patterns.now c.run.new.patterns (a_job c.in-Explore.job.now ∷ []) (explore_work c.in-Explore.hops c.in-Explore.limit s) c.run.result) c.sides_of.ensures
-    (subst (λ (limit : ℕ). Runs (g.K.Sink.told c.args.out.now).taken (g.K.Sink.told c.run.new.out).taken
-    (outside (g.F.Folder.told c.args.folder.now).files g.P.Patterns.told g.P.Patterns.find_gives)
-    c.args.patterns.now c.run.new.patterns (a_job c.in-Explore.job.now ∷ []) (explore_work c.in-Explore.hops limit c.sides_of.result) c.run.result) c.new.ensures c.run.ensures.ran))
+    rw (c.in-Explore.is) (subst (λ (s : RefutedSides). Runs g.K.Sink.told g.K.Sink.put_gives c.args.out.now c.run.new.out
+    (outside g.F.Folder.told g.F.Folder.load_gives g.P.Patterns.told g.P.Patterns.find_gives)
+    (c.args.folder.now, c.args.patterns.now) (c.run.new.folder, c.run.new.patterns) (a_job c.in-Explore.job.now ∷ []) (explore_work c.in-Explore.hops c.in-Explore.limit s) c.run.result) c.sides_of.ensures
+    (subst (λ (limit : ℕ). Runs g.K.Sink.told g.K.Sink.put_gives c.args.out.now c.run.new.out
+    (outside g.F.Folder.told g.F.Folder.load_gives g.P.Patterns.told g.P.Patterns.find_gives)
+    (c.args.folder.now, c.args.patterns.now) (c.run.new.folder, c.run.new.patterns) (a_job c.in-Explore.job.now ∷ []) (explore_work c.in-Explore.hops limit c.sides_of.result) c.run.result) c.new.ensures c.run.ensures.ran))
 
 pub returns-in-Walk-clause-ran : goal.returns-in-Walk-clause-ran
 returns-in-Walk-clause-ran g c = rw (c.in-Walk.is) c.run-in-Walk.ensures.ran
@@ -41,45 +41,45 @@ returns-in-Grow-clause-ran g c = rw (c.in-Grow.is) c.run-in-Grow.ensures.ran
 
 pub returns-in-Ask-clause-ran : goal.returns-in-Ask-clause-ran
 returns-in-Ask-clause-ran g c =
-    rw (c.in-Ask.is) (subst (λ (limit : ℕ). Runs (g.K.Sink.told c.args.out.now).taken (g.K.Sink.told c.run-in-Ask.new.out).taken
-    (outside (g.F.Folder.told c.args.folder.now).files g.P.Patterns.told g.P.Patterns.find_gives)
-    c.args.patterns.now c.run-in-Ask.new.patterns (a_job c.in-Ask.job.now ∷ []) (one_piece (AskComes c.in-Ask.hops limit)) c.run-in-Ask.result) c.new-in-Ask.ensures
+    rw (c.in-Ask.is) (subst (λ (limit : ℕ). Runs g.K.Sink.told g.K.Sink.put_gives c.args.out.now c.run-in-Ask.new.out
+    (outside g.F.Folder.told g.F.Folder.load_gives g.P.Patterns.told g.P.Patterns.find_gives)
+    (c.args.folder.now, c.args.patterns.now) (c.run-in-Ask.new.folder, c.run-in-Ask.new.patterns) (a_job c.in-Ask.job.now ∷ []) (one_piece (AskComes c.in-Ask.hops limit)) c.run-in-Ask.result) c.new-in-Ask.ensures
     c.run-in-Ask.ensures.ran)
 
 pub returns-in-Loops-clause-ran : goal.returns-in-Loops-clause-ran
 returns-in-Loops-clause-ran g c =
-    rw (c.in-Loops.is) (subst (λ (detail : OpenPaths). Runs (g.K.Sink.told c.args.out.now).taken (g.K.Sink.told c.run-in-Loops.new.out).taken
-    (outside (g.F.Folder.told c.args.folder.now).files g.P.Patterns.told g.P.Patterns.find_gives)
-    c.args.patterns.now c.run-in-Loops.new.patterns (a_job c.in-Loops.job.now ∷ []) (one_piece (LoopsComes c.in-Loops.hops LIMIT detail)) c.run-in-Loops.result) c.detail_of.ensures
-    (subst (λ (limit : ℕ). Runs (g.K.Sink.told c.args.out.now).taken (g.K.Sink.told c.run-in-Loops.new.out).taken
-    (outside (g.F.Folder.told c.args.folder.now).files g.P.Patterns.told g.P.Patterns.find_gives)
-    c.args.patterns.now c.run-in-Loops.new.patterns (a_job c.in-Loops.job.now ∷ []) (one_piece (LoopsComes c.in-Loops.hops limit c.detail_of.result)) c.run-in-Loops.result) c.new-in-Loops.ensures
+    rw (c.in-Loops.is) (subst (λ (detail : OpenPaths). Runs g.K.Sink.told g.K.Sink.put_gives c.args.out.now c.run-in-Loops.new.out
+    (outside g.F.Folder.told g.F.Folder.load_gives g.P.Patterns.told g.P.Patterns.find_gives)
+    (c.args.folder.now, c.args.patterns.now) (c.run-in-Loops.new.folder, c.run-in-Loops.new.patterns) (a_job c.in-Loops.job.now ∷ []) (one_piece (LoopsComes c.in-Loops.hops LIMIT detail)) c.run-in-Loops.result) c.detail_of.ensures
+    (subst (λ (limit : ℕ). Runs g.K.Sink.told g.K.Sink.put_gives c.args.out.now c.run-in-Loops.new.out
+    (outside g.F.Folder.told g.F.Folder.load_gives g.P.Patterns.told g.P.Patterns.find_gives)
+    (c.args.folder.now, c.args.patterns.now) (c.run-in-Loops.new.folder, c.run-in-Loops.new.patterns) (a_job c.in-Loops.job.now ∷ []) (one_piece (LoopsComes c.in-Loops.hops limit c.detail_of.result)) c.run-in-Loops.result) c.new-in-Loops.ensures
     c.run-in-Loops.ensures.ran))
 
 pub returns-in-Compare-clause-ran : goal.returns-in-Compare-clause-ran
 returns-in-Compare-clause-ran g c =
-    rw (c.in-Compare.is) (subst (λ (limit : ℕ). Runs (g.K.Sink.told c.args.out.now).taken (g.K.Sink.told c.run-in-Compare.new.out).taken
-    (outside (g.F.Folder.told c.args.folder.now).files g.P.Patterns.told g.P.Patterns.find_gives)
-    c.args.patterns.now c.run-in-Compare.new.patterns (a_job c.in-Compare.job.now ∷ a_job c.in-Compare.other.now ∷ []) (one_piece (CompareComes c.in-Compare.hops limit)) c.run-in-Compare.result) c.new-in-Compare.ensures
+    rw (c.in-Compare.is) (subst (λ (limit : ℕ). Runs g.K.Sink.told g.K.Sink.put_gives c.args.out.now c.run-in-Compare.new.out
+    (outside g.F.Folder.told g.F.Folder.load_gives g.P.Patterns.told g.P.Patterns.find_gives)
+    (c.args.folder.now, c.args.patterns.now) (c.run-in-Compare.new.folder, c.run-in-Compare.new.patterns) (a_job c.in-Compare.job.now ∷ a_job c.in-Compare.other.now ∷ []) (one_piece (CompareComes c.in-Compare.hops limit)) c.run-in-Compare.result) c.new-in-Compare.ensures
     c.run-in-Compare.ensures.ran)
 
 pub returns-in-Model-clause-ran : goal.returns-in-Model-clause-ran
 returns-in-Model-clause-ran g c =
-    rw (c.in-Model.is) (subst (λ (s : Style). Runs (g.K.Sink.told c.args.out.now).taken (g.K.Sink.told c.run-in-Model.new.out).taken
-    (outside (g.F.Folder.told c.args.folder.now).files g.P.Patterns.told g.P.Patterns.find_gives)
-    c.args.patterns.now c.run-in-Model.new.patterns (a_file FILE_LIMIT c.in-Model.file.now ∷ []) (one_piece (ModelComes (kind_of c.in-Model.table) s c.in-Model.file.now)) c.run-in-Model.result) c.style_of.ensures
-    (subst (λ (k : TableKind). Runs (g.K.Sink.told c.args.out.now).taken (g.K.Sink.told c.run-in-Model.new.out).taken
-    (outside (g.F.Folder.told c.args.folder.now).files g.P.Patterns.told g.P.Patterns.find_gives)
-    c.args.patterns.now c.run-in-Model.new.patterns (a_file FILE_LIMIT c.in-Model.file.now ∷ []) (one_piece (ModelComes k c.style_of.result c.in-Model.file.now)) c.run-in-Model.result) c.kind_of.ensures c.run-in-Model.ensures.ran))
+    rw (c.in-Model.is) (subst (λ (s : Style). Runs g.K.Sink.told g.K.Sink.put_gives c.args.out.now c.run-in-Model.new.out
+    (outside g.F.Folder.told g.F.Folder.load_gives g.P.Patterns.told g.P.Patterns.find_gives)
+    (c.args.folder.now, c.args.patterns.now) (c.run-in-Model.new.folder, c.run-in-Model.new.patterns) (a_file FILE_LIMIT c.in-Model.file.now ∷ []) (one_piece (ModelComes (kind_of c.in-Model.table) s c.in-Model.file.now)) c.run-in-Model.result) c.style_of.ensures
+    (subst (λ (k : TableKind). Runs g.K.Sink.told g.K.Sink.put_gives c.args.out.now c.run-in-Model.new.out
+    (outside g.F.Folder.told g.F.Folder.load_gives g.P.Patterns.told g.P.Patterns.find_gives)
+    (c.args.folder.now, c.args.patterns.now) (c.run-in-Model.new.folder, c.run-in-Model.new.patterns) (a_file FILE_LIMIT c.in-Model.file.now ∷ []) (one_piece (ModelComes k c.style_of.result c.in-Model.file.now)) c.run-in-Model.result) c.kind_of.ensures c.run-in-Model.ensures.ran))
 
 pub returns-in-Click-clause-ran : goal.returns-in-Click-clause-ran
 returns-in-Click-clause-ran g c = rw (c.in-Click.is) c.run-in-Click.ensures.ran
 
 pub returns-in-Acl-clause-ran : goal.returns-in-Acl-clause-ran
 returns-in-Acl-clause-ran g c =
-    rw (c.in-Acl.is) (subst (λ (s : ListStyle). Runs (g.K.Sink.told c.args.out.now).taken (g.K.Sink.told c.run-in-Acl.new.out).taken
-    (outside (g.F.Folder.told c.args.folder.now).files g.P.Patterns.told g.P.Patterns.find_gives)
-    c.args.patterns.now c.run-in-Acl.new.patterns (a_file FILE_LIMIT c.in-Acl.file.now ∷ []) (one_piece (AclComes s c.in-Acl.file.now)) c.run-in-Acl.result) c.list_style_of-style.ensures
+    rw (c.in-Acl.is) (subst (λ (s : ListStyle). Runs g.K.Sink.told g.K.Sink.put_gives c.args.out.now c.run-in-Acl.new.out
+    (outside g.F.Folder.told g.F.Folder.load_gives g.P.Patterns.told g.P.Patterns.find_gives)
+    (c.args.folder.now, c.args.patterns.now) (c.run-in-Acl.new.folder, c.run-in-Acl.new.patterns) (a_file FILE_LIMIT c.in-Acl.file.now ∷ []) (one_piece (AclComes s c.in-Acl.file.now)) c.run-in-Acl.result) c.list_style_of-style.ensures
     c.run-in-Acl.ensures.ran)
 
 pub returns-in-Rules-clause-ran : goal.returns-in-Rules-clause-ran
