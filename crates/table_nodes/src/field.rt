@@ -78,3 +78,27 @@ pub fn cell(alloc: Global, field: Field) -> Result<Target, NoMemory>
         Field::DestinationPort => past(alloc, "L4", 16, 16),
     }
 }
+
+/// The same cell; the texts of names are shared.
+pub(crate) fn copied(cell: &Target) -> Result<Target, NoMemory>
+    ensures { IfOk result (λ target. target ≡ cell.now) }
+{
+    Ok(match cell {
+        Target::Header { addr, width } => Target::Header {
+            addr: Addr {
+                tag: addr.tag.clone()?,
+                offset: addr.offset,
+            },
+            width: *width,
+        },
+        Target::Meta { scope, name, width } => Target::Meta {
+            scope: *scope,
+            name: name.clone()?,
+            width: *width,
+        },
+        Target::Bound { var, width } => Target::Bound {
+            var: var.clone()?,
+            width: *width,
+        },
+    })
+}

@@ -6,6 +6,7 @@ ghost use Rattle.sefl_syntax.specs.Views.{code_tree, instr_tree, node_tree, port
 ghost use Rattle.table_nodes.specs.TableNodes.{guarded, set_guards, row_guard, destination, last_of, in_code, out_code, out_codes, to_all, node_with, guard_instr};
 ghost use Rattle.table_nodes.specs.Codes.{code_before, lists};
 
+use crate::destination::destination;
 use crate::pieces::{add_guard, last_instr, row_guard, set_test, to_all};
 use sefl_syntax::{Instr, PortCode, RawNode, Side, TableKind};
 use sn_width::{NoMemory, Num};
@@ -74,8 +75,9 @@ fn row_guards(
 {
     // Room for the instruction behind the tests, too.
     let mut code = Vec::with_capacity(alloc, rows.len().saturating_add(1))?;
+    let cell = destination(alloc, kind)?;
     for row in rows {
-        code.push(row_guard(alloc, kind, *row)?)?;
+        code.push(row_guard(alloc, kind, &cell, *row)?)?;
     }
     Ok(code)
 }

@@ -8,7 +8,8 @@ ghost use Rattle.table_nodes.specs.TableNodes.{Set, guard_instr, guarded, set_gu
 ghost use Rattle.table_nodes.specs.Codes.{code_before};
 
 use crate::destination::destination;
-use sefl_syntax::{Cond, Expr, Instr, TableKind, Text};
+use crate::field::copied;
+use sefl_syntax::{Cond, Expr, Instr, TableKind, Target, Text};
 use sn_width::{NoMemory, Num, Rel};
 use std::alloc::Global;
 
@@ -21,26 +22,22 @@ pub fn guard(alloc: Global, test: Cond, port: u32) -> Result<Instr, NoMemory>
     Ok(Instr::If { test, first, other })
 }
 
-/// Whether the destination lies in one of the ranges.
-fn is_member(alloc: Global, kind: TableKind, ranges: Vec<(Num, Num)>) -> Result<Cond, NoMemory>
-    ensures { IfOk result (λ test. cond_tree test ≡ tree.member (tree.reading (destination kind)) ranges.items) }
+/// Whether the cell lies in one of the ranges.
+fn is_member(alloc: Global, cell: Target, ranges: Vec<(Num, Num)>) -> Result<Cond, NoMemory>
+    ensures { IfOk result (λ test. cond_tree test ≡ tree.member (tree.reading cell) ranges.items) }
 {
-    let value = Expr::Read(destination(alloc, kind)?);
-    Cond::member(alloc, value, ranges)
+    Cond::member(alloc, Expr::Read(cell), ranges)
 }
 
-/// Whether the destination is the address.
-fn is_address(alloc: Global, kind: TableKind, address: u64) -> Result<Cond, NoMemory>
-    ensures { IfOk result (λ test. cond_tree test
-        ≡ tree.compare Rel.Eq (tree.reading (destination kind)) (tree.constant address)) }
+/// Whether the cell is the address.
+fn is_address(cell: Target, address: u64) -> Cond
+    ensures { cond_tree result ≡ tree.compare Rel.Eq (tree.reading cell) (tree.constant address) }
 {
-    let left = Expr::Read(destination(alloc, kind)?);
-    let right = Expr::Const(Num::from(address));
-    Ok(Cond::Compare {
+    Cond::Compare {
         rel: Rel::Eq,
-        left,
-        right,
-    })
+        left: Expr::Read(cell),
+        right: Expr::Const(Num::from(address)),
+    }
 }
 
 /// The range of the addresses of a prefix.
@@ -53,24 +50,24 @@ fn prefix_range(alloc: Global, row: (u64, u32, u32)) -> Result<Vec<(Num, Num)>, 
     Ok(vec![in alloc; (first, first + size - 1)]?)
 }
 
-/// The test of a row.
+/// The test of a row, of a copy of the destination.
 pub(crate) fn row_guard(
     alloc: Global,
     kind: TableKind,
+    cell: &Target,
     row: (u64, u32, u32),
 ) -> Result<Instr, NoMemory>
+    requires cell { cell.now ≡ destination kind }
     requires length { row.1 ≤ 48 }
     requires prefix { kind ≡ TableKind.Fib → row.1 ≤ 32 }
     ensures { IfOk result (λ i. instr_tree i ≡ guard_instr (row_guard kind row)) }
 {
-    match kind {
-        TableKind::Mac => guard(alloc, is_address(alloc, TableKind::Mac, row.0)?, row.2),
-        TableKind::Fib => guard(
-            alloc,
-            is_member(alloc, TableKind::Fib, prefix_range(alloc, row)?)?,
-            row.2,
-        ),
-    }
+    let cell = copied(cell)?;
+    let test = match kind {
+        TableKind::Mac => is_address(cell, row.0),
+        TableKind::Fib => is_member(alloc, cell, prefix_range(alloc, row)?)?,
+    };
+    guard(alloc, test, row.2)
 }
 
 /// Adds the test of a port's set, where the set is not empty.
@@ -89,7 +86,7 @@ pub(crate) fn add_guard(
         return Ok(());
     }
     let ranges = Vec::from_slice(alloc, set)?;
-    let test = is_member(alloc, kind, ranges)?;
+    let test = is_member(alloc, destination(alloc, kind)?, ranges)?;
     code.push(guard(alloc, test, port)?)?;
     Ok(())
 }
@@ -102,7 +99,7 @@ pub(crate) fn set_test(alloc: Global, kind: TableKind, set: &[(Num, Num)]) -> Re
         return Ok(Cond::Not(Box::new(alloc, Cond::True)?));
     }
     let ranges = Vec::from_slice(alloc, set)?;
-    is_member(alloc, kind, ranges)
+    is_member(alloc, destination(alloc, kind)?, ranges)
 }
 
 fn all_ports(alloc: Global, ports: u32) -> Result<Vec<u32>, NoMemory>

@@ -11,7 +11,8 @@ pub returns : goal.returns
 returns c =
     let d = destination c.args.kind in
     let is : instr_tree c.in_ok-guard.field-0 ≡ guard_instr (member (reading d) c.args.set.now, c.args.port)
-    = c.in_ok-guard.ensures ∙ ap (λ t. guard_instr (t, c.args.port)) (c.in_ok-test.ensures ∙ ap (member (reading d)) c.in_ok-ranges.ensures.items) in
+    = c.in_ok-guard.ensures ∙ ap (λ t. guard_instr (t, c.args.port)) (c.in_ok-test.ensures
+    ∙ (ap (λ target. member (reading target) c.in_ok-ranges.ranges.items) c.in_ok-destination.ensures ∙ ap (member (reading d)) c.in_ok-ranges.ensures.items)) in
     let some : 0 < length c.args.set.now = search rules in
     λ sets last.
     ap (λ (code : List Instr). code_before (map instr_tree code) (guarded (set_guards d (c.args.port + 1) sets) last)) c.in_ok-push.ensures.items
