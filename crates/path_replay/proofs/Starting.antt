@@ -1,5 +1,5 @@
 -- The condition of an injection, and that one thing is explored.
-use Rattle.std.proofs.Common.{◌≡◌, ℕ, true, List, [], ◌∷◌, length, map, Result, Ok, Err, refl, sym, ap, subst, ◌∙◌}
+use Rattle.std.proofs.Common.{◌≡◌, ℕ, true, List, [], ◌∷◌, length, map, Option, Result, Ok, Err, refl, sym, ap, subst, ◌∙◌}
 use Rattle.path_formula.specs.Formulas.{FormulaTree}
 use Rattle.path_formula.specs.View.{view}
 use Rattle.path_cond.specs.Conditions.{Entry}
@@ -13,14 +13,17 @@ use Rattle.term_values.specs.TermValues.{terms}
 use Rattle.sym_state.specs.Beginning.{Begins, MustBeTrue, start_in, trees_of as formula_trees}
 use Rattle.sym_state.specs.Symbolic.{Symbolic}
 use Rattle.exact_records.specs.Packets.{IsExplored}
+use Rattle.path_records.specs.declared.records.Record.{Record}
 use Rattle.exact_records.specs.Records.{RecordTree, SymStart, first_condition}
+use Rattle.exact_records.specs.View.{record_trees}
 use Rattle.record_checks.specs.Confirming.{Confirms, IsConfirmedBack}
 use Rattle.record_checks.specs.Stops.{trees_of}
+use Rattle.record_checks.specs.Supplies.{ConfirmsAll}
 use Rattle.record_checks.specs.declared.counts.Confirmed.{Confirmed}
 use Rattle.record_checks.specs.declared.fault.ReplayFault.{ReplayFault}
 use Rattle.record_checks.specs.declared.fault.ReplayFault.TheVariants.{NotConfirmed, NoMemory}
 use Rattle.symbolic_engine.specs.Origins.{IsFirstState}
-use Rattle.path_replay.specs.Replaying.{ConfirmsFor, IsConfirmedBackFor}
+use Rattle.path_replay.specs.Replaying.{ConfirmsFor, ConfirmsAllFor, IsConfirmedBackFor}
 
 true_entries : (entries : List Entry) → MustBeTrue entries
     → map (entry_seen view) entries ≡ map (λ (f : FormulaTree). (f, true)) (formula_trees entries)
@@ -57,6 +60,13 @@ module _ (net : Network) (i : Injection) (hops : ℕ) (start : SymStart) (explor
   -- one thing is explored
   one_start : (P : SymStart → Type 0) (other : SymStart) → IsExplored net i hops other → P start → P other
   one_start P other is h = subst P (same_ok (sym explored ∙ is)) h
+
+-- the same of records that were handed over
+module _ {S : Type 0} (steps : S → Option Record → S → Type 0) (net : Network) (i : Injection) (hops : ℕ) (start : SymStart) (explored : IsExplored net i hops start) (u v : S) where
+  pub all_for : (result : Result Confirmed ReplayFault) → ConfirmsAll steps start u v result → ConfirmsAllFor net i hops steps u v result
+  all_for (Ok counts) (xs, all, h) = (xs, all, confirms_for net i hops start explored (record_trees xs) (Ok counts) h)
+  all_for (Err (NotConfirmed number part)) (xs, all, h) = (xs, all, confirms_for net i hops start explored (record_trees xs) (Err (NotConfirmed number part)) h)
+  all_for (Err NoMemory) h = tt
 
 -- what each record means at the start is what is answered
 abbrev IsBack : Type 0

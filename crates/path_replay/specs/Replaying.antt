@@ -1,10 +1,12 @@
 -- What is answered of the records of a net and an injection.
-use Rattle.std.specs.Prelude.{ℕ, List, Result, Ok, Err}
+use Rattle.std.specs.Prelude.{ℕ, List, Option, Result, Ok, Err}
 use Rattle.std.specs.List.{AllByRecursion}
 use Rattle.sefl_meaning.specs.Network.{Network, Entry}
+use Rattle.path_records.specs.declared.records.Record.{Record}
 use Rattle.exact_records.specs.Packets.{HasPacket, IsExplored, IsNotTaken}
 use Rattle.exact_records.specs.Records.{RecordTree, SymStart}
 use Rattle.record_checks.specs.Confirming.{Confirms, IsConfirmedBack}
+use Rattle.record_checks.specs.Supplies.{OfAll}
 use Rattle.record_checks.specs.declared.counts.Confirmed.{Confirmed}
 use Rattle.record_checks.specs.declared.fault.ReplayFault.{ReplayFault}
 use Rattle.record_checks.specs.declared.fault.ReplayFault.TheVariants.{NotConfirmed, NoMemory}
@@ -17,6 +19,12 @@ module _ (net : Network) (i : Entry) (hops : ℕ) where
   ConfirmsFor xs (Ok counts) = FollowsTo net i hops (λ start. Confirms start xs (Ok counts))
   ConfirmsFor xs (Err (NotConfirmed number part)) = FollowsTo net i hops (λ start. Confirms start xs (Err (NotConfirmed number part)))
   ConfirmsFor xs (Err NoMemory) = Unit {0}
+
+  -- the same of all records that were handed over
+  abbrev pub ConfirmsAllFor : {S : Type 0} → (S → Option Record → S → Type 0) → S → S → Result Confirmed ReplayFault → Type 0
+  ConfirmsAllFor steps u v (Ok counts) = OfAll steps u v (λ xs. ConfirmsFor xs (Ok counts))
+  ConfirmsAllFor steps u v (Err (NotConfirmed number part)) = OfAll steps u v (λ xs. ConfirmsFor xs (Err (NotConfirmed number part)))
+  ConfirmsAllFor steps u v (Err NoMemory) = Unit {0}
 
   -- and the other way
   abbrev pub IsConfirmedBackFor : List RecordTree → Result Confirmed ReplayFault → Type 0

@@ -6,5 +6,5 @@ mod replaying;
 mod runs;
 mod stop;
 
-pub use record_checks::{Confirmed, Part, ReplayFault};
-pub use replaying::confirm;
+pub use record_checks::{Confirmed, Part, ReplayFault, Supply};
+pub use replaying::{confirm, confirm_given};

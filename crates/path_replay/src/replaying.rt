@@ -6,13 +6,14 @@ ghost use Rattle.net_check.specs.Sound.{AreOfOneJob};
 ghost use Rattle.exact_records.specs.Packets.{IsExplored};
 ghost use Rattle.exact_records.specs.View.{record_trees};
 ghost use Rattle.symbolic_engine.specs.Origins.{IsFirstState};
-ghost use Rattle.path_replay.specs.Replaying.{ConfirmsFor, IsConfirmedBackFor, TellPackets};
+ghost use Rattle.path_replay.specs.Replaying.{ConfirmsFor, ConfirmsAllFor, IsConfirmedBackFor, TellPackets};
 
 use crate::laws::{confirmed_records_tell_packets, one_answer_for_a_net};
 use crate::runs::Runs;
 use net_check::{Injection, Net};
 use path_records::Record;
-use record_checks::{Confirmed, ReplayFault, confirm_along};
+use record_checks::{Confirmed, ReplayFault, Supply, confirm_along, confirm_given_along};
+use sn_width::NoMemory;
 use std::alloc::Global;
 use std::marker::Brand;
 use sym_state::SymState;
@@ -72,8 +73,57 @@ fn confirm_from<B: Origin>(
     requires first { IsFirstState B.start (network net.now) hops injection.now.node injection.now.raw.port first }
     ensures { ConfirmsFor (network net.now) (entry injection.now) hops (record_trees records.now) result }
 {
+    let runs: Runs<'_, B> = runs_from(alloc, net, injection, hops, first)?;
+    confirm_along(alloc, &runs, records)
+}
+
+/// The runs from the state that the injection begins with.
+fn runs_from<'a, B: Origin>(
+    alloc: Global,
+    net: &'a Net,
+    injection: &Injection,
+    hops: u32,
+    first: SymState,
+) -> Result<Runs<'a, B>, NoMemory>
+    requires net { network net.now ≡ B.net }
+    requires explored { IsExplored (network net.now) (entry injection.now) hops B.start }
+    requires first { IsFirstState B.start (network net.now) hops injection.now.node injection.now.raw.port first }
+{
     let condition = first.condition().fork()?;
     let engine = Explorer::<B>::new(alloc, net, injection.place(), hops, first);
-    let runs = Runs::<B> { engine, condition };
-    confirm_along(alloc, &runs, records)
+    Ok(Runs { engine, condition })
+}
+
+/// The same as `confirm` for records that are handed over one by one, of which none is kept. All are taken, also behind one that
+/// is not confirmed.
+pub fn confirm_given<S: Supply>(
+    alloc: Global,
+    net: &Net,
+    injection: &Injection,
+    hops: u32,
+    supply: &mut S,
+) -> Result<Confirmed, ReplayFault>
+    requires { AreOfOneJob (network net.now) (entry injection.now) }
+    ensures { ConfirmsAllFor (network net.now) (entry injection.now) hops S.steps supply.old supply.new result }
+{
+    let first = SymState::from_injection(alloc, net, injection)?;
+    confirm_given_from::<Brand, S>(alloc, net, injection, hops, first, supply)
+}
+
+/// The same from the state that the injection begins with.
+fn confirm_given_from<B: Origin, S: Supply>(
+    alloc: Global,
+    net: &Net,
+    injection: &Injection,
+    hops: u32,
+    first: SymState,
+    supply: &mut S,
+) -> Result<Confirmed, ReplayFault>
+    requires net { network net.now ≡ B.net }
+    requires explored { IsExplored (network net.now) (entry injection.now) hops B.start }
+    requires first { IsFirstState B.start (network net.now) hops injection.now.node injection.now.raw.port first }
+    ensures { ConfirmsAllFor (network net.now) (entry injection.now) hops S.steps supply.old supply.new result }
+{
+    let runs: Runs<'_, B> = runs_from(alloc, net, injection, hops, first)?;
+    confirm_given_along(alloc, &runs, supply)
 }

@@ -1,7 +1,6 @@
 -- The pieces of a printed report make its text.
-use Rattle.std.proofs.Common.{◌≡◌, ◌∙◌, ap, sym, subst, ℕ, Bool, true, false, List, [], ◌∷◌, ◌++◌, map, Vec, Global, append_assoc}
-use Rattle.std.proofs.lemmas.List.{append-nil, map-append}
-use Rattle.std.specs.Prelude.{IsUtf8}
+use Rattle.std.proofs.Common.{◌≡◌, ◌∙◌, ◌+◌, ◌≤◌, arith, ap, refl, sym, subst, length, ℕ, true, false, List, [], ◌∷◌, ◌++◌, map, Vec, Global, append_assoc}
+use Rattle.std.proofs.lemmas.List.{append-nil, length-append, map-append}
 use Rattle.std.specs.List.{AllByRecursion}
 use Rattle.serde_json.specs.Data.{Data}
 use Rattle.serde_json.specs.Written.{comma_if, compact_text}
@@ -12,7 +11,7 @@ use Rattle.record_text.specs.Reports.{head_text, record_pieces, report_text, tai
 use Rattle.record_text.specs.declared.report.Report.{Report}
 use Rattle.report_forms.specs.Fits.{RecordFits}
 use Rattle.kept_texts.specs.Kept.{has_some, piece}
-use Rattle.path_report.specs.Printed.{BeginsWith, BeginsWithAll, IsFrame, IsPrinted}
+use Rattle.path_report.specs.Printed.{BeginsWith, BeginsWithAll, IsOpened, IsPrinted, IsRead, Reading}
 
 -- one more at the end
 later_with : (ds : List Data) (d : Data) → record_pieces true (ds ++ d ∷ []) ≡ record_pieces true ds ++ piece true d
@@ -51,33 +50,69 @@ one_more net items item bytes left rest all one =
       fits = all_with (RecordFits net) items item all.fits one.fits;
     }
 
-pub goes_on : (net : Network) (items more : List Record) (item : Record) (later : Bool) (bytes left rest : List ℕ) → more ≡ items ++ item ∷ [] → later ≡ has_some items →
-    BeginsWithAll net items bytes left → BeginsWith net later item left rest → BeginsWithAll net more bytes rest
-goes_on net items more item later bytes left rest pushed first all one =
-    subst (λ xs. BeginsWithAll net xs bytes rest) (sym pushed) (one_more net items item bytes left rest all (subst (λ b. BeginsWith net b item left rest) first one))
+-- these records were read since the text began
+pub record AreRead (net : Network) (text : List ℕ) (items : List Record) (u : Reading) : Type 0 where
+  pub begins : BeginsWithAll net items text u.left
+  pub later : u.later ≡ has_some items
+  pub few : length items + length u.left ≤ length text
+
+pub none_read : (net : Network) (text : List ℕ) (u : Reading) → u.later ≡ false → u.left ≡ text → AreRead net text [] u
+none_read net text u first is = record {
+  begins = record { text = sym is; fits = tt };
+  later = first;
+  few = let same = ap length is in omega (arith, same);
+}
+
+some_behind : {A : Type 0} (xs : List A) (x : A) → true ≡ has_some (xs ++ x ∷ [])
+some_behind [] x = refl
+some_behind (y ∷ xs) x = refl
+
+one_longer : {A : Type 0} (xs : List A) (x : A) → length (xs ++ x ∷ []) ≡ length xs + 1
+one_longer xs x = length-append xs (x ∷ [])
+
+-- one record more
+pub read_more : (net : Network) (text : List ℕ) (items : List Record) (u : Reading) (item : Record) (v : Reading) → AreRead net text items u → IsRead net u item v
+    → AreRead net text (items ++ item ∷ []) v
+read_more net text items u item v all one = record {
+  begins = one_more net items item text u.left v.left all.begins (subst (λ b. BeginsWith net b item u.left v.left) all.later one.begins);
+  later = one.later ∙ some_behind items item;
+  few =
+      let longer = one_longer items item in
+      let shorter = one.shorter in
+      let few = all.few in
+      omega (arith, longer, shorter, few);
+}
+
+pub goes_on : (net : Network) (text : List ℕ) (items more : List Record) (u : Reading) (item : Record) (v : Reading) → more ≡ items ++ item ∷ []
+    → AreRead net text items u → IsRead net u item v → AreRead net text more v
+goes_on net text items more u item v pushed all one = subst (λ xs. AreRead net text xs v) (sym pushed) (read_more net text items u item v all one)
 
 -- a report is its pieces
 abbrev pub JoinsPieces : Type 0
 JoinsPieces = (net : Network) (report : Report) →
     report_text net report ≡ head_text report.hops report.limit ++ (record_pieces false (map (record_data net) report.records.items) ++ tail_text report.refuted report.complete)
 
-pub printed : JoinsPieces → (net : Network) (bytes head middle tail : List ℕ) (frame : Report) (records : Vec Record Global) →
-    IsUtf8 bytes → bytes ≡ head ++ (middle ++ tail) → IsFrame net head tail frame → BeginsWithAll net records.items middle [] →
-    IsPrinted net bytes (record { hops = frame.hops; limit = frame.limit; records = records; refuted = frame.refuted; complete = frame.complete })
-printed joins net bytes head middle tail frame records utf8 cut framed all =
-    let whole : Report = record { hops = frame.hops; limit = frame.limit; records = records; refuted = frame.refuted; complete = frame.complete } in
+-- the report that has these around its records
+abbrev pub framing : Report → Vec Record Global → Report
+framing frame records = record { hops = frame.hops; limit = frame.limit; records = records; refuted = frame.refuted; complete = frame.complete }
+
+pub printed : JoinsPieces → (net : Network) (bytes : List ℕ) (frame : Report) (start : Reading) (records : Vec Record Global) →
+    IsOpened net bytes frame start → BeginsWithAll net records.items start.left [] → IsPrinted net bytes (framing frame records)
+printed joins net bytes frame start records opened all =
+    let middle = start.left in
+    let tail = opened.tail in
     let pieces = record_pieces false (map (record_data net) records.items) in
     let text : middle ≡ pieces = all.text ∙ append-nil pieces in record {
-      utf8 = utf8;
+      utf8 = opened.utf8;
       text =
-          cut ∙ ap (λ s. s ++ (middle ++ tail)) framed.before ∙ ap (λ s. head_text frame.hops frame.limit ++ (s ++ tail)) text
-          ∙ ap (λ s. head_text frame.hops frame.limit ++ (pieces ++ s)) framed.behind ∙ sym (joins net whole);
+          opened.cut ∙ ap (λ s. s ++ (middle ++ tail)) opened.framed.before ∙ ap (λ s. head_text frame.hops frame.limit ++ (s ++ tail)) text
+          ∙ ap (λ s. head_text frame.hops frame.limit ++ (pieces ++ s)) opened.framed.behind ∙ sym (joins net (framing frame records));
       fits = record {
-        least_hops = framed.fits.least_hops;
-        most_hops = framed.fits.most_hops;
-        least_limit = framed.fits.least_limit;
-        most_limit = framed.fits.most_limit;
+        least_hops = opened.framed.fits.least_hops;
+        most_hops = opened.framed.fits.most_hops;
+        least_limit = opened.framed.fits.least_limit;
+        most_limit = opened.framed.fits.most_limit;
         all_records = all.fits;
-        refuted = framed.fits.refuted;
+        refuted = opened.framed.fits.refuted;
       };
     }

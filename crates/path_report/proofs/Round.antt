@@ -1,5 +1,8 @@
 -- The text of a report is read as that report.
-use Rattle.std.proofs.Common.{◌≡◌, ℕ, List, [], ◌∷◌, ◌++◌, Bool, Some, None, Result, Ok, Err, sym, ap, ◌∙◌, subst}
+use denote.RawPtr.{null_ptr}
+use Rattle.std.proofs.Common.{◌≡◌, ◌<◌, ◌^◌, ℕ, List, [], ◌∷◌, ◌++◌, length, Bool, Some, None, Result, Ok, Err, refl, sym, ap, ◌∙◌, subst, arith}
+use Rattle.std.specs.Global.{Vec}
+use Rattle.std.specs.declared.alloc.Global.{Global}
 use Rattle.std.specs.Prelude.{string_bytes, IsUtf8}
 use Rattle.serde_json.specs.Data.{Data}
 use Rattle.serde_json.specs.Read.{read}
@@ -19,10 +22,11 @@ use Rattle.record_text.specs.Reports.{data_of, report_data, report_line, report_
 use Rattle.report_forms.specs.Seen.{line_seen, report_seen}
 use Rattle.report_forms.specs.Fits.{LineFits, ReportFits}
 use Rattle.path_report.specs.Having.{HasForm}
-use Rattle.path_report.specs.Printed.{IsPrinted}
+use Rattle.path_report.specs.Printed.{BeginsWithAll, IsOpened, IsPrinted, Reading, ShowsRecords}
 use Rattle.path_report.specs.Reading.{refusal, ReadsReport, GivesBack, Shows}
 use Rattle.path_report.specs.declared.report.ReportFault.{ReportFault}
 use Rattle.path_report.specs.declared.report.ReportFault.TheVariants.{NotJson, NotReport, NoMemory}
+use Rattle.path_report.proofs.PrintedLemmas.{JoinsPieces, framing, printed}
 
 -- a fault of the value's shape is one of the report's
 pub refused : (net : Network) (bytes : List ℕ) (f : ShapeFault) → Reads (knows net) part.Report bytes (Err f) → ReadsReport net bytes (Err (refusal f))
@@ -51,6 +55,21 @@ pub printed_reads : ReadsLines → HaveForm → (net : Network) (bytes : List �
 printed_reads lines formed net bytes report is =
     let form = formed net report is.fits in
     (record { utf8 = is.utf8; value = ap read is.text ∙ lines (knows net) part.Report (data_of net report) form }, form, is.fits)
+
+-- a list of the program, wherever it lies in memory
+abbrev vec_of : {A : Type 0} (heap : Global) (xs : List A) → length xs < 2 ^ 63 → Vec A
+vec_of heap xs short = record { ptr = null_ptr; len = length xs; cap = length xs; alloc = heap; items = xs; ok = (refl, omega arith); small = short }
+
+-- where records are the whole text between what stands around them, the bytes show them
+pub records_are_read : ReadsLines → HaveForm → JoinsPieces → (net : Network) (bytes : List ℕ) (frame : Report) (start : Reading) (items : List Record)
+    → IsOpened net bytes frame start → BeginsWithAll net items start.left [] → length items < 2 ^ 63 → ShowsRecords net bytes frame.hops items
+records_are_read lines formed joins net bytes frame start items opened all few =
+    let records = vec_of frame.records.alloc items few in record {
+      report = framing frame records;
+      reads = printed_reads lines formed net bytes (framing frame records) (printed joins net bytes frame start records opened all);
+      same_hops = refl;
+      same_records = refl;
+    }
 
 by_answer : AreOne → (net : Network) (report : Report) (bytes : List ℕ) (r : Result Report ReportFault) → ReportFits net report → HasForm net part.Report (data_of net report) → IsTextOf bytes (data_of net report) →
     ReadsReport net bytes r → GivesBack report r

@@ -1,3 +1,3 @@
 pub mod Having
-pub mod Printed
 pub mod Reading
+pub mod Printed

@@ -1,5 +1,5 @@
 -- The printed form of a report: what `record_text` writes of it.
-use Rattle.std.specs.Prelude.{◌≡◌, ℕ, Bool, false, List, ◌++◌, map, IsUtf8}
+use Rattle.std.specs.Prelude.{◌≡◌, ◌<◌, ℕ, Bool, true, false, List, ◌++◌, length, map, IsUtf8, Option, None, Some, Ok}
 use Rattle.std.specs.List.{AllByRecursion}
 use Rattle.net_check.specs.Network.{Network}
 use Rattle.path_records.specs.declared.records.Record.{Record}
@@ -8,6 +8,7 @@ use Rattle.record_text.specs.Reports.{head_text, record_pieces, report_text, tai
 use Rattle.record_text.specs.declared.report.Report.{Report}
 use Rattle.report_forms.specs.Fits.{RecordFits, ReportFits}
 use Rattle.kept_texts.specs.Kept.{piece}
+use Rattle.path_report.specs.Reading.{ReadsReport}
 
 -- the bytes are the text of this report, which fits
 pub record IsPrinted (net : Network) (bytes : List ℕ) (report : Report) : Type 0 where
@@ -30,3 +31,39 @@ pub record BeginsWith (net : Network) (later : Bool) (item : Record) (bytes rest
 pub record BeginsWithAll (net : Network) (items : List Record) (bytes rest : List ℕ) : Type 0 where
   pub text : bytes ≡ record_pieces false (map (record_data net) items) ++ rest
   pub fits : AllByRecursion (RecordFits net) items
+
+-- records that are read one after another: whether one was read, and what is left of their text
+pub record Reading : Type 0 where
+  pub later : Bool
+  pub left : List ℕ
+
+-- nothing of the text is read
+abbrev pub begun : List ℕ → Reading
+begun text = record { later = false; left = text }
+
+-- what is left began with the piece of this record
+pub record IsRead (net : Network) (u : Reading) (item : Record) (v : Reading) : Type 0 where
+  pub begins : BeginsWith net u.later item u.left v.left
+  pub later : v.later ≡ true
+  pub shorter : length v.left < length u.left
+
+-- this is the next record, or there is none
+abbrev pub IsNext : Network → Reading → Option Record → Reading → Type 0
+IsNext net u None v = v ≡ u
+IsNext net u (Some item) v = IsRead net u item v
+
+-- the bytes have this text of records, none of which is read, and around it what this report has there, which fits
+pub record IsOpened (net : Network) (bytes : List ℕ) (frame : Report) (records : Reading) : Type 0 where
+  pub utf8 : IsUtf8 bytes
+  pub head : List ℕ
+  pub tail : List ℕ
+  pub cut : bytes ≡ head ++ (records.left ++ tail)
+  pub framed : IsFrame net head tail frame
+  pub first : records.later ≡ false
+
+-- the bytes show a report that has these hops and these records
+pub record ShowsRecords (net : Network) (bytes : List ℕ) (hops : ℕ) (items : List Record) : Type 0 where
+  pub report : Report
+  pub reads : ReadsReport net bytes (Ok report)
+  pub same_hops : report.hops ≡ hops
+  pub same_records : report.records.items ≡ items

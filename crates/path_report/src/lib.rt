@@ -16,5 +16,6 @@ mod scanner;
 mod terms;
 mod verdicts;
 
+pub use printed::{PrintedRecords, open_printed};
 pub use record_text::{Report, head_text, record_text, report_text, tail_text};
 pub use report::{ReportFault, read_report};

@@ -1,11 +1,10 @@
 //! Reports in their printed form, read record by record: each record is printed again and compared with the text, so
 //! that what finds it there needs no proof.
 
-ghost use Rattle.std.specs.Prelude.{◌≡◌, ◌++◌, ◌<◌, [], length, IfOk, IfSome};
+ghost use Rattle.std.specs.Prelude.{◌≡◌, ◌++◌, ◌<◌, false, [], length, IfOk, IfSome, IsTrue};
 ghost use Rattle.net_check.specs.Network.{network};
 ghost use Rattle.report_forms.specs.Fits.{RecordFits};
-ghost use Rattle.kept_texts.specs.Kept.{has_some};
-ghost use Rattle.path_report.specs.Printed.{BeginsWith, BeginsWithAll, IsFrame, IsPrinted};
+ghost use Rattle.path_report.specs.Printed.{BeginsWith, BeginsWithAll, IsFrame, IsNext, IsOpened, IsPrinted, begun};
 
 use crate::decoder::Decoder;
 use crate::report::{ReportFault, read_whole};
@@ -20,7 +19,7 @@ use report_names::NetNames;
 use report_shape::{Part, ShapeFault, read_value};
 use sn_width::NoMemory;
 use std::alloc::Global;
-use std::marker::Brand;
+use std::marker::{Brand, Model};
 
 /// More bytes than stand before and behind the records of a printed report.
 const FRAME: usize = 256;
@@ -160,16 +159,6 @@ fn some_record(alloc: Global, net: &Net, text: &[u8]) -> Result<Option<Record>, 
     }
 }
 
-/// Whether there is a record.
-fn has_some(items: &[Record]) -> bool
-    ensures { result ≡ has_some items.now }
-{
-    match items {
-        [] => false,
-        _ => true,
-    }
-}
-
 /// The first bytes, and what is behind them.
 fn cut(text: &[u8], count: usize) -> Option<(&[u8], &[u8])>
     ensures whole { IfSome result (λ cut. text.now ≡ cut.0.now ++ cut.1.now) }
@@ -214,23 +203,108 @@ fn first_record<'b, N: OfNet>(
     }
 }
 
-/// The records that the text is the printed form of.
-fn printed_records<N: OfNet>(
+/// The records of a report in its printed form, which are read one after another.
+#[derive(Drop)]
+pub struct PrintedRecords<'a, N: OfNet> {
     alloc: Global,
-    net: &Net,
-    text: &[u8],
-) -> Result<Option<Vec<Record>>, NoMemory>
-    requires { network net.now ≡ N.net }
-    ensures { IfOk result (λ found. IfSome found (λ items. BeginsWithAll N.net items.items text.now [])) }
-{
-    let mut pieces: Pieces<'_, N> = Pieces::new(alloc, net);
-    let mut items = Vec::new(alloc);
-    let mut left = text;
-    while let Some((item, rest)) = first_record(alloc, net, &mut pieces, has_some(&items), left)? {
-        items.push(item)?;
-        left = rest;
+    net: &'a Net,
+    pieces: Pieces<'a, N>,
+    /// Whether a record was read.
+    later: bool,
+    /// What is not read yet.
+    left: &'a [u8],
+}
+
+impl<'a, N: OfNet> Model for PrintedRecords<'a, N> {
+    ghost use Rattle.std.specs.Prelude.{◌≡◌};
+    ghost use Rattle.net_check.specs.Network.{network};
+    ghost use Rattle.path_report.specs.Printed.{Reading};
+
+    ghost Value = { Reading };
+
+    ghost view = { λ records. record { later = records.later; left = records.left.now } };
+
+    ghost invariant = { λ records. network records.net.now ≡ N.net };
+}
+
+impl<'a, N: OfNet> PrintedRecords<'a, N> {
+    /// The records of this text, none of which is read.
+    fn new(alloc: Global, net: &'a Net, text: &'a [u8]) -> PrintedRecords<'a, N>
+        requires { network net.now ≡ N.net }
+        ensures { result ≡ begun text.now }
+    {
+        PrintedRecords {
+            alloc,
+            net,
+            pieces: Pieces::new(alloc, net),
+            later: false,
+            left: text,
+        }
     }
-    if left.is_empty() {
+
+    /// The next record; None where the text does not begin with one that is printed so.
+    pub fn next(&mut self) -> Result<Option<Record>, NoMemory>
+        ensures { IfOk result (λ found. IsNext N.net self.old found self.new) }
+    {
+        match first_record(
+            self.alloc,
+            self.net,
+            &mut self.pieces,
+            self.later,
+            self.left,
+        )? {
+            Some((item, rest)) => {
+                self.later = true;
+                self.left = rest;
+                Ok(Some(item))
+            }
+            None => Ok(None),
+        }
+    }
+
+    /// Whether no text is left.
+    pub fn is_over(&self) -> bool
+        ensures { IsTrue result → self.now.left ≡ [] }
+    {
+        self.left.is_empty()
+    }
+}
+
+/// What stands around the records of a report in its printed form, as a report without records, and those records; None also
+/// where that form is not seen.
+pub fn open_printed<'a, N: OfNet>(
+    alloc: Global,
+    net: &'a Net,
+    bytes: &'a [u8],
+) -> Result<Option<(Report, PrintedRecords<'a, N>)>, NoMemory>
+    requires { network net.now ≡ N.net }
+    ensures { IfOk result (λ found. IfSome found (λ opened. IsOpened N.net bytes.now opened.0 opened.1)) }
+{
+    if str::from_utf8(bytes).is_err() {
+        return Ok(None);
+    }
+    let Some((head, text, tail)) = cut_report(bytes) else {
+        return Ok(None);
+    };
+    match frame(alloc, net, head, tail)? {
+        Some(frame) => Ok(Some((frame, PrintedRecords::new(alloc, net, text)))),
+        None => Ok(None),
+    }
+}
+
+/// All of the records; None where the text is not their printed form.
+fn all_of<N: OfNet>(
+    alloc: Global,
+    records: &mut PrintedRecords<'_, N>,
+) -> Result<Option<Vec<Record>>, NoMemory>
+    requires { records.old.later ≡ false }
+    ensures { IfOk result (λ found. IfSome found (λ items. BeginsWithAll N.net items.items records.old.left [])) }
+{
+    let mut items = Vec::new(alloc);
+    while let Some(item) = records.next()? {
+        items.push(item)?;
+    }
+    if records.is_over() {
         Ok(Some(items))
     } else {
         Ok(None)
@@ -238,6 +312,31 @@ fn printed_records<N: OfNet>(
 }
 
 /// The report whose printed form the bytes are; None also where that is not seen.
+fn printed_report<N: OfNet>(
+    alloc: Global,
+    net: &Net,
+    bytes: &[u8],
+) -> Result<Option<Report>, NoMemory>
+    requires { network net.now ≡ N.net }
+    ensures { IfOk result (λ found. IfSome found (λ report. IsPrinted N.net bytes.now report)) }
+{
+    pieces_join();
+    let Some((frame, mut records)) = open_printed::<N>(alloc, net, bytes)? else {
+        return Ok(None);
+    };
+    match all_of(alloc, &mut records)? {
+        Some(records) => Ok(Some(Report {
+            hops: frame.hops,
+            limit: frame.limit,
+            records,
+            refuted: frame.refuted,
+            complete: frame.complete,
+        })),
+        None => Ok(None),
+    }
+}
+
+/// The same, where the net of the records is that of the report.
 pub(crate) fn read_printed(
     alloc: Global,
     net: &Net,
@@ -245,24 +344,5 @@ pub(crate) fn read_printed(
 ) -> Result<Option<Report>, NoMemory>
     ensures { IfOk result (λ found. IfSome found (λ report. IsPrinted (network net.now) bytes.now report)) }
 {
-    pieces_join();
-    if str::from_utf8(bytes).is_err() {
-        return Ok(None);
-    }
-    let Some((head, text, tail)) = cut_report(bytes) else {
-        return Ok(None);
-    };
-    let Some(frame) = frame(alloc, net, head, tail)? else {
-        return Ok(None);
-    };
-    let Some(records) = printed_records::<Brand>(alloc, net, text)? else {
-        return Ok(None);
-    };
-    Ok(Some(Report {
-        hops: frame.hops,
-        limit: frame.limit,
-        records,
-        refuted: frame.refuted,
-        complete: frame.complete,
-    }))
+    printed_report::<Brand>(alloc, net, bytes)
 }

@@ -6,3 +6,4 @@ pub mod Fitting
 pub mod Taking
 pub mod Counting
 pub mod OneAnswer
+pub mod Supplied

@@ -4,3 +4,4 @@ pub mod Trails
 pub mod Counts
 pub mod Checks
 pub mod Confirming
+pub mod Supplies

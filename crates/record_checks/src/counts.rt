@@ -1,8 +1,8 @@
 //! Counts of records.
 
-ghost use Rattle.std.specs.Prelude.{◌≡◌};
+ghost use Rattle.std.specs.Prelude.{◌≡◌, []};
 ghost use Rattle.exact_records.specs.View.{record_tree};
-ghost use Rattle.record_checks.specs.Counts.{AreAtMost, with_record};
+ghost use Rattle.record_checks.specs.Counts.{AreAtMost, counts_of, with_record};
 
 use path_records::Record;
 use refutation_check::Verdict;
@@ -18,6 +18,18 @@ pub struct Confirmed {
     pub pruned: u64,
     /// Decisions that were not tried.
     pub unexplored: u64,
+}
+
+/// The counts of no records.
+pub(crate) fn no_counts() -> Confirmed
+    ensures { result ≡ counts_of [] }
+{
+    Confirmed {
+        sat: 0,
+        undecided: 0,
+        pruned: 0,
+        unexplored: 0,
+    }
 }
 
 /// The counts with one record more.

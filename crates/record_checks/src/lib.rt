@@ -9,11 +9,13 @@ mod fields;
 pub mod guide;
 pub mod laws;
 mod part;
+mod supply;
 mod trail;
 mod values;
 mod verdicts;
 
-pub use confirming::confirm_along;
+pub use confirming::{confirm_along, confirm_given_along};
 pub use counts::Confirmed;
 pub use fault::ReplayFault;
 pub use part::Part;
+pub use supply::Supply;

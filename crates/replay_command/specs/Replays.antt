@@ -1,5 +1,6 @@
 -- What `replay` writes of an accepted job and the bytes of a report.
-use Rattle.std.specs.Prelude.{ℕ, ◌≡◌, List, [], ◌∷◌, Option, None, Some, Ok, Err, string_bytes}
+use Rattle.std.specs.Prelude.{ℕ, ◌≡◌, List, [], ◌∷◌, Option, None, Some, Result, Ok, Err, String, string_bytes}
+use Rattle.std.specs.declared.alloc.Global.{Global}
 use Rattle.net_check.specs.Network.{Network, Entry}
 use Rattle.exact_records.specs.Records.{RecordTree}
 use Rattle.exact_records.specs.View.{record_trees}
@@ -75,6 +76,17 @@ module _ (net : Network) (i : Entry) (bytes : List ℕ) where
   ReplayOf (refused (NotConfirmed number kind)) = OfReport net bytes (λ hops records. IsFirstOther net i hops records number kind)
   ReplayOf _ = ⊥
 
+  -- this is the text of the counts of the report that the bytes show
+  abbrev pub CountsCome : List ℕ → Type 0
+  CountsCome whole = OfReport net bytes (λ hops records. IsCountsText net i hops records whole)
+
+  -- or why there is none
+  abbrev pub NoCountsCome : OwnFault → Type 0
+  NoCountsCome (BadReport kind pointer) = IsBadReport net bytes kind pointer
+  NoCountsCome (NotConfirmed number kind) = OfReport net bytes (λ hops records. IsFirstOther net i hops records number kind)
+  NoCountsCome NoMemory = Unit {0}
+  NoCountsCome _ = ⊥
+
 -- `replay` of a job and a report's file
 abbrev pub ReplayComes : List Given → Outcome → Type 0
 ReplayComes (a_net net i asks ∷ some_bytes bytes ∷ []) outcome = ReplayOf net i bytes outcome
@@ -96,3 +108,10 @@ TellsFault NoReading = λ fault. fault ≡ NoMemory
 abbrev pub fault_of_replay : ReplayFault → OwnFault
 fault_of_replay (IsBroken number part) = NotConfirmed number (part_kind part)
 fault_of_replay NoReplay = NoMemory
+
+-- the text of the counts, or the refusal, or want of memory
+abbrev pub TellsAnswer : Result Confirmed ReplayFault → Result (String Global) OwnFault → Type 0
+TellsAnswer (Ok counts) (Ok whole) = string_bytes whole ≡ confirmed_text counts
+TellsAnswer (Ok counts) (Err fault) = fault ≡ NoMemory
+TellsAnswer (Err fault) (Ok whole) = ⊥
+TellsAnswer (Err fault) (Err own) = own ≡ fault_of_replay fault

@@ -1,6 +1,6 @@
 //! The command `replay`.
 
-ghost use Rattle.std.specs.Prelude.{Ok, [], ◌∷◌, IfOk, IfErr, string_bytes};
+ghost use Rattle.std.specs.Prelude.{◌≡◌, ◌<◌, ◌^◌, Ok, [], ◌∷◌, IfOk, IfErr, IfSome, length, string_bytes};
 ghost use Rattle.net_check.specs.Network.{entry, network};
 ghost use Rattle.net_check.specs.Sound.{AreOfOneJob};
 ghost use Rattle.exact_records.specs.View.{record_trees};
@@ -8,18 +8,22 @@ ghost use Rattle.path_report.specs.Reading.{ReadsReport};
 ghost use Rattle.run_answers.specs.Inputs.{given_of, some_bytes};
 ghost use Rattle.command_edge.specs.Puts.{text as a_text};
 ghost use Rattle.run_answers.specs.Runs.{IsRefusal};
-ghost use Rattle.replay_command.specs.Replays.{IsCountsText, IsNoReport, IsReplayRefusal, ReplayComes};
+ghost use Rattle.replay_command.specs.Replays.{CountsCome, IsCountsText, IsNoReport, IsReplayRefusal, NoCountsCome, ReplayComes, TellsAnswer};
 
 use crate::counts::confirmed_text;
 use crate::fault::{fault_of_replay, fault_of_report};
 use command_edge::{Ending, OwnFault};
 use command_runs::{Both, ByteFile, OnePiece, Two};
 use job_files::JobFile;
+use kept_texts::OfNet;
 use net_check::{Accepted, Net};
 use path_records::Record;
-use path_replay::confirm;
-use path_report::{Report, read_report};
+use path_replay::{Confirmed, ReplayFault, Supply, confirm, confirm_given};
+use path_report::laws::printed_records_are_read;
+use path_report::{PrintedRecords, Report, open_printed, read_report};
+use sn_width::NoMemory;
 use std::alloc::Global;
+use std::marker::Brand;
 
 /// The most bytes that the file of a report may have.
 pub const REPORT_LIMIT: u64 = 268_435_456;
@@ -52,9 +56,87 @@ fn text_of_counts(
     ensures text { IfOk result (λ text. IsCountsText (network job.now.net) (entry job.now.injection) hops (record_trees records.now) (string_bytes text)) }
     ensures refused { IfErr result (IsReplayRefusal (network job.now.net) (entry job.now.injection) hops (record_trees records.now)) }
 {
-    match confirm(alloc, &job.net, &job.injection, hops, records) {
+    let answer = confirm(alloc, &job.net, &job.injection, hops, records);
+    text_of_answer(alloc, answer)
+}
+
+/// The text of the counts of the report that the bytes show, which is read whole.
+fn text_of_whole(alloc: Global, job: &Accepted, bytes: &[u8]) -> Result<String, OwnFault>
+    requires { AreOfOneJob (network job.now.net) (entry job.now.injection) }
+    ensures text { IfOk result (λ text. CountsCome (network job.now.net) (entry job.now.injection) bytes.now (string_bytes text)) }
+    ensures refused { IfErr result (NoCountsCome (network job.now.net) (entry job.now.injection) bytes.now) }
+{
+    let report = report_of(alloc, &job.net, bytes)?;
+    text_of_counts(alloc, job, report.hops, &report.records)
+}
+
+/// The records of a report in its printed form, each of which is confirmed as it is read.
+#[derive(Drop)]
+struct AsRead<'a, N: OfNet> {
+    records: PrintedRecords<'a, N>,
+}
+
+impl<N: OfNet> Supply for AsRead<'_, N> {
+    ghost use Rattle.std.specs.Prelude.{length};
+    ghost use Rattle.path_report.specs.Printed.{IsNext};
+
+    ghost steps = { λ u found v. IsNext N.net u.records found v.records };
+
+    ghost left = { λ s. length s.records.left };
+
+    fn next(&mut self) -> Result<Option<Record>, NoMemory> {
+        self.records.next()
+    }
+}
+
+/// The text of these counts.
+fn text_of_answer(alloc: Global, answer: Result<Confirmed, ReplayFault>) -> Result<String, OwnFault>
+    ensures { TellsAnswer answer result }
+{
+    match answer {
         Ok(counts) => Ok(confirmed_text(alloc, &counts)?),
         Err(fault) => Err(fault_of_replay(fault)),
+    }
+}
+
+/// The text of the counts of the records of a report in its printed form, none of which is kept; None also where that form is
+/// not seen.
+fn text_of_printed<N: OfNet>(
+    alloc: Global,
+    job: &Accepted,
+    bytes: &[u8],
+) -> Result<Option<String>, OwnFault>
+    requires net { network job.now.net ≡ N.net }
+    requires job { AreOfOneJob (network job.now.net) (entry job.now.injection) }
+    requires short { length bytes.now < 2 ^ 63 }
+    ensures text { IfOk result (λ found. IfSome found (λ text. CountsCome (network job.now.net) (entry job.now.injection) bytes.now (string_bytes text))) }
+    ensures refused { IfErr result (NoCountsCome (network job.now.net) (entry job.now.injection) bytes.now) }
+{
+    printed_records_are_read();
+    let Some((frame, records)) = open_printed::<N>(alloc, &job.net, bytes)? else {
+        return Ok(None);
+    };
+    let mut supply = AsRead { records };
+    let answer = confirm_given(alloc, &job.net, &job.injection, frame.hops, &mut supply);
+    if !supply.records.is_over() {
+        return Ok(None);
+    }
+    match text_of_answer(alloc, answer) {
+        Ok(text) => Ok(Some(text)),
+        Err(fault) => Err(fault),
+    }
+}
+
+/// The text of the counts of the report that the bytes show, of an accepted job.
+fn text_of_report(alloc: Global, job: &Accepted, bytes: &[u8]) -> Result<String, OwnFault>
+    requires job { AreOfOneJob (network job.now.net) (entry job.now.injection) }
+    requires short { length bytes.now < 2 ^ 63 }
+    ensures text { IfOk result (λ text. CountsCome (network job.now.net) (entry job.now.injection) bytes.now (string_bytes text)) }
+    ensures refused { IfErr result (NoCountsCome (network job.now.net) (entry job.now.injection) bytes.now) }
+{
+    match text_of_printed::<Brand>(alloc, job, bytes)? {
+        Some(text) => Ok(text),
+        None => text_of_whole(alloc, job, bytes),
     }
 }
 
@@ -64,8 +146,7 @@ fn text_of(alloc: Global, given: &Two<Accepted, Vec<u8>>) -> Result<(Ending, Str
     ensures text { IfOk result (λ t. ReplayComes (given_of given.now.first ∷ some_bytes given.now.second.items ∷ []) (a_text t.0 (string_bytes t.1))) }
     ensures refused { IfErr result (IsRefusal (ReplayComes (given_of given.now.first ∷ some_bytes given.now.second.items ∷ []))) }
 {
-    let report = report_of(alloc, &given.first.net, &given.second)?;
-    let text = text_of_counts(alloc, &given.first, report.hops, &report.records)?;
+    let text = text_of_report(alloc, &given.first, &given.second)?;
     Ok((Ending::Done, text))
 }
 

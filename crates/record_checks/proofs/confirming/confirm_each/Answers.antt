@@ -5,18 +5,21 @@ use Rattle.exact_records.specs.Records.{HasMeaning}
 use Rattle.exact_records.specs.View.{record_tree, record_trees}
 use Rattle.record_checks.specs.Confirming.{Confirms}
 use Rattle.record_checks.specs.Counts.{AreAtMost, AreCountedSo}
+use Rattle.record_checks.specs.declared.counts.Confirmed.{Confirmed}
 use Rattle.record_checks.proofs.Counting.{at_most_more, counts_begin, counts_end, counts_raised}
 use Rattle.record_checks.proofs.OneAnswer.{counted_more, meaning_more, stopped_there}
 use Rattle.record_checks.proofs.confirming.confirm_each.Goals as goal
 
 pub loop-found-init : goal.loop-found-init
-loop-found-init g c = record {
-  trail = c.in_ok-trail.ensures;
-  meaning = tt;
-  counted = counts_begin (record_trees c.args.records.now);
-  few = record { sat = omega arith; undecided = omega arith; pruned = omega arith; unexplored = omega arith };
-  numbered = refl;
-}
+loop-found-init g c =
+    let xs = record_trees c.args.records.now in
+    let none = sym c.no_counts-counts.ensures in record {
+      trail = c.in_ok-trail.ensures;
+      meaning = tt;
+      counted = subst (λ (counts : Confirmed). AreCountedSo counts xs xs) none (counts_begin xs);
+      few = subst (AreAtMost 0) none (record { sat = omega arith; undecided = omega arith; pruned = omega arith; unexplored = omega arith });
+      numbered = refl;
+    }
 
 pub confirm_next-requires-clause-room : goal.confirm_next-requires-clause-room
 confirm_next-requires-clause-room g c =
