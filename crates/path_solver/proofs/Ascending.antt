@@ -163,7 +163,7 @@ equal_first a b vs ws e h =
     both_true true b h g = g
     both_true false b h g = absurd (cc)
 
-unlisted_first : (a b : ℕ) (vs ws : List ℕ) → a ≤ b → is_at_most vs ws ≡ true → is_at_most (a ∷ vs) (b ∷ ws) ≡ true
+pub unlisted_first : (a b : ℕ) (vs ws : List ℕ) → a ≤ b → is_at_most vs ws ≡ true → is_at_most (a ∷ vs) (b ∷ ws) ≡ true
 unlisted_first a b vs ws le h =
     elim (cases_lt a b) [
       | inl lt ↦ lesser_first a b vs ws lt

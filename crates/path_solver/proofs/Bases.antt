@@ -9,7 +9,7 @@ use Rattle.path_cond.specs.Conditions.{AllTyped, Condition, Entry}
 use Rattle.refutation_check.specs.Least.{AreLeast, first_broken_outside, holds_unless_outside, is_broken_outside}
 use Rattle.refutation_check.specs.Longer.{LeastStay, zeros, with_entries, with_widths}
 use Rattle.refutation_check.specs.declared.outcome.Cause.TheVariants.{Outside, Cases, Coupled}
-use Rattle.path_solver.specs.Bases.{IsBaseOf, HasValues, broken_in, front_of}
+use Rattle.path_solver.specs.Bases.{IsBaseOf, HasValues, broken_in, front_of, with_first}
 use Rattle.path_solver.specs.Decisions.{IsDecisionOn}
 use Rattle.path_solver.specs.declared.base.Base.{Base}
 use Rattle.path_solver.specs.declared.decision.Decided.{Decided}
@@ -74,6 +74,18 @@ stay_least law cond b values base is holds =
     let whole : with_entries (with_widths (front_of n k cond) (drop n cond.widths)) (drop k cond.entries) ≡ cond =
     λ i. record { widths = take-append-drop n cond.widths i; entries = take-append-drop k cond.entries i } in
     subst (λ (c : Condition). AreLeast c values) whole (subst (λ vs. AreLeast (with_entries (with_widths (front_of n k cond) (drop n cond.widths)) (drop k cond.entries)) vs) (sym is) all)
+
+-- with the first formulas alone the condition has the values of the base, with zeros behind
+pub front_least : LeastStay view → (cond : Condition) (b : Base) (values : List ℕ) → IsBaseOf cond b
+    → values ≡ b.least ++ zeros (drop (length b.least) cond.widths) → AreLeast (with_first b.formulas cond) values
+front_least law cond b values base is =
+    let n = length b.least in
+    let k = b.formulas in
+    let longer = with_entries (with_widths (front_of n k cond) (drop n cond.widths)) [] in
+    let all = law.wider (front_of n k cond) (drop n cond.widths) [] b.least base.typed base.least refl in
+    let front : longer ≡ with_first k cond =
+    λ i. record { widths = take-append-drop n cond.widths i; entries = append-nil (take k cond.entries) i } in
+    subst (λ (c : Condition). AreLeast c values) front (subst (λ vs. AreLeast longer vs) (sym is) all)
 
 take_whole : {X : Type 0} (xs : List X) (n : ℕ) → n ≡ length xs → take n xs ≡ xs
 take_whole [] zero e = refl

@@ -37,7 +37,7 @@ not_both : (a b : Bool) → a ≡ false → (a && b) ≡ false
 not_both true b h = absurd (cc)
 not_both false b h = refl
 
-not_either : (a b : Bool) → a ≡ false → b ≡ false → (a || b) ≡ false
+pub not_either : (a b : Bool) → a ≡ false → b ≡ false → (a || b) ≡ false
 not_either true b h g = absurd (cc)
 not_either false b h g = g
 
@@ -114,7 +114,7 @@ unbroken_by facts c values (Some pick) h e = absurd (refuted_none view facts c v
 unbroken : Facts → (c : Condition) (values : List ℕ) → AreCandidates c values → first_broken c ≡ None
 unbroken facts c values h = unbroken_by facts c values (first_broken c) h refl
 
-no_origin : (c : Condition) (o : Origin) → HasNoInside c → IsOrigin c o → ⊥
+pub no_origin : (c : Condition) (o : Origin) → HasNoInside c → IsOrigin c o → ⊥
 no_origin c (Ranges s) none h =
     let not : is_listed (coupled_symbols c) s ≡ false =
     ap (λ (symbols : List SymId). is_listed symbols s) (none_coupled c none) in cc
@@ -155,7 +155,7 @@ least_at facts c values s typed none h known =
           (candidate_with facts c values s other typed none h.candidates known p));
     }
 
-simple_least : Facts → (c : Condition) (values : List ℕ) → AllTyped c.widths c.entries → HasNoInside c
+pub simple_least : Facts → (c : Condition) (values : List ℕ) → AllTyped c.widths c.entries → HasNoInside c
     → AreLeast c values → AreLeastValues c values
 simple_least facts c values typed none h =
     record { count_is = h.candidates.fitting.one_each; each = λ s known. least_at facts c values s typed none h known }

@@ -10,6 +10,7 @@ pub mod Fragment
 pub mod Gathering
 pub mod Goodness
 pub mod Joining
+pub mod MovedLemmas
 pub mod Numbering
 pub mod Places
 pub mod Refuting

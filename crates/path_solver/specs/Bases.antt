@@ -1,11 +1,17 @@
 -- What an earlier decision found, as a base of a later one.
-use Rattle.std.specs.Prelude.{◌≡◌, ◌≤◌, ℕ, List, Option, Some, None, length, take}
-use Rattle.path_cond.specs.Conditions.{AllTyped, Condition}
+use Rattle.std.specs.Prelude.{◌≡◌, ◌≤◌, ◌+◌, ◌++◌, ℕ, true, List, Option, Some, None, length, take, drop}
+use Rattle.sn_width.specs.declared.ids.SymId.{SymId}
+use Rattle.path_cond.specs.Conditions.{AllTyped, Condition, first_broken}
+use Rattle.case_counts.specs.Picks.{is_simple_pick}
 use Rattle.refutation_check.specs.Decisions.{IsUndecidedBy, IsWithinLimits}
 use Rattle.refutation_check.specs.Least.{AreLeast, first_broken_outside}
 use Rattle.refutation_check.specs.declared.outcome.Cause.{Cause}
 use Rattle.refutation_check.specs.declared.outcome.Cause.TheVariants.{Outside, Cases, Coupled}
+use Rattle.refutation_check.specs.Longer.{zeros}
+use Rattle.path_solver.specs.Decisions.{HasNoInside}
 use Rattle.path_solver.specs.declared.base.Base.{Base}
+use Rattle.path_solver.specs.declared.base.OnBase.{OnBase}
+use Rattle.path_solver.specs.declared.base.OnBase.TheVariants.{Stay, Moved, Unknown}
 use Rattle.path_solver.specs.declared.decision.Decided.{Decided}
 use Rattle.path_solver.specs.declared.decision.Decided.TheVariants.{Sat, Unsat, Undecided}
 
@@ -49,3 +55,20 @@ broken_in (Undecided cause) = broken_by_cause cause
 abbrev pub IsExcessOf : Condition → Option Cause → Type 0
 IsExcessOf cond None = IsWithinLimits cond
 IsExcessOf cond (Some cause) = IsUndecidedBy cond cause
+
+-- the condition with its first formulas alone, this many
+abbrev pub with_first : ℕ → Condition → Condition
+with_first formulas cond = record { widths = cond.widths; entries = take formulas cond.entries }
+
+-- the last formula, behind this many, is simple on the symbol, no formula is inside, and no constant one is broken
+pub record IsMoved (cond : Condition) (formulas : ℕ) (s : SymId) : Type 0 where
+  pub last : length cond.entries ≡ formulas + 1
+  pub no_inside : HasNoInside cond
+  pub unbroken : first_broken cond ≡ None
+  pub simple : is_simple_pick s cond formulas ≡ true
+
+-- the values are the least of the condition; where they stay they are those of the base with zeros behind
+abbrev pub IsOnBase : Condition → Base → OnBase → Type 0
+IsOnBase cond b (Stay values) = AreLeast cond values.items × (values.items ≡ b.least ++ zeros (drop (length b.least) cond.widths))
+IsOnBase cond b (Moved values) = AreLeast cond values.items
+IsOnBase cond b Unknown = Unit {0}

@@ -2,12 +2,15 @@
 
 ghost use Rattle.std.specs.Prelude.{◌≡◌, ◌<◌, ◌≤◌, ◌-◌, ◌++◌, length, drop, slice_get, IfOk, IfSome};
 ghost use Rattle.std.specs.List.{list_all, position_from};
-ghost use Rattle.refutation_check.specs.Least.{AreLeast, first_broken_outside, holds_unless_outside, is_broken_outside, is_outside_kind};
+ghost use Rattle.interval_solver.specs.Domains.{AreDomainsOf};
+ghost use Rattle.refutation_check.specs.Least.{first_broken_outside, holds_unless_outside, is_broken_outside, is_outside_kind};
 ghost use Rattle.refutation_check.specs.Longer.{zeros};
-ghost use Rattle.path_solver.specs.Bases.{IsBaseOf};
+ghost use Rattle.path_solver.specs.Bases.{IsBaseOf, IsOnBase};
 
+use crate::moved::move_value;
 use crate::outside::first_broken_outside;
 use case_counts::formula_count;
+use interval_solver::Domains;
 use path_cond::PathCond;
 use path_formula::Kind;
 use refutation_check::Listed;
@@ -74,22 +77,41 @@ fn padded(alloc: Global, cond: &PathCond, least: &[Num]) -> Result<Vec<Num>, NoM
     Ok(values)
 }
 
-/// The values of the base with zeros behind, where these satisfy each formula that is newer than the base and not outside:
-/// they are the least of this condition too.
-pub(crate) fn values_that_stay(
+/// The least values of a condition, as a base gives them.
+#[derive(Drop)]
+pub(crate) enum OnBase {
+    /// Those of the base, with zeros behind.
+    Stay { values: Vec<Num> },
+    /// The same, but for one value.
+    Moved { values: Vec<Num> },
+    /// The base does not give them.
+    Unknown,
+}
+
+/// The values of the base with zeros behind are the least of this condition too, where these satisfy each formula that is newer than the base
+/// and not outside. Where one formula is newer, simple on a symbol, and no formula is inside, the least value of this symbol takes the
+/// place of its own.
+pub(crate) fn values_on(
     alloc: Global,
     cond: &PathCond,
+    domains: &Domains,
     base: &Base,
-) -> Result<Option<Vec<Num>>, NoMemory>
-    requires { IsBaseOf cond.now base.now }
-    ensures least { IfOk result (λ found. IfSome found (λ values. AreLeast cond.now values.items)) }
-    ensures padded { IfOk result (λ found. IfSome found (λ values. values.items
-        ≡ base.now.least ++ zeros (drop (length base.now.least) cond.now.widths))) }
+) -> Result<OnBase, NoMemory>
+    requires domains { AreDomainsOf cond.now domains.now }
+    requires base { IsBaseOf cond.now base.now }
+    ensures { IfOk result (IsOnBase cond.now base.now) }
 {
     least_values_stay();
-    let values = padded(alloc, cond, base.least.as_slice())?;
+    let mut values = padded(alloc, cond, base.least.as_slice())?;
     let stay = hold_from(cond, base.formulas, values.as_slice())?;
-    if stay { Ok(Some(values)) } else { Ok(None) }
+    if stay {
+        return Ok(OnBase::Stay { values });
+    }
+    let moved = move_value(cond, domains, base.formulas, &mut values);
+    if moved {
+        return Ok(OnBase::Moved { values });
+    }
+    Ok(OnBase::Unknown)
 }
 
 /// Whether the formula of the pick is outside, and has not the truth that it must have.

@@ -1,17 +1,18 @@
 //! The decision of a condition.
 
-ghost use Rattle.std.specs.Prelude.{◌≡◌, ◌↔◌, ◌∷◌, [], ℕ, false, List, None, IfOk, IfSome};
+ghost use Rattle.std.specs.Prelude.{◌≡◌, ◌↔◌, ◌∷◌, ◌++◌, [], ℕ, false, List, None, length, drop, IfOk, IfSome};
 ghost use Rattle.path_cond.specs.Conditions.{first_broken, holds_at};
 ghost use Rattle.interval_solver.specs.Domains.{AreDomainsOf};
 ghost use Rattle.interval_solver.specs.Verdicts.{AreLeastValues};
 ghost use Rattle.refutation_check.specs.Decisions.{AreManyCoupled, IsMetBy, IsRefuted, IsSimplyOpen, IsUndecidedBy, IsWithinLimits};
 ghost use Rattle.refutation_check.specs.Least.{AreLeast, first_broken_outside};
+ghost use Rattle.refutation_check.specs.Longer.{zeros};
 ghost use Rattle.refutation_check.specs.declared.outcome.Cause.{Cause as CauseOf};
 ghost use Rattle.case_counts.specs.Coupled.{coupled_symbols};
 ghost use Rattle.path_solver.specs.Bases.{IsBaseOf, IsExcessOf};
 ghost use Rattle.path_solver.specs.Decisions.{IsDecisionOn, IsSat, IsUnsat, IsUndecided, IsSettled, IsInFragment, HasNoInside, HasLeastValues};
 
-use crate::base::{Base, broken_on, values_that_stay};
+use crate::base::{Base, OnBase, broken_on, values_on};
 use crate::below::facts;
 use crate::choices::count_choices;
 use crate::laws::{
@@ -49,7 +50,8 @@ pub enum Decided {
 /// It is Sat or Unsat where each formula is constant or simple, and where each is constant, simple or inside, at most
 /// `MOST_COUPLED` symbols are coupled and there are at most `MOST_CHOICES` choices of cases.
 ///
-/// Where the least values of the base satisfy each formula that is newer, they stay, and nothing is searched.
+/// Where the least values of the base satisfy each formula that is newer, they stay, and nothing is searched. Where one formula is newer,
+/// simple, and no formula is inside, one value alone moves.
 pub fn decide_after(
     alloc: Global,
     cond: &PathCond,
@@ -144,13 +146,45 @@ fn decide_on(
     requires base { IsBaseOf cond.now base.now }
     ensures { IfOk result (IsDecisionOn cond.now) }
 {
-    match values_that_stay(alloc, cond, base)? {
-        None => decide_in_order(alloc, cond, domains),
-        Some(values) => {
-            let broken = broken_on(alloc, cond, base, values.as_slice())?;
-            decide_by(alloc, cond, domains, values, broken)
-        }
+    let found = values_on(alloc, cond, domains, base)?;
+    match found {
+        OnBase::Unknown => decide_in_order(alloc, cond, domains),
+        OnBase::Stay { values } => decide_staying(alloc, cond, domains, base, values),
+        OnBase::Moved { values } => decide_moved(alloc, cond, domains, values),
     }
+}
+
+/// The decision of a condition that has these domains, where the values of the base stay.
+fn decide_staying(
+    alloc: Global,
+    cond: &PathCond,
+    domains: &Domains,
+    base: &Base,
+    values: Vec<Num>,
+) -> Result<Decided, NoMemory>
+    requires domains { AreDomainsOf cond.now domains.now }
+    requires base { IsBaseOf cond.now base.now }
+    requires least { AreLeast cond.now values.items }
+    requires padded { values.items ≡ base.now.least ++ zeros (drop (length base.now.least) cond.now.widths) }
+    ensures { IfOk result (IsDecisionOn cond.now) }
+{
+    let broken = broken_on(alloc, cond, base, values.as_slice())?;
+    decide_by(alloc, cond, domains, values, broken)
+}
+
+/// The decision of a condition that has these domains, where these are its least values.
+fn decide_moved(
+    alloc: Global,
+    cond: &PathCond,
+    domains: &Domains,
+    values: Vec<Num>,
+) -> Result<Decided, NoMemory>
+    requires domains { AreDomainsOf cond.now domains.now }
+    requires least { AreLeast cond.now values.items }
+    ensures { IfOk result (IsDecisionOn cond.now) }
+{
+    let broken = first_broken_outside(alloc, cond, values.as_slice())?;
+    decide_by(alloc, cond, domains, values, broken)
 }
 
 /// The decision of a condition that has these domains, where these are its least values, and this is the first outside formula that

@@ -11,7 +11,8 @@ fn value_of(integer: i128) -> Num
     if integer < 0 { 0 } else { integer as u128 }
 }
 
-fn put(values: &mut Vec<Num>, place: usize, value: Num)
+/// Puts a value at a place, where there is one.
+pub(crate) fn put(values: &mut Vec<Num>, place: usize, value: Num)
     ensures { values.new.items ≡ slice_set values.old.items place value }
 {
     if place < values.len() {
