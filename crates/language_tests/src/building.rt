@@ -74,7 +74,7 @@ ask reach out b.0 with 1 == 1;
 /// The job that is made of a text, where one is.
 fn built(rt: &impl Abort, alloc: Global, text: &str) -> Option<Job> {
     let found = tokens(alloc, text).expect(rt, "tokens");
-    build(alloc, text, &found).expect(rt, "memory")
+    build(alloc, text, found).expect(rt, "memory")
 }
 
 /// Checks that a job is made of the text, with this text in the second version.

@@ -1,6 +1,7 @@
 pub mod Bodies
 pub mod Many
 pub mod Rooms
+pub mod PiecesRead
 pub mod Sums
 pub mod Taking
 pub mod LeavesRead

@@ -4,4 +4,5 @@ pub mod Terms
 pub mod Conditions
 pub mod Instructions
 pub mod Nets
+pub mod Pieces
 pub mod Spelled

@@ -80,6 +80,7 @@ fn read_ranges_from(words: &mut Cursor, first: (Num, Num)) -> Result<Vec<(Num, N
     let mut found = vec![in words.alloc(); first]?;
     for _ in 0..words.count() {
         if !words.begins_with(",") {
+            found.shrink_to_fit();
             return Ok(found);
         }
         let range = read_next_range(words)?;
@@ -175,6 +176,7 @@ fn read_conjs_from(words: &mut Cursor, room: u32, first: Cond) -> Result<Vec<Con
     let mut found = vec![in words.alloc(); first]?;
     for _ in 0..words.count() {
         if !words.begins_with("or") {
+            found.shrink_to_fit();
             return Ok(found);
         }
         let member = read_next_conj(words, room)?;
@@ -215,6 +217,7 @@ fn read_negs_from(words: &mut Cursor, room: u32, first: Cond) -> Result<Vec<Cond
     let mut found = vec![in words.alloc(); first]?;
     for _ in 0..words.count() {
         if !words.begins_with("and") {
+            found.shrink_to_fit();
             return Ok(found);
         }
         let member = read_next_neg(words, room)?;

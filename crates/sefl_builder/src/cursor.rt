@@ -1,15 +1,16 @@
 //! The words that are left of a text.
 
-ghost use Rattle.std.specs.Prelude.{◌≡◌, ◌≤◌, All, IfOk, length};
-ghost use Rattle.sefl_lex.specs.Reads.{IsTokenOf};
-ghost use Rattle.sefl_grammar.specs.Words.{words_of};
+ghost use Rattle.std.specs.Prelude.{◌≡◌, ◌≤◌, All, IfOk, length, bytes_eq};
+ghost use Rattle.sefl_builder.specs.Pieces.{IsPieceOf, piece_words};
 ghost use Rattle.sefl_builder.specs.Reading.{Answers, begins_with, begins_name, begins_number};
 ghost use Rattle.sefl_builder.specs.Leaves.{key, name, number, number_in, offset, port, skip, text, width};
 
 use crate::misread::Misread;
-use sefl_lex::{Token, TokenKind, number_value, text_body, token_text};
+use crate::names::Names;
+use crate::piece::Piece;
+use sefl_lex::{TokenKind, number_value, text_body, token_text};
 use sefl_syntax::{Name, Text};
-use sn_width::{Num, Width};
+use sn_width::{NoMemory, Num, Width};
 use std::alloc::Global;
 use std::marker::Model;
 
@@ -22,38 +23,54 @@ const MOST_OFFSET: Num = 1_048_576;
 /// The most bits that a cell has.
 const MOST_WIDTH: Num = 128;
 
+/// Whether two texts are the same. Most differ in their first byte.
+fn is_same(text: &str, word: &str) -> bool
+    ensures { result ≡ bytes_eq text.now word.now }
+{
+    match (text.as_bytes(), word.as_bytes()) {
+        ([first, ..], [other, ..]) if *first != *other => false,
+        _ => text == word,
+    }
+}
+
 /// The words that are left of a text. Contracts see the list of them.
 #[derive(Drop)]
 pub(crate) struct Cursor<'a> {
     alloc: Global,
     text: &'a str,
-    left: &'a [Token],
+    left: &'a [Piece],
+    names: Names,
 }
 
 impl<'a> Model for Cursor<'a> {
     ghost use Rattle.std.specs.Prelude.{List, All};
-    ghost use Rattle.sefl_lex.specs.Reads.{IsTokenOf};
     ghost use Rattle.sefl_grammar.specs.Word.{Word};
-    ghost use Rattle.sefl_grammar.specs.Words.{words_of};
+    ghost use Rattle.sefl_builder.specs.Pieces.{IsPieceOf, piece_words};
 
     ghost Value = { List Word };
 
-    ghost view = { λ c. words_of c.text.now c.left.now };
+    ghost view = { λ c. piece_words c.text.now c.left.now };
 
-    ghost invariant = { λ c. All (IsTokenOf c.text.now) c.left.now };
+    ghost invariant = { λ c. All (IsPieceOf c.text.now) c.left.now };
 }
 
 impl<'a> Cursor<'a> {
-    /// All words of the text, whose tokens are these.
-    pub(crate) fn new(alloc: Global, text: &'a str, tokens: &'a [Token]) -> Cursor<'a>
-        requires { All (IsTokenOf text.now) tokens.now }
-        ensures { result ≡ words_of text.now tokens.now }
+    /// All words of the text, whose tokens these are of.
+    pub(crate) fn new(
+        alloc: Global,
+        text: &'a str,
+        pieces: &'a [Piece],
+    ) -> Result<Cursor<'a>, NoMemory>
+        requires { All (IsPieceOf text.now) pieces.now }
+        ensures { IfOk result (λ words. words ≡ piece_words text.now pieces.now) }
     {
-        Cursor {
+        let names = Names::new(alloc)?;
+        Ok(Cursor {
             alloc,
             text,
-            left: tokens,
-        }
+            left: pieces,
+            names,
+        })
     }
 
     /// What memory is taken from.
@@ -74,7 +91,7 @@ impl<'a> Cursor<'a> {
     {
         match self.left {
             [] => false,
-            [first, ..] => token_text(self.text, *first) == word,
+            [first, ..] => is_same(token_text(self.text, first.token()), word),
         }
     }
 
@@ -106,7 +123,7 @@ impl<'a> Cursor<'a> {
         let [first, rest @ ..] = self.left else {
             return Err(Misread::Unexpected);
         };
-        if token_text(self.text, *first) != word {
+        if !is_same(token_text(self.text, first.token()), word) {
             return Err(Misread::Unexpected);
         }
         self.left = rest;
@@ -133,7 +150,8 @@ impl<'a> Cursor<'a> {
         let [first, rest @ ..] = self.left else {
             return Err(Misread::Unexpected);
         };
-        let Some(name) = Name::of(self.alloc, token_text(self.text, *first))? else {
+        let word = token_text(self.text, first.token());
+        let Some(name) = self.names.named(self.alloc, word)? else {
             return Err(Misread::Unexpected);
         };
         self.left = rest;
@@ -151,7 +169,7 @@ impl<'a> Cursor<'a> {
         if first.kind != TokenKind::Text {
             return Err(Misread::Unexpected);
         }
-        let text = Text::of(self.alloc, text_body(self.text, *first))?;
+        let text = Text::of(self.alloc, text_body(self.text, first.token()))?;
         self.left = rest;
         Ok(text)
     }
@@ -167,7 +185,7 @@ impl<'a> Cursor<'a> {
         if first.kind != TokenKind::Number {
             return Err(Misread::Unexpected);
         }
-        let value = number_value(self.text, *first);
+        let value = number_value(self.text, first.token());
         self.left = rest;
         Ok(value)
     }

@@ -121,6 +121,7 @@ fn read_summands(words: &mut Cursor, room: u32) -> Result<Vec<(Sign, Expr)>, Mis
     let mut found = Vec::new(words.alloc());
     for _ in 0..words.count() {
         if !goes_sum(words) {
+            found.shrink_to_fit();
             return Ok(found);
         }
         let member = read_summand(words, room)?;

@@ -160,6 +160,7 @@ fn read_ports_from(words: &mut Cursor, first: u32) -> Result<Vec<u32>, Misread>
     let mut found = vec![in words.alloc(); first]?;
     for _ in 0..words.count() {
         if !words.begins_with(",") {
+            found.shrink_to_fit();
             return Ok(found);
         }
         let port = read_next_port(words)?;

@@ -47,21 +47,21 @@ fn read_text(alloc: Global, text: &str) -> Result<Job, ReadFault>
     ensures only { (outcome : Outcome) → IsOutcome text.now outcome → IsOf outcome result }
 {
     match tokens(alloc, text) {
-        Ok(tokens) => read_tokens(alloc, text, &tokens),
+        Ok(tokens) => read_tokens(alloc, text, tokens),
         Err(LexFault::NoMemory) => Err(ReadFault::NoMemory),
         Err(fault) => Err(ReadFault::Lex { fault }),
     }
 }
 
 /// Reads the job that the tokens of the text are of.
-fn read_tokens(alloc: Global, text: &str, tokens: &[Token]) -> Result<Job, ReadFault>
-    requires { Lexes text.now tokens.now }
+fn read_tokens(alloc: Global, text: &str, tokens: Vec<Token>) -> Result<Job, ReadFault>
+    requires { Lexes text.now tokens.items }
     ensures answer { IsAnswer text.now result }
     ensures only { (outcome : Outcome) → IsOutcome text.now outcome → IsOf outcome result }
 {
     one_nesting();
     one_job();
-    let Ok(finding) = examine(alloc, text, tokens) else {
+    let Ok(finding) = examine(alloc, text, &tokens) else {
         return Err(ReadFault::NoMemory);
     };
     match finding {
@@ -72,13 +72,13 @@ fn read_tokens(alloc: Global, text: &str, tokens: &[Token]) -> Result<Job, ReadF
             Ok(job)
         }
         Finding::TooDeep { place } => {
-            let at = start_of(text, tokens, place);
+            let at = start_of(text, &tokens, place);
             Err(ReadFault::TooDeep {
                 line: line_at(text.as_bytes(), at),
             })
         }
         Finding::Unexpected { place } => {
-            let at = start_of(text, tokens, place);
+            let at = start_of(text, &tokens, place);
             let bytes = text.as_bytes();
             Err(ReadFault::Expected {
                 line: line_at(bytes, at),
