@@ -176,13 +176,24 @@ def little_memory(program, folder):
     return ends(1, NO_MEMORY)(ran), ran
 
 
+def many_tables(program, folder):
+    """A job that names ten large tables in style chain: it is too large, and is refused within a gigabyte."""
+    rows = "".join(f"10.{n >> 16}.{n >> 8 & 255}.{n & 255}/32 {n % 2}\n" for n in range(200_000))
+    boxes = "".join(f'node t{n} = fib "t" chain;\n' for n in range(10))
+    links = "".join(f"link t{n}.0 -> t{n + 1}.0;\n" for n in range(9))
+    written(folder, job=f"symnet 2;\n{boxes}{links}inject t0.0 {{ tag L3 = 0; field head L3+128:32 = 167772160; }}\n".encode(),
+            t=f"ports 2\n{rows}".encode())
+    ran = run(program, folder, ["explore", "job"], preexec_fn=limited(resource.RLIMIT_AS, 1_000_000_000))
+    return ends(9, b"symnet: refused at 1000006 13\n", b"")(ran), ran
+
+
 def replayed(program, folder):
-    """A report is confirmed in six times its size, and what the program and the job take by themselves."""
+    """A report is confirmed in twice its size, and what the program and the job take by themselves."""
     tests = "".join(f"if global x:32 == {n} {{ forward 0; }} else {{ }} " for n in range(2_000))
     written(folder, job=f"symnet 2;\nnode a 1 -> 1 {{ in 0 {{ {tests}forward 0; }} }}\ninject a.0 {{ field global x:32; }}\n".encode())
     with open(folder / "report", "wb") as report:
         run(program, folder, ["explore", "job"], report)
-    most = 6 * (folder / "report").stat().st_size + PROGRAM
+    most = 2 * (folder / "report").stat().st_size + PROGRAM
     ran = run(program, folder, ["replay", "job", "report"], preexec_fn=limited(resource.RLIMIT_AS, most))
     return ends(0, b"")(ran) and ran.output != b"", ran
 
@@ -244,7 +255,8 @@ CASES = {
     "a pipe without a reader": unread,
     "a file that may not grow": short_file,
     "little memory": little_memory,
-    "a report in six times its size": replayed,
+    "ten large tables": many_tables,
+    "a report in twice its size": replayed,
     "little stack": little_stack,
     "a stack for nested ifs": nested("if true { " * 62 + "forward 0;" + " } else { forward 0; }" * 62),
     "a stack for nested brackets": nested("constrain " + "[" * 62 + "head L3+64:8 <= 1" + "]" * 62 + "; forward 0;"),
