@@ -2,8 +2,8 @@
 use Rattle.std.proofs.Common.{◌≡◌, refl, ℕ, List, [], ◌∷◌, Ok}
 use Rattle.acl_rules.specs.declared.rule.Rule.{Rule}
 use Rattle.acl_model.specs.Rules.{rules_of}
-use Rattle.run_answers.specs.Inputs.{some_bytes}
-use Rattle.run_answers.specs.Runs.{IsRefusal}
+use Rattle.command_runs.specs.Inputs.{some_bytes}
+use Rattle.command_runs.specs.Runs.{IsRefusal}
 use Rattle.command_edge.specs.Puts.{text}
 use Rattle.command_edge.specs.declared.ending.Ending.TheVariants.{Done}
 use Rattle.command_edge.specs.declared.fault.OwnFault.{OwnFault}

@@ -6,7 +6,7 @@ use Rattle.sefl_syntax.specs.NetText.{node_text}
 use Rattle.acl_rules.specs.declared.rule.Rule.{Rule}
 use Rattle.acl_rules.specs.Covers.{FateSeen, IsFate}
 use Rattle.acl_model.specs.Nodes.{acl_node}
-use Rattle.run_answers.specs.Inputs.{Given}
+use Rattle.command_runs.specs.Inputs.{Given}
 use Rattle.command_edge.specs.Puts.{Outcome}
 use Rattle.acl_command.specs.declared.model.ListStyle.{ListStyle}
 use Rattle.acl_command.specs.declared.model.ListStyle.TheVariants as style

@@ -6,7 +6,7 @@ use Rattle.acl_rules.specs.declared.rule.Rule.{Rule}
 use Rattle.acl_model.specs.declared.fault.AclFault.{AclFault}
 use Rattle.acl_model.specs.declared.fault.AclFault.TheVariants.{BadLine, Limit, NoMemory}
 use Rattle.acl_model.specs.Rules.{rules_of}
-use Rattle.run_answers.specs.Inputs.{Given, some_bytes}
+use Rattle.command_runs.specs.Inputs.{Given, some_bytes}
 use Rattle.command_edge.specs.Puts.{Outcome, text, refused}
 use Rattle.command_edge.specs.declared.ending.Ending.TheVariants.{Done}
 use Rattle.command_edge.specs.declared.fault.OwnFault.{OwnFault}

@@ -1,13 +1,13 @@
 //! The text of fates.
 
 ghost use Rattle.std.specs.Prelude.{◌≡◌, string_bytes, map, IfOk};
-ghost use Rattle.compact_json.specs.Tokens.{Gains};
+ghost use Rattle.run_text.specs.Tokens.{Gains};
 ghost use Rattle.acl_rules.specs.Covers.{decides, fate_seen, hidden};
 ghost use Rattle.acl_command.specs.Texts.{cover_data, fate_data, fates_data, packet_data, rules_data, rules_text, step_data};
 
 use acl_model::{Cover, Fate};
-use compact_json::JsonText;
-use compact_json::laws::{lists_are_written, objects_are_written};
+use run_text::JsonText;
+use run_text::json_laws::{lists_are_written, objects_are_written};
 use sn_width::NoMemory;
 use std::alloc::Global;
 

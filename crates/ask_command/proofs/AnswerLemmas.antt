@@ -13,9 +13,9 @@ use Rattle.path_exec.specs.Receiving.{Receiving}
 use Rattle.symbolic_engine.specs.declared.found.Found as seen
 use Rattle.symbolic_engine.specs.Exploring.{ObservedFor}
 use Rattle.symbolic_engine.specs.Finds.{handed_tree}
-use Rattle.question_meaning.specs.Laws.{IsOfInjection, KeptIsRight}
-use Rattle.question_meaning.specs.Placing.{Asks}
-use Rattle.question_meaning.specs.Questions.{Question, reach, invariant, visible}
+use Rattle.path_questions.specs.Laws.{IsOfInjection, KeptIsRight}
+use Rattle.path_questions.specs.Placing.{Asks}
+use Rattle.path_questions.specs.Questions.{Question, reach, invariant, visible}
 use Rattle.path_questions.specs.declared.kept.Kept.{Kept}
 use Rattle.path_questions.specs.declared.kept.Kept.TheVariants.{Found, LeftOpen}
 use Rattle.path_questions.specs.declared.placing.AskFault.{AskFault}

@@ -4,9 +4,9 @@ use Rattle.net_check.specs.Network.{Network, Entry}
 use Rattle.exact_records.specs.Packets.{AreExactFor}
 use Rattle.exact_records.specs.Records.{RecordTree}
 use Rattle.hop_bounds.specs.Beyond.{AllUncut, RightAnswersGoBeyond, UncutRecordsGoBeyond}
-use Rattle.question_meaning.specs.Answers.{IsRight, IsTrueOf}
-use Rattle.question_meaning.specs.Questions.{Question}
-use Rattle.question_meaning.specs.Telling.{Outcome}
+use Rattle.path_questions.specs.Answers.{IsRight, IsTrueOf}
+use Rattle.path_questions.specs.Questions.{Question}
+use Rattle.path_questions.specs.Telling.{Outcome}
 use Rattle.queries.specs.Answers.{AreReplies, Reply}
 use Rattle.ask_command.specs.Asks.{HoldBeyond}
 use Rattle.ask_command.specs.Beyond.{AreTrueReplies}

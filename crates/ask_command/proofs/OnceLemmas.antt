@@ -7,8 +7,8 @@ use Rattle.sefl_syntax.specs.declared.reference.Target.{Target}
 use Rattle.sefl_syntax.specs.Trees as trees
 use Rattle.sefl_syntax.specs.Trees.{AskTree}
 use Rattle.net_check.specs.Network.{Network, Entry, unknown_width}
-use Rattle.question_meaning.specs.Placing.{Asks, HasNoField, IsFieldFrom, IsMisplaced, IsNotInjected}
-use Rattle.question_meaning.specs.Questions.{Field, Question, reach, invariant, visible}
+use Rattle.path_questions.specs.Placing.{Asks, HasNoField, IsFieldFrom, IsMisplaced, IsNotInjected}
+use Rattle.path_questions.specs.Questions.{Field, Question, reach, invariant, visible}
 use Rattle.command_edge.specs.Puts.{Outcome, text, refused}
 use Rattle.command_edge.specs.declared.fault.OwnFault.{OwnFault}
 use Rattle.command_edge.specs.declared.fault.OwnFault.TheVariants.{BadAsk}

@@ -10,10 +10,10 @@ use Rattle.sefl_meaning.specs.declared.walk.Place.{Place}
 use Rattle.exact_records.specs.Packets.{AreExactFor}
 use Rattle.exact_records.specs.Records.{RecordTree}
 use Rattle.exact_records.proofs.Arriving.{some_same}
-use Rattle.question_meaning.specs.Answers.{IsRight}
-use Rattle.question_meaning.specs.Telling as Known
-use Rattle.question_meaning.specs.Placing.{Asks, IsFieldFrom, IsPlaceOf}
-use Rattle.question_meaning.specs.Questions.{Field, Question, reach, invariant, visible}
+use Rattle.path_questions.specs.Answers.{IsRight}
+use Rattle.path_questions.specs.Telling as Known
+use Rattle.path_questions.specs.Placing.{Asks, IsFieldFrom, IsPlaceOf}
+use Rattle.path_questions.specs.Questions.{Field, Question, reach, invariant, visible}
 use Rattle.one_list.specs.Told.{RightAnswersAreOne}
 use Rattle.command_edge.specs.Puts.{Outcome, text, refused}
 use Rattle.command_edge.specs.declared.ending.Ending.{Ending}

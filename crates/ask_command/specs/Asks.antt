@@ -5,10 +5,10 @@ use Rattle.net_check.specs.Network.{Network, Entry}
 use Rattle.exact_records.specs.Packets.{AreExactFor}
 use Rattle.exact_records.specs.Records.{RecordTree}
 use Rattle.hop_bounds.specs.Beyond.{AllUncut, GoBeyond}
-use Rattle.question_meaning.specs.Placing.{Asks, IsMisplaced, IsNotInjected}
-use Rattle.question_meaning.specs.Questions.{Question}
+use Rattle.path_questions.specs.Placing.{Asks, IsMisplaced, IsNotInjected}
+use Rattle.path_questions.specs.Questions.{Question}
 use Rattle.queries.specs.Answers.{AreReplies, Reply}
-use Rattle.run_answers.specs.Inputs.{Given, a_net}
+use Rattle.command_runs.specs.Inputs.{Given, a_net}
 use Rattle.command_edge.specs.Puts.{Outcome, text, refused}
 use Rattle.command_edge.specs.declared.ending.Ending.{Ending}
 use Rattle.command_edge.specs.declared.fault.OwnFault.{OwnFault}

@@ -2,9 +2,9 @@
 use Rattle.std.specs.Prelude.{ℕ, ◌≡◌, List, [], ◌∷◌}
 use Rattle.net_check.specs.Network.{Network, Entry}
 use Rattle.exact_records.specs.Records.{RecordTree}
-use Rattle.question_meaning.specs.Answers.{IsTrueOf}
-use Rattle.question_meaning.specs.Questions.{Question}
-use Rattle.question_meaning.specs.Telling.{Outcome}
+use Rattle.path_questions.specs.Answers.{IsTrueOf}
+use Rattle.path_questions.specs.Questions.{Question}
+use Rattle.path_questions.specs.Telling.{Outcome}
 use Rattle.queries.specs.Answers.{Reply, reply_of}
 
 module _ (net : Network) (i : Entry) (hops : ℕ) (rs : List RecordTree) where

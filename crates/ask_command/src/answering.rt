@@ -16,11 +16,11 @@ use command_edge::{Ending, OwnFault};
 use hop_bounds::laws::{right_answers_go_beyond, uncut_records_go_beyond};
 use net_check::Accepted;
 use path_exec::Ended;
+use path_questions::laws::kept_outcomes_are_right;
 use queries::{
     Answer, AskFault, Asking, BadAsk, Mark, Question, Subject, answers_of, nothing_kept,
     questions_of,
 };
-use question_meaning::laws::kept_outcomes_are_right;
 use sn_width::{NoMemory, Steps};
 use std::alloc::Global;
 use std::marker::{Brand, PhantomData};

@@ -4,9 +4,8 @@ ghost use Rattle.ask_command.specs.Asks.{AskComes};
 
 use crate::answering::text_of_answers;
 use command_edge::{Ending, OwnFault};
-use command_runs::OnePiece;
+use command_runs::{JobFile, OnePiece};
 use explore_command::RecordLimit;
-use job_files::JobFile;
 use net_check::Accepted;
 use std::alloc::Global;
 

@@ -1,14 +1,13 @@
 //! The text of answers.
 
 ghost use Rattle.std.specs.Prelude.{◌≡◌, string_bytes, map, IfOk};
-ghost use Rattle.compact_json.specs.Tokens.{Gains};
+ghost use Rattle.run_text.specs.Tokens.{Gains};
 ghost use Rattle.queries.specs.Answers.{answer_seen, hit_seen};
 ghost use Rattle.ask_command.specs.Texts.{answers_data, answers_text, counts_data, decided_data, replies_data, reply_data, unknown_data};
 
-use compact_json::JsonText;
-use compact_json::laws::objects_are_written;
 use queries::{Answer, Hit};
-use run_text::write_values;
+use run_text::json_laws::objects_are_written;
+use run_text::{JsonText, write_values};
 use sn_width::NoMemory;
 use std::alloc::Global;
 

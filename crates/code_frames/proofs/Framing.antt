@@ -6,7 +6,7 @@ use Rattle.sn_width.specs.declared.ids.NameId.{NameId}
 use Rattle.sefl_syntax.specs.Trees.{CodeTree}
 use Rattle.sefl_syntax.specs.Views.{instr_tree, code_tree}
 use Rattle.sefl_syntax.specs.declared.instr.Instr.{Instr}
-use Rattle.net_tables.specs.Places.{inner_size, instr_size}
+use Rattle.net_check.specs.Places.{inner_size, instr_size}
 use Rattle.sefl_meaning.specs.declared.walk.Turn.{Turn}
 use Rattle.sefl_meaning.specs.Network.{Network}
 use Rattle.sefl_meaning.specs.Values.{Values}

@@ -14,8 +14,7 @@ ghost use Rattle.code_frames.specs.Weights.{IsBelow, code_weight, frames_weight,
 use crate::frame::{Exit, Frame, Move, Question};
 use crate::instrs::{Done, run_instr};
 use crate::machine::Machine;
-use net_check::Net;
-use net_tables::{behind_code, behind_instr, behind_item};
+use net_check::{Net, behind_code, behind_instr, behind_item};
 use sefl_meaning::laws::{Truths, sequences_associate};
 use sefl_meaning::{Failure, Turn};
 use sefl_syntax::{Instr, Name};

@@ -10,8 +10,8 @@ use Rattle.sefl_meaning.specs.Walks.{Passage, shown}
 use Rattle.refutation_check.specs.declared.outcome.Verdict.TheVariants.{Sat, Undecided}
 use Rattle.exact_records.specs.Packets.{AreExactFor, HasPacket, HasWalk, Shows}
 use Rattle.exact_records.specs.Records.{RecordTree, decisions_of, path, pruned, unexplored}
-use Rattle.question_meaning.specs.Answers.{IsTrueHit}
-use Rattle.question_meaning.specs.Questions.{Question}
+use Rattle.path_questions.specs.Answers.{IsTrueHit}
+use Rattle.path_questions.specs.Questions.{Question}
 use Rattle.walk_command.specs.Walks.{WalksOf}
 use Rattle.command_edge.specs.Puts.{text}
 use Rattle.command_edge.specs.declared.ending.Ending.{Ending}

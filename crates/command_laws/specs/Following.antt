@@ -7,9 +7,9 @@ use Rattle.refutation_check.specs.declared.outcome.Verdict.{Verdict}
 use Rattle.refutation_check.specs.declared.outcome.Verdict.TheVariants.{Sat, Undecided}
 use Rattle.exact_records.specs.Packets.{AreExactFor, Shows}
 use Rattle.exact_records.specs.Records.{RecordTree, path, pruned, unexplored}
-use Rattle.question_meaning.specs.Answers.{IsTrueHit}
-use Rattle.question_meaning.specs.Questions.{Question}
-use Rattle.walk_text.specs.Walks.{walks_text}
+use Rattle.path_questions.specs.Answers.{IsTrueHit}
+use Rattle.path_questions.specs.Questions.{Question}
+use Rattle.walk_command.specs.WalkTexts.{walks_text}
 use Rattle.walk_command.specs.Walks.{WalksOf}
 use Rattle.command_edge.specs.Puts.{text}
 use Rattle.command_edge.specs.declared.ending.Ending.{Ending}

@@ -5,8 +5,8 @@ use Rattle.sn_edge.specs.Told.{FolderTold, PatternsTold}
 use Rattle.sn_edge.specs.declared.folder.Loaded.{Loaded}
 use Rattle.sn_edge.specs.declared.patterns.Found.{Found}
 use Rattle.command_edge.specs.Files.{IsLoaded}
-use Rattle.run_answers.specs.Outside.{Outside, outside}
-use Rattle.run_answers.specs.Inputs.{Input, Given, AllOpen, FirstFails, a_file, some_bytes}
+use Rattle.command_runs.specs.Outside.{Outside, outside}
+use Rattle.command_runs.specs.Inputs.{Input, Given, AllOpen, FirstFails, a_file, some_bytes}
 use Rattle.command_edge.specs.declared.fault.InputFault.{InputFault}
 
 module _ {S : Type 0} (o : Outside S) where

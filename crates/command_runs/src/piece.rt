@@ -2,8 +2,8 @@
 
 ghost use Rattle.std.specs.Prelude.{◌≡◌, List, IfOk, IfErr, string_bytes};
 ghost use Rattle.command_edge.specs.Puts.{Outcome, text};
-ghost use Rattle.run_answers.specs.Inputs.{Given as GivenOf};
-ghost use Rattle.run_answers.specs.Runs.{IsRefusal, one_piece};
+ghost use Rattle.command_runs.specs.Inputs.{Given as GivenOf};
+ghost use Rattle.command_runs.specs.Runs.{IsRefusal, one_piece};
 
 use crate::source::Source;
 use crate::work::Work;

@@ -3,8 +3,8 @@
 ghost use Rattle.std.specs.Prelude.{List, [], ◌∷◌, ◌++◌, IfOk, IfErr};
 ghost use Rattle.sn_edge.specs.Told.{FolderKept, PatternsKept};
 ghost use Rattle.command_edge.specs.Files.{InputShows};
-ghost use Rattle.run_answers.specs.Inputs.{AllOpen, FirstFails, Given as GivenOf, Input, a_file, some_bytes};
-ghost use Rattle.run_answers.specs.Outside.{outside};
+ghost use Rattle.command_runs.specs.Inputs.{AllOpen, FirstFails, Given as GivenOf, Input, a_file, some_bytes};
+ghost use Rattle.command_runs.specs.Outside.{outside};
 
 use command_edge::{InputFault, load_file};
 use sn_edge::{Folder, Patterns};

@@ -2,9 +2,9 @@
 
 ghost use Rattle.std.specs.Prelude.{◌≡◌};
 ghost use Rattle.sn_edge.specs.Told.{FolderKept, PatternsKept, SinkKept};
-ghost use Rattle.run_answers.specs.Outside.{outside};
+ghost use Rattle.command_runs.specs.Outside.{outside};
 ghost use Rattle.command_edge.specs.Puts.{WriteShows};
-ghost use Rattle.run_answers.specs.Runs.{OwnWork, Performs, Runs, Shows};
+ghost use Rattle.command_runs.specs.Runs.{OwnWork, Performs, Runs, Shows};
 
 use crate::source::Source;
 use command_edge::{Ending, Stop};

@@ -9,7 +9,7 @@ use Rattle.compare_meaning.specs.Paths.{Half}
 use Rattle.net_compare.specs.Halves.{IsAnswer, half_of}
 use Rattle.net_compare.specs.declared.nets.CompareFault.{CompareFault}
 use Rattle.net_compare.specs.declared.nets.CompareFault.TheVariants as compared
-use Rattle.run_answers.specs.Inputs.{Given, a_net}
+use Rattle.command_runs.specs.Inputs.{Given, a_net}
 use Rattle.command_edge.specs.Puts.{Outcome, text, refused}
 use Rattle.command_edge.specs.declared.ending.Ending.{Ending}
 use Rattle.command_edge.specs.declared.ending.Ending.TheVariants.{Done, Partial}

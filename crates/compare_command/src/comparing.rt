@@ -5,7 +5,7 @@ ghost use Rattle.net_check.specs.Network.{entry, network};
 ghost use Rattle.net_check.specs.Sound.{AreOfOneJob};
 ghost use Rattle.exact_records.specs.View.{record_trees};
 ghost use Rattle.command_edge.specs.Puts.{text as a_text};
-ghost use Rattle.run_answers.specs.Runs.{IsRefusal};
+ghost use Rattle.command_runs.specs.Runs.{IsRefusal};
 ghost use Rattle.explore_command.specs.Explores.{IsEnding};
 ghost use Rattle.compare_command.specs.Compares.{AreFoundFor, ComparesTo, fault_of};
 

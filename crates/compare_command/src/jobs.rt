@@ -3,11 +3,10 @@
 ghost use Rattle.std.specs.Prelude.{[], ◌∷◌};
 ghost use Rattle.net_check.specs.Network.{entry, network};
 ghost use Rattle.net_check.specs.Sound.{AreOfOneJob};
-ghost use Rattle.run_answers.specs.Inputs.{a_job, given_of};
+ghost use Rattle.command_runs.specs.Inputs.{a_job, given_of};
 
 use command_edge::InputFault;
-use command_runs::{Both, Source};
-use job_files::JobFile;
+use command_runs::{Both, JobFile, Source};
 use net_check::Accepted;
 use sn_edge::{Folder, Patterns};
 use std::alloc::Global;

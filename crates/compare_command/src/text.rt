@@ -1,15 +1,14 @@
 //! The text of a comparison.
 
 ghost use Rattle.std.specs.Prelude.{◌≡◌, string_bytes, IfOk};
-ghost use Rattle.compact_json.specs.Tokens.{Gains};
+ghost use Rattle.run_text.specs.Tokens.{Gains};
 ghost use Rattle.ask_command.specs.Texts.{counts_data};
 ghost use Rattle.net_compare.specs.Saying.{compared_seen};
 ghost use Rattle.compare_command.specs.Texts.{compared_data, compared_text, other_data, partial_data, partial_text, side_of, unknown_data, word_data};
 
-use compact_json::JsonText;
-use compact_json::laws::objects_are_written;
 use net_compare::Compared;
-use run_text::write_values;
+use run_text::json_laws::objects_are_written;
+use run_text::{JsonText, write_values};
 use sn_width::{NoMemory, Num};
 use std::alloc::Global;
 

@@ -6,7 +6,7 @@ use Rattle.sn_ranges.specs.Ranges.{fits_width}
 use Rattle.path_formula.specs.Formulas.{FormulaTree}
 use Rattle.path_formula.specs.Solutions.{alone}
 use Rattle.path_cond.specs.Seen.{AllTyped, entry_holds, in_domain, is_entry_on, itself, meets, picks_from, simple_picks}
-use Rattle.case_counts.specs.Seen.{is_simple_pick, passes, pick_holds}
+use Rattle.path_cond.specs.Choices.{is_simple_pick, passes, pick_holds}
 use Rattle.refutation_check.specs.Longer.{with_entries}
 use Rattle.refutation_check.specs.Seen.{HasEmptyDomain, IsUnmeetable}
 use Rattle.refutation_check.specs.declared.steps.Refute.TheVariants.{Empty}

@@ -15,7 +15,7 @@ use Rattle.sefl_meaning.specs.Network.{Network, Entry, link_of}
 use Rattle.sefl_meaning.specs.View.{carried_of}
 use Rattle.sefl_meaning.specs.Runs.{Progress, Ran, noting, starting}
 use Rattle.sefl_meaning.specs.Walks.{Passage, Trail, shown, by_way_of, decided, place_at, run_port, crossed, passed, leave, copies, enter}
-use Rattle.port_moves.specs.Hops.{AreLeft}
+use Rattle.cell_values.specs.Hops.{AreLeft}
 use Rattle.packet_run.specs.declared.packet.Packet.{Packet}
 use Rattle.code_frames.specs.declared.frame.Exit.{Exit}
 use Rattle.code_frames.specs.declared.frame.Exit.TheVariants.{Off, Go, Forked, Failed}

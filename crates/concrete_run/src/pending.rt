@@ -8,11 +8,10 @@ ghost use Rattle.packet_run.specs.Packets.{RunsAs, given_of, progress_of};
 ghost use Rattle.concrete_run.specs.Pending.{stage_before, stage_crossed, stage_over, stage_passed, steps_by, steps_next, steps_of, walks_by, walks_next, walks_of};
 ghost use Rattle.concrete_run.specs.declared.pending.Stage.TheVariants.{Copying as CopyingTo};
 
+use cell_values::{code_of, failed_at, first_site, hops_behind, link_of};
 use code_frames::Exit;
-use net_check::Net;
-use net_tables::behind_item;
+use net_check::{Net, behind_item};
 use packet_run::{Packet, run_code};
-use port_moves::{code_of, failed_at, first_site, hops_behind, link_of};
 use sefl_meaning::{Decision, End, Place, State, Walk};
 use sefl_syntax::Side;
 use sn_width::{NoMemory, NodeId, Steps};

@@ -3,8 +3,7 @@
 use crate::build::Atom::*;
 use crate::build::Side::*;
 use crate::build::{Atom, bits, condition, differ, free, let_go, thirteen_pairs, with};
-use case_counts::{case_count, coupled_symbols};
-use path_cond::PathCond;
+use path_cond::{PathCond, case_count, coupled_symbols};
 use sn_width::{Rel, SymId};
 use std::alloc::Global;
 use std::process::Abort;

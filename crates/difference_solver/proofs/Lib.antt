@@ -7,3 +7,16 @@ pub mod Steps
 pub mod Sums
 pub mod Tables
 pub mod ValueSteps
+pub mod Flooring
+pub mod Leading
+pub mod Lowering
+pub mod Meeting
+pub mod Naming
+pub mod Parting
+pub mod Passing
+pub mod Placing
+pub mod Reading
+pub mod Renamed
+pub mod Solving
+pub mod SearchSteps
+pub mod WordLemmas

@@ -8,3 +8,13 @@ pub mod Raising
 pub mod Table
 pub mod Values
 pub mod Verdict
+pub mod Branches
+pub mod Choices
+pub mod Floors
+pub mod Lifting
+pub mod Outcomes
+pub mod Parts
+pub mod Progress
+pub mod Renaming
+pub mod Steps
+pub mod Words

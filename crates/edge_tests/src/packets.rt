@@ -1,6 +1,6 @@
 //! The numbers of packet files.
 
-use packet_file::{PacketFault, read_packet};
+use sefl_lex::{PacketFault, read_packet};
 use sn_width::Num;
 use std::alloc::Global;
 use std::process::Abort;

@@ -18,16 +18,16 @@ use Rattle.path_exec.specs.Receiving.{Receiving}
 use Rattle.exact_records.specs.Packets.{AreExactFor, AreExactUpToFor}
 use Rattle.exact_records.specs.View.{record_tree, record_trees}
 use Rattle.report_forms.specs.Fits.{RecordFits}
-use Rattle.record_ranges.specs.Ranges.{RecordInRange}
+use Rattle.report_forms.specs.Ranges.{RecordInRange}
 use Rattle.record_text.specs.Reports.{head_text, report_line, tail_text}
 use Rattle.record_lines.specs.Lines.{AreOfTypes, HasLines, PutAs, PutSo, StopsInLine, has_some, records_text, refuted_count, written_of}
 use Rattle.record_lines.specs.declared.lines.RefutedSides.{RefutedSides}
 use Rattle.record_lines.specs.declared.lines.RefutedSides.TheVariants.{Written, Counted}
 use Rattle.record_lines.proofs.LineLemmas.{none_of_types}
 use Rattle.symbolic_engine.specs.Exploring.{ExploredFor}
-use Rattle.run_answers.specs.Inputs.{a_net}
+use Rattle.command_runs.specs.Inputs.{a_net}
 use Rattle.command_edge.specs.Puts.{WriteShows}
-use Rattle.run_answers.specs.Runs.{Performs}
+use Rattle.command_runs.specs.Runs.{Performs}
 use Rattle.command_edge.specs.declared.ending.Ending.{Ending}
 use Rattle.command_edge.specs.declared.ending.Ending.TheVariants.{Done, Partial}
 use Rattle.command_edge.specs.declared.ending.Stop.{Stop}

@@ -12,9 +12,9 @@ use Rattle.report_forms.specs.Fits.{RecordFits}
 use Rattle.record_text.specs.Reports.{head_text, report_line, tail_text}
 use Rattle.record_lines.specs.Lines.{has_some, is_written, piece_text, records_text, refuted_count, written_of}
 use Rattle.record_lines.specs.declared.lines.RefutedSides.{RefutedSides}
-use Rattle.run_answers.specs.Inputs.{Given, a_net}
+use Rattle.command_runs.specs.Inputs.{Given, a_net}
 use Rattle.command_edge.specs.Puts.{Outcome, text, refused}
-use Rattle.run_answers.specs.Runs.{OwnWork}
+use Rattle.command_runs.specs.Runs.{OwnWork}
 use Rattle.command_edge.specs.declared.ending.Ending.{Ending}
 use Rattle.command_edge.specs.declared.ending.Ending.TheVariants.{Done, Partial}
 

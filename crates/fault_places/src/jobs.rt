@@ -1,9 +1,8 @@
 //! Which of the jobs that the words name a status blames.
 
 use command_edge::InputFault;
-use command_runs::Source;
+use command_runs::{JobFile, Source};
 use command_words::{Command, reading};
-use job_files::JobFile;
 use sn_edge::{Folder, Patterns};
 use std::alloc::Global;
 

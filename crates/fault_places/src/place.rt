@@ -1,15 +1,14 @@
 //! Which place a status blames, and what is shown of it.
 
 use crate::jobs::{blamed_job, names_job};
+use crate::{Sought, fault_text, indent_of, line_of, own_number, statement_start};
 use command_edge::load_text;
-use job_files::load_job;
-use run_answers::Status;
+use command_runs::{Status, load_job};
 use sefl_lex::tokens;
 use sefl_reader::{position, read_job};
 use sefl_syntax::{Job, is_filled};
 use sn_edge::{Folder, Patterns};
 use std::alloc::Global;
-use text_places::{Sought, fault_text, indent_of, line_of, own_number, statement_start};
 
 fn loaded<F: Folder>(alloc: Global, name: &str, folder: &mut F) -> Option<Vec<u8>> {
     load_text(alloc, name, folder).ok()

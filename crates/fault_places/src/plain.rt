@@ -1,6 +1,6 @@
 //! The text of a status as a terminal may show it: a name in it may hold whatever the system allows in the name of a file.
 
-use run_answers::Status;
+use command_runs::Status;
 use std::alloc::{AllocError, Global};
 
 /// Whether a character moves the cursor, ends a line, or turns the direction of the text: it is a control character, a separator of

@@ -1,10 +1,10 @@
 //! A file that there is not.
 
 use crate::statement::quoted_at;
+use fault_places::fault_text;
 use sefl_lex::tokens;
 use sefl_reader::position;
 use std::alloc::{AllocError, Global};
-use text_places::fault_text;
 
 /// What is said of a file that the words name.
 const OF_WORDS: &str = "a name is looked for from the folder in which the program runs";

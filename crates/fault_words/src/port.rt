@@ -1,10 +1,10 @@
 //! A port that a node does not have.
 
 use crate::statement::Word;
+use fault_places::behind_node;
 use job_items::Ports;
 use sefl_syntax::{NodeDecl, Side};
 use std::alloc::{AllocError, Global};
-use text_places::behind_node;
 
 /// A port of a node, as a text names it.
 #[derive(Clone, Copy)]

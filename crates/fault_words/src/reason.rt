@@ -9,14 +9,12 @@ use crate::statement::words_from;
 use crate::table::of_line;
 use crate::usage::usage_text;
 use command_edge::load_text;
-use fault_places::{blamed_job, item_number, statement_at};
-use job_files::load_job;
-use run_answers::Status;
+use command_runs::{Status, load_job};
+use fault_places::{Sought, blamed_job, item_number, statement_at};
 use sefl_lex::tokens;
 use sefl_syntax::NodeDecl;
 use sn_edge::{Folder, Patterns};
 use std::alloc::Global;
-use text_places::Sought;
 
 fn fixed(alloc: Global, text: Option<&'static str>) -> Option<String> {
     String::from_str(alloc, text?).ok()

@@ -1,6 +1,6 @@
 //! A sentence for each status and its kind. `docs/statuses.md` has the same sentences, and `tools/documents.py` compares both.
 
-use run_answers::Status;
+use command_runs::Status;
 
 /// Of a text that is no job's.
 pub(crate) fn of_syntax(kind: u8) -> Option<&'static str> {

@@ -7,7 +7,7 @@ use Rattle.path_exec.specs.Receiving.{Receiving}
 use Rattle.symbolic_engine.specs.declared.found.Found.{Found}
 use Rattle.symbolic_engine.specs.Ends.{EndsPartial, EndsWhole}
 use Rattle.symbolic_engine.specs.Finds.{handed_tree}
-use Rattle.run_answers.specs.Inputs.{a_net}
+use Rattle.command_runs.specs.Inputs.{a_net}
 use Rattle.command_edge.specs.Puts.{text}
 use Rattle.command_edge.specs.declared.ending.Ending.{Ending}
 use Rattle.command_edge.specs.declared.ending.Ending.TheVariants.{Done, Partial}

@@ -5,7 +5,7 @@ use Rattle.net_check.specs.Network.{Network, Entry}
 use Rattle.exact_records.specs.Exact.{IsTried, IsUnexplored, SomeOne}
 use Rattle.exact_records.specs.Packets.{AreExactFor}
 use Rattle.exact_records.specs.Records.{RecordTree}
-use Rattle.run_answers.specs.Inputs.{Given, a_net}
+use Rattle.command_runs.specs.Inputs.{Given, a_net}
 use Rattle.command_edge.specs.Puts.{Outcome, text, refused}
 use Rattle.command_edge.specs.declared.ending.Ending.{Ending}
 use Rattle.command_edge.specs.declared.ending.Ending.TheVariants.{Done, Partial}

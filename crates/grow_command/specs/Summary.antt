@@ -3,7 +3,7 @@ use Rattle.std.specs.Prelude.{ℕ, List, ◌++◌, codes}
 use Rattle.json.specs.Token.{Token}
 use Rattle.serde_json.specs.Data.{Data, Members, object, no_members, member}
 use Rattle.serde_json.specs.Written.{compact_text}
-use Rattle.compact_json.specs.Tokens.{EndsObject}
+use Rattle.run_text.specs.Tokens.{EndsObject}
 use Rattle.run_text.specs.Forms.{count}
 use Rattle.grow_command.specs.declared.counts.Counts.{Counts}
 

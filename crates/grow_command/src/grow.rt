@@ -3,9 +3,9 @@
 ghost use Rattle.std.specs.Prelude.{◌≡◌, ◌<◌, [], ◌∷◌, IfOk, IfErr, string_bytes};
 ghost use Rattle.net_check.specs.Network.{entry, network};
 ghost use Rattle.net_check.specs.Sound.{AreOfOneJob};
-ghost use Rattle.run_answers.specs.Inputs.{given_of};
+ghost use Rattle.command_runs.specs.Inputs.{given_of};
 ghost use Rattle.command_edge.specs.Puts.{text as a_text};
-ghost use Rattle.run_answers.specs.Runs.{IsRefusal};
+ghost use Rattle.command_runs.specs.Runs.{IsRefusal};
 ghost use Rattle.grow_command.specs.Grows.{AreCounts, GrowComes};
 
 use crate::counts::{Counts, Tally};

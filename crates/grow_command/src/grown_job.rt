@@ -3,12 +3,11 @@
 ghost use Rattle.std.specs.Prelude.{[], ◌∷◌};
 ghost use Rattle.net_check.specs.Network.{entry, network};
 ghost use Rattle.net_check.specs.Sound.{AreOfOneJob};
-ghost use Rattle.run_answers.specs.Inputs.{a_made_job, given_of};
+ghost use Rattle.command_runs.specs.Inputs.{a_made_job, given_of};
 ghost use Rattle.job_gen.specs.Grown.{grown};
 
 use command_edge::InputFault;
-use command_runs::Source;
-use job_files::accept_filled;
+use command_runs::{Source, accept_filled};
 use job_gen::grow;
 use net_check::Accepted;
 use sn_edge::{Folder, Patterns};

@@ -1,12 +1,12 @@
 //! The summary of an exploration as JSON.
 
 ghost use Rattle.std.specs.Prelude.{◌≡◌, string_bytes, IfOk, OnOk};
-ghost use Rattle.compact_json.specs.Tokens.{Gains};
+ghost use Rattle.run_text.specs.Tokens.{Gains};
 ghost use Rattle.grow_command.specs.Summary.{AddsMember, summary_data, summary_text};
 
 use crate::counts::Counts;
-use compact_json::JsonText;
-use compact_json::laws::objects_are_written;
+use run_text::JsonText;
+use run_text::json_laws::objects_are_written;
 use sn_width::NoMemory;
 use std::alloc::Global;
 

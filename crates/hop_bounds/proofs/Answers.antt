@@ -17,11 +17,11 @@ use Rattle.term_values.specs.TermValues.{terms}
 use Rattle.exact_records.specs.Records.{HasMeaning, IsPath, Leads, RecordTree, SymCondition, SymRoute, SymStart, SymTree, condition_on, decisions_of, path, pruned, unexplored, with_test}
 use Rattle.exact_records.specs.Exact.{IsGood, SomeOne}
 use Rattle.exact_records.specs.Packets.{AreExactFor}
-use Rattle.question_meaning.specs.Answers.{IsRight, IsTrueHit, IsTrueOf}
-use Rattle.question_meaning.specs.Formulas.{asked_left, conditions_on, explored, formula_of, no_start, start_or}
-use Rattle.question_meaning.specs.Questions.{Question, reach, invariant, visible}
-use Rattle.question_meaning.specs.Sentences.{IsShownAt, NotShown, Shown, ShowsIt, Walked}
-use Rattle.question_meaning.specs.Telling.{FirstMet, IsFirstHit, IsOutcome, IsUndecided, IsUnmet, Outcome, Saying, AreOpenBy, found, left_open, saying}
+use Rattle.path_questions.specs.Answers.{IsRight, IsTrueHit, IsTrueOf}
+use Rattle.path_questions.specs.Formulas.{asked_left, conditions_on, explored, formula_of, no_start, start_or}
+use Rattle.path_questions.specs.Questions.{Question, reach, invariant, visible}
+use Rattle.path_questions.specs.Sentences.{IsShownAt, NotShown, Shown, ShowsIt, Walked}
+use Rattle.path_questions.specs.Telling.{FirstMet, IsFirstHit, IsOutcome, IsUndecided, IsUnmet, Outcome, Saying, AreOpenBy, found, left_open, saying}
 use Rattle.hop_bounds.specs.Beyond.{AllUncut, GoBeyond, HasSameWalks, IsUncut}
 use Rattle.hop_bounds.proofs.Longer.{Longer, same_over}
 use Rattle.hop_bounds.proofs.Records.{Both, both_ways, uncut_over}

@@ -7,9 +7,9 @@ use Rattle.sefl_meaning.specs.Carried.{Carried}
 use Rattle.sefl_meaning.specs.Injected.{Starts, passages_from}
 use Rattle.exact_records.specs.Records.{RecordTree, path, pruned, unexplored}
 use Rattle.exact_records.specs.Packets.{AreExactFor}
-use Rattle.question_meaning.specs.Answers.{IsRight, IsTrueOf}
-use Rattle.question_meaning.specs.Questions.{Question}
-use Rattle.question_meaning.specs.Telling.{Outcome}
+use Rattle.path_questions.specs.Answers.{IsRight, IsTrueOf}
+use Rattle.path_questions.specs.Questions.{Question}
+use Rattle.path_questions.specs.Telling.{Outcome}
 
 -- a path came to its end before the bound of hops cut it, and nothing was left untried
 abbrev pub IsUncut : RecordTree → Type 0

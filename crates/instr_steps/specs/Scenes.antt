@@ -5,7 +5,7 @@ use Rattle.sn_width.specs.declared.faults.StepFault.{StepFault}
 use Rattle.sn_width.specs.declared.faults.StepFault.TheVariants.{Layout, NoMemory}
 use Rattle.sefl_syntax.specs.declared.reference.Target.{Target}
 use Rattle.job_items.specs.AtomRules.{width_of}
-pub use Rattle.code_scene.specs.Scenes.{scene_of}
+pub use Rattle.cell_values.specs.Scenes.{scene_of}
 
 -- what a call that reads answers, seen in this way: the value, or its fault, or want of memory
 abbrev pub GivesBy : {A B : Type 0} → (A → B) → Result B LayoutFault → Result A StepFault → Type 0

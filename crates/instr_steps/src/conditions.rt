@@ -9,8 +9,7 @@ ghost use Rattle.sefl_meaning.specs.View.{carried_of};
 ghost use Rattle.instr_steps.specs.Scenes.{GivesBy, scene_of, first_width, width_or_64};
 
 use crate::values::{value_of, width_of};
-use cell_values::Arithmetic;
-use code_scene::Scene;
+use cell_values::{Arithmetic, Scene};
 use sefl_meaning::Carried;
 use sefl_syntax::{Cond, Expr, RangeList, Sign};
 use sn_width::{Rel, StepFault, Width};

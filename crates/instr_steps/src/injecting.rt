@@ -8,8 +8,7 @@ ghost use Rattle.instr_steps.specs.Scenes.{GivesBy, Leads, scene_of};
 
 use crate::steps::{allocate, put, set_tag};
 use crate::values::width_of;
-use cell_values::Arithmetic;
-use code_scene::Scene;
+use cell_values::{Arithmetic, Scene};
 use header_layers::Layers;
 use metadata_scopes::Scopes;
 use sefl_meaning::Carried;

@@ -6,8 +6,7 @@ mod injecting;
 mod steps;
 mod values;
 
-pub use cell_values::{Arithmetic, Numbers, reduced};
-pub use code_scene::Scene;
+pub use cell_values::{Arithmetic, Numbers, Scene, reduced};
 pub use conditions::truth_of;
 pub use injecting::injected;
 pub use steps::{allocate, assign, create_tag, deallocate, destroy_tag, put, set_tag};

@@ -8,8 +8,7 @@ ghost use Rattle.sefl_meaning.specs.View.{carried_of};
 ghost use Rattle.instr_steps.specs.Scenes.{scene_of};
 
 use crate::values::{value_of, width_of};
-use cell_values::Arithmetic;
-use code_scene::Scene;
+use cell_values::{Arithmetic, Scene};
 use sefl_meaning::Carried;
 use sefl_syntax::{Addr, Expr, Name, Target};
 use sn_width::StepFault;

@@ -9,8 +9,7 @@ ghost use Rattle.sefl_meaning.specs.Terms.{sum_in, value_in};
 ghost use Rattle.sefl_meaning.specs.View.{carried_of};
 ghost use Rattle.instr_steps.specs.Scenes.{scene_of};
 
-use cell_values::{Arithmetic, joined};
-use code_scene::Scene;
+use cell_values::{Arithmetic, Scene, joined};
 use sefl_meaning::Carried;
 use sefl_syntax::{Expr, Sign, Target};
 use sn_width::{LayoutFault, StepFault, Width};

@@ -6,14 +6,13 @@ ghost use Rattle.serde_json.specs.Data.{Data};
 ghost use Rattle.serde_json.specs.Written.{compact_text};
 ghost use Rattle.lin_term.specs.Terms.{LinearTerm};
 ghost use Rattle.cell_stacks.specs.declared.cell.Cell.{Cell as CellOf};
-ghost use Rattle.compact_json.specs.Tokens.{Gains};
+ghost use Rattle.run_text.specs.Tokens.{Gains};
 ghost use Rattle.kept_texts.specs.Kept.{head_shown, meta_shown};
 
 use cell_stacks::Cell;
-use compact_json::JsonText;
 use lin_term::Term;
 use net_check::Net;
-use run_text::{write_head, write_meta};
+use run_text::{JsonText, write_head, write_meta};
 use sn_width::{NameId, NoMemory, NodeId};
 use std::alloc::Global;
 

@@ -4,12 +4,11 @@ ghost use Rattle.std.specs.Prelude.{◌≡◌, string_bytes, IfOk, IsTrue};
 ghost use Rattle.net_check.specs.Network.{Network, network};
 ghost use Rattle.serde_json.specs.Data.{Data};
 ghost use Rattle.serde_json.specs.Written.{compact_text};
-ghost use Rattle.compact_json.specs.Tokens.{Gains};
+ghost use Rattle.run_text.specs.Tokens.{Gains};
 ghost use Rattle.run_text.specs.Forms.{decision_data, place_data, tag_data};
 
-use compact_json::JsonText;
 use net_check::Net;
-use run_text::{write_decision, write_place, write_tag};
+use run_text::{JsonText, write_decision, write_place, write_tag};
 use sefl_meaning::{Decision, Place};
 use sn_width::{NoMemory, TagId};
 use std::alloc::Global;

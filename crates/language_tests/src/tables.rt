@@ -3,7 +3,7 @@
 ghost use Rattle.std.specs.Prelude.{◌<◌};
 
 use crate::jobs::{check, job_of, joined, name_of, repeated};
-use net_tables::NetTables;
+use net_check::NetTables;
 use sefl_syntax::{Name, Side};
 use sn_width::NodeId;
 use std::alloc::Global;

@@ -5,7 +5,7 @@ use Rattle.exact_records.specs.Packets.{AreExactFor}
 use Rattle.exact_records.specs.Records.{RecordTree}
 use Rattle.loop_meaning.specs.declared.answer.LoopAnswer.{LoopAnswer}
 use Rattle.loop_check.specs.Finding.{AreRight}
-use Rattle.run_answers.specs.Inputs.{Given, a_net}
+use Rattle.command_runs.specs.Inputs.{Given, a_net}
 use Rattle.command_edge.specs.Puts.{Outcome, text, refused}
 use Rattle.command_edge.specs.declared.ending.Ending.{Ending}
 use Rattle.explore_command.specs.Explores.{IsEnding}

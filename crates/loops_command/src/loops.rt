@@ -5,9 +5,8 @@ ghost use Rattle.loops_command.specs.Loops.{LoopsComes};
 use crate::searching::text_of_loops;
 use crate::text::OpenPaths;
 use command_edge::{Ending, OwnFault};
-use command_runs::OnePiece;
+use command_runs::{JobFile, OnePiece};
 use explore_command::RecordLimit;
-use job_files::JobFile;
 use net_check::Accepted;
 use std::alloc::Global;
 

@@ -1,15 +1,14 @@
 //! The text of what is found.
 
 ghost use Rattle.std.specs.Prelude.{◌≡◌, string_bytes, IfOk, map};
-ghost use Rattle.compact_json.specs.Tokens.{Gains};
+ghost use Rattle.run_text.specs.Tokens.{Gains};
 ghost use Rattle.loops_command.specs.Seen.{opened};
 ghost use Rattle.loops_command.specs.Texts.{cause_word, cell_data, found_data, loop_data, loop_list_data, loops_in, loops_text, open_data, open_in, open_list_data, plain_data, unknown_data, visit_data, visit_list_data};
 
-use compact_json::JsonText;
-use compact_json::laws::objects_are_written;
 use loop_meaning::{Differ, LoopAnswer, Why};
 use refutation_check::Cause;
-use run_text::write_values;
+use run_text::json_laws::objects_are_written;
+use run_text::{JsonText, write_values};
 use sn_width::{NoMemory, Num};
 use std::alloc::Global;
 

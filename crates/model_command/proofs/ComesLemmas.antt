@@ -6,9 +6,9 @@ use Rattle.sefl_syntax.specs.NetText.{node_text}
 use Rattle.sefl_syntax.specs.NetWords.{kind_text}
 use Rattle.sefl_syntax.specs.Trees.{NodeTree}
 use Rattle.table_files.specs.FileNodes.{IsNodeOf}
-use Rattle.run_answers.specs.Inputs.{some_bytes}
+use Rattle.command_runs.specs.Inputs.{some_bytes}
 use Rattle.command_edge.specs.Puts.{text}
-use Rattle.run_answers.specs.Runs.{IsRefusal}
+use Rattle.command_runs.specs.Runs.{IsRefusal}
 use Rattle.command_edge.specs.declared.ending.Ending.TheVariants.{Done}
 use Rattle.command_edge.specs.declared.fault.OwnFault.{OwnFault}
 use Rattle.command_edge.specs.declared.fault.OwnFault.TheVariants.{BadTable, NoMemory}

@@ -1,2 +1,3 @@
 pub mod ComesLemmas
 pub mod OnceLemmas
+pub mod ClickRefusals

@@ -6,7 +6,7 @@ use Rattle.sefl_syntax.specs.NetText.{node_text}
 use Rattle.sefl_syntax.specs.NetWords.{kind_text}
 use Rattle.sefl_syntax.specs.Trees.{NodeTree}
 use Rattle.table_files.specs.FileNodes.{IsNodeOf, bad_line}
-use Rattle.run_answers.specs.Inputs.{Given, some_bytes}
+use Rattle.command_runs.specs.Inputs.{Given, some_bytes}
 use Rattle.command_edge.specs.Puts.{Outcome, text, refused}
 use Rattle.command_edge.specs.declared.ending.Ending.TheVariants.{Done}
 use Rattle.command_edge.specs.declared.fault.OwnFault.{OwnFault}

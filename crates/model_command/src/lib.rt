@@ -1,7 +1,9 @@
-//! The command `model`: the node that a table's file gives, as canonical text.
+//! The command `model`: the node that a table's file gives, or the net of a Click configuration, as canonical text.
 #![tactic(auto)]
 
+mod click;
 pub mod laws;
 mod model;
 
+pub use click::ClickModel;
 pub use model::TableModel;

@@ -7,3 +7,5 @@ pub mod Going
 pub mod Swaps
 pub mod ElementRuns
 pub mod FilterRuns
+pub mod Files
+pub mod Filled

@@ -6,3 +6,4 @@ pub mod Passing
 pub mod Rows
 pub mod Elements
 pub mod Filters
+pub mod Boxes

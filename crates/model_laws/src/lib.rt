@@ -2,6 +2,9 @@
 //! does nothing.
 #![tactic(auto)]
 
+mod boxes;
 pub mod elements;
 pub mod filters;
 pub mod tables;
+
+pub use boxes::table_box_run;

@@ -1,3 +1,9 @@
+pub mod Counting
+pub mod First
+pub mod Linked
+pub mod Naming
+pub mod Placing
+pub mod Sites
 pub mod AskedLemmas
 pub mod AtomLemmas
 pub mod CodeLemmas

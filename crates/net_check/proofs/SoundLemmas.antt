@@ -13,7 +13,7 @@ use Rattle.job_items.specs.Nodes.{Nodes, node_named, with_node, nodes_after, por
 use Rattle.job_items.specs.Items.{Item, net_items, injection_items, job_items, ask_item}
 use Rattle.job_items.specs.Rules.{Counts, stopped_or, outcome, counted, no_counts, breach, breach_to_limits, or_else, first_breach, early_breach, limit_breach, late_breach, early_rows, limit_rows, late_rows, ports_in, copies_in, refusal_of, refusal}
 use Rattle.std.proofs.lemmas.Iterator.Adapters.{position_from-zero}
-use Rattle.net_tables.specs.Places.{has_name, node_position}
+use Rattle.net_check.specs.Places.{has_name, node_position}
 use Rattle.net_check.specs.Keeping.{KeepsRules, KeepsLimits, line_items}
 
 first_none : (a b : Option Breach) → or_else a b ≡ None → a ≡ None

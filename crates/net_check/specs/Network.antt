@@ -15,7 +15,7 @@ use Rattle.job_items.specs.declared.ports.Ports.{Ports}
 use Rattle.job_items.specs.AtomRules.{width_of}
 use Rattle.job_items.specs.Nodes.{ports_of}
 use Rattle.job_names.specs.Names.{Names}
-use Rattle.net_tables.specs.Places.{code_of}
+use Rattle.net_check.specs.Places.{code_of}
 
 -- the job's own nodes and links, the names and patterns of the whole job, and for each pattern the ids of the names that it
 -- finds, ascending

@@ -5,8 +5,8 @@ use Rattle.sn_width.specs.declared.ids.NameId.{NameId}
 use Rattle.sefl_syntax.specs.Trees.{JobTree, AskTree}
 use Rattle.job_items.specs.Rules.{refusal}
 use Rattle.job_names.specs.Names.{names_of}
-use Rattle.net_tables.specs.Places.{node_position}
-use Rattle.net_tables.specs.Tables.{Tables, AreTablesOf}
+use Rattle.net_check.specs.Places.{node_position}
+use Rattle.net_check.specs.Tables.{Tables, AreTablesOf}
 use Rattle.net_check.specs.Network.{Network, Entry}
 
 -- the job breaks none of the rules that look at the job alone

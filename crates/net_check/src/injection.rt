@@ -3,7 +3,7 @@
 ghost use Rattle.std.specs.Prelude.{◌≡◌, ◌≤◌, length, filter, Some, None};
 ghost use Rattle.std.specs.List.{AllByRecursion};
 ghost use Rattle.job_items.specs.AtomRules.{width_of};
-ghost use Rattle.net_tables.specs.Places.{node_position};
+ghost use Rattle.net_check.specs.Places.{node_position};
 ghost use Rattle.sn_width.specs.declared.ids.NodeId.{NodeId as NodeOf};
 ghost use Rattle.net_check.specs.Keeping.{HasWidth, KeepsRules, line_items};
 ghost use Rattle.net_check.specs.Sound.{IsAcceptedEntry};

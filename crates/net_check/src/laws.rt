@@ -14,8 +14,8 @@ ghost use Rattle.net_check.specs.Acceptance.{IsAcceptedAs};
 ghost use Rattle.net_check.specs.declared.acceptance.Accepted.{Accepted};
 ghost use Rattle.net_check.specs.Sound.{AreIds, AreOfOneJob, IsAcceptedEntry, IsAcceptedNet, IsAskOf, IsSound};
 
+use crate::table_laws::positions_have_names;
 use job_names::laws::sets_ascend;
-use net_tables::laws::positions_have_names;
 
 /// No item of a job that breaks no rule breaks one, and its items together pass no limit; and the
 /// other way.

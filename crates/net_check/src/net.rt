@@ -7,13 +7,13 @@ ghost use Rattle.job_items.specs.Items.{net_items};
 ghost use Rattle.net_check.specs.Keeping.{KeepsRules};
 ghost use Rattle.net_check.specs.Network.{network, code_at, names_found, node_number, name_number, tag_number, node_ports, ports_on};
 ghost use Rattle.net_check.specs.Sound.{IsAcceptedNet};
-ghost use Rattle.net_tables.specs.Lookups.{port_of};
-ghost use Rattle.net_tables.specs.Places.{code_site, codes_at, link_from, node_position};
+ghost use Rattle.net_check.specs.Lookups.{port_of};
+ghost use Rattle.net_check.specs.Places.{code_site, codes_at, link_from, node_position};
 
+use crate::NetTables;
 use crate::laws::accepted_parts_keep_the_rules;
+use crate::table_laws::codes_have_places;
 use job_names::JobNames;
-use net_tables::NetTables;
-use net_tables::laws::codes_have_places;
 use sefl_syntax::{Body, Instr, Name, PortCode, RawNet, RawNode, Side, Text};
 use sn_width::{NameId, NoMemory, NodeId, Site, TagId};
 use std::alloc::Global;

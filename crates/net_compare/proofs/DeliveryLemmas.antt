@@ -26,7 +26,7 @@ use Rattle.sym_state.specs.Symbolic.{Symbolic}
 use Rattle.symbolic_engine.specs.declared.guiding.Led.{Led}
 use Rattle.symbolic_engine.specs.Exploring.{FollowsTo}
 use Rattle.symbolic_engine.specs.Leading.{LeadsThere}
-use Rattle.question_meaning.specs.Formulas.{explored, no_start, start_or}
+use Rattle.path_questions.specs.Formulas.{explored, no_start, start_or}
 use Rattle.compare_meaning.specs.Outputs.{Heads, exit_of, last_of, name_in}
 use Rattle.compare_meaning.specs.Paths.{DeliveredPath, condition_along, condition_by, delivered, delivered_from, with_one}
 use Rattle.compare_typing.specs.Typing.{CellIsTyped, HeadsAreTyped, HeldIsTyped}

@@ -3,7 +3,7 @@ use Rattle.std.proofs.Common.{◌≡◌, ◌∙◌, ◌+◌, ℕ, List, ◌++◌
 use Rattle.net_check.specs.Network.{Network, Entry}
 use Rattle.path_records.specs.declared.records.Record.{Record}
 use Rattle.exact_records.specs.View.{record_tree, record_trees}
-use Rattle.question_meaning.specs.Formulas.{explored}
+use Rattle.path_questions.specs.Formulas.{explored}
 use Rattle.compare_meaning.specs.Clashes.{NoneClash, both_paths}
 use Rattle.compare_meaning.specs.Comparing.{Comparison, IsKnown}
 use Rattle.compare_meaning.specs.Laws.{KnownIsComparison, KnownIsRight}

@@ -1,7 +1,7 @@
 -- The comparison of two nets, as it is answered and refused.
 use Rattle.std.specs.Prelude.{◌≡◌, ℕ, List, Result, Ok, Err}
 use Rattle.net_check.specs.Network.{Entry, Network}
-use Rattle.question_meaning.specs.Formulas.{explored}
+use Rattle.path_questions.specs.Formulas.{explored}
 use Rattle.exact_records.specs.Records.{RecordTree}
 use Rattle.compare_meaning.specs.Answers.{IsTrueOf}
 use Rattle.compare_meaning.specs.Clashes.{IsFirstClash, NoneClash, both_paths}

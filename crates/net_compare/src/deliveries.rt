@@ -9,7 +9,7 @@ ghost use Rattle.exact_records.specs.Records.{HasMeaning};
 ghost use Rattle.exact_records.specs.View.{record_tree, record_trees};
 ghost use Rattle.compare_meaning.specs.Outputs.{exit_of, name_in};
 ghost use Rattle.compare_meaning.specs.Paths.{delivered, delivered_from};
-ghost use Rattle.question_meaning.specs.Formulas.{explored};
+ghost use Rattle.path_questions.specs.Formulas.{explored};
 ghost use Rattle.net_compare.specs.Delivering.{TellsState};
 ghost use Rattle.net_compare.specs.Facings.{IsSound};
 ghost use Rattle.net_compare.specs.Saying.{exit_seen, seen_path};

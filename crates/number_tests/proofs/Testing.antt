@@ -3,8 +3,8 @@ use Rattle.std.proofs.Common.{◌≡◌, ℕ, zero, suc, ◌+◌, ◌<◌, ◌�
 use Rattle.std.specs.Prelude.{All}
 use Rattle.std.proofs.lemmas.List.{map_more, take_all}
 use Rattle.std.proofs.lemmas.List.Elements.{All-push}
-use Rattle.case_search.specs.Choices.{Case, lists_of, cases_of, HasBelow, EachHasBelow, OneHasBelow}
-use Rattle.case_search.specs.declared.choice.Choice.{Choice}
+use Rattle.difference_solver.specs.Choices.{Case, lists_of, cases_of, HasBelow, EachHasBelow, OneHasBelow}
+use Rattle.difference_solver.specs.declared.choice.Choice.{Choice}
 
 more : {X Y : Type 0} (f : X → Y) (xs : List X) (i : ℕ) (x : X) → i < length xs → x ≡ get_or xs i x → map f (take (i + 1) xs) ≡ map f (take i xs) ++ f x ∷ []
 more f xs i x lt is = map_more f xs i x lt ∙ ap (λ y. map f (take i xs) ++ f y ∷ []) (sym is)

@@ -2,13 +2,12 @@
 
 ghost use Rattle.std.specs.Prelude.{◌+◌, ◌<◌, ◌≤◌, IsTrue, All, length};
 ghost use Rattle.difference_solver.specs.Bound.{IsInRange};
-ghost use Rattle.case_search.specs.Choices.{lists_of, cases_of, HasBelow, EachHasBelow, OneHasBelow, AreBelow, AreInRange};
+ghost use Rattle.difference_solver.specs.Choices.{lists_of, cases_of, HasBelow, EachHasBelow, OneHasBelow, AreBelow, AreInRange};
 
 use crate::bounds;
 use Plain::{OneOf, Within};
 use Seen::{Cycle, Split};
-use case_search::{Choice, Outcome, Step, find_least};
-use difference_solver::Bound;
+use difference_solver::{Bound, Choice, Outcome, Step, find_least};
 use std::alloc::Global;
 use std::process::Abort;
 

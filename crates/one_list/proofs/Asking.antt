@@ -6,9 +6,9 @@ use Rattle.path_solver.specs.Judged.{AreExact as VerdictsAreExact}
 use Rattle.sefl_meaning.specs.Network.{Network, Entry}
 use Rattle.exact_records.specs.Records.{RecordTree, SymCondition, SymRoute, path, pruned, unexplored}
 use Rattle.exact_records.proofs.Arriving.{only_way}
-use Rattle.question_meaning.specs.Formulas.{conditions_on, explored}
-use Rattle.question_meaning.specs.Questions.{Question}
-use Rattle.question_meaning.specs.Telling.{AreOpenBy, FirstMet, IsOutcome, IsUnmet, LeavesItOpen, Outcome, ShowsHit, ShowsNoHit, found, left_open, saying}
+use Rattle.path_questions.specs.Formulas.{conditions_on, explored}
+use Rattle.path_questions.specs.Questions.{Question}
+use Rattle.path_questions.specs.Telling.{AreOpenBy, FirstMet, IsOutcome, IsUnmet, LeavesItOpen, Outcome, ShowsHit, ShowsNoHit, found, left_open, saying}
 use Rattle.one_list.specs.Same.{AreAlike, RecordsAreOne, without_refutation}
 use Rattle.one_list.specs.Told.{RightAnswersAreOne}
 use Rattle.one_list.proofs.Judged.{one_values}

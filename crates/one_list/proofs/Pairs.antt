@@ -18,7 +18,7 @@ use Rattle.exact_records.specs.Records.{Leads, RecordTree, SymRoute, SymStart, S
 use Rattle.exact_records.specs.Exact.{IsGood, IsLeftBehind, IsTried, IsUnexplored}
 use Rattle.exact_records.proofs.Lists.{append_nil, cancel, same_first, split_last}
 use Rattle.exact_records.proofs.Arriving.{only_way}
-use Rattle.question_meaning.proofs.Growing.{TreeGrows}
+use Rattle.path_questions.proofs.Growing.{TreeGrows}
 use Rattle.one_list.specs.Same.{without_refutation}
 use Rattle.one_list.proofs.Comparing.{Meets}
 use Rattle.one_list.proofs.Judged.{one_verdict, verdict_open}

@@ -15,7 +15,7 @@ use Rattle.exact_records.specs.Spots.{arrivals_of, node_of}
 use Rattle.exact_records.proofs.Lists.{append_nil, cancel, same_first, snoc_same}
 use Rattle.exact_records.proofs.Arriving.{node_waits, only_way, route_node, some_same}
 use Rattle.exact_records.proofs.Ordered.{copy_taken, mapped_some, side_taken}
-use Rattle.question_meaning.proofs.Growing.{EachGrows, Grows, TreeGrows, grows_on}
+use Rattle.path_questions.proofs.Growing.{EachGrows, Grows, TreeGrows, grows_on}
 
 module _ {V F : Type 0} where
   -- ---- choices along a route

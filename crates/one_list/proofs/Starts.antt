@@ -11,7 +11,7 @@ use Rattle.sefl_meaning.specs.Start.{Start, start_from, start_of, tests_in, tree
 use Rattle.term_values.specs.TermValues.{terms}
 use Rattle.exact_records.specs.Exact.{AreExact}
 use Rattle.one_list.specs.Same.{ExploredRecordsAreOne, RecordsAreOne}
-use Rattle.question_meaning.proofs.Growing.{TreeGrows, enter_grows}
+use Rattle.path_questions.proofs.Growing.{TreeGrows, enter_grows}
 
 abbrev or_else : {A : Type 0} → A → Result A LayoutFault → A
 or_else other (Ok x) = x

@@ -13,7 +13,7 @@ use Rattle.term_values.specs.TermValues.{terms}
 use Rattle.exact_records.specs.Records.{RecordTree, SymRoute, SymStart, SymTree, decisions_of, path, pruned, unexplored}
 use Rattle.exact_records.specs.Exact.{AreExact, IsCutOff, IsGood, IsLeftBehind, IsTried, IsUnexplored, IsWhole, RecordsAscend}
 use Rattle.exact_records.proofs.Lists.{append_nil}
-use Rattle.question_meaning.proofs.Growing.{TreeGrows}
+use Rattle.path_questions.proofs.Growing.{TreeGrows}
 use Rattle.one_list.specs.Same.{AreAlike, ExploredRecordsAreOne, without_refutation}
 use Rattle.one_list.proofs.Comparing.{Meets, both_meet, meets_apart, turned}
 use Rattle.one_list.proofs.Pairs.{good_open, left_is_one, same_left, tried_are_one}

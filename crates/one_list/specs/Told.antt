@@ -5,9 +5,9 @@ use Rattle.sefl_meaning.specs.Network.{Network, Entry}
 use Rattle.exact_records.specs.Exact.{IsTried, IsUnexplored, SomeOne}
 use Rattle.exact_records.specs.Packets.{AreExactFor}
 use Rattle.exact_records.specs.Records.{RecordTree}
-use Rattle.question_meaning.specs.Answers.{IsRight}
-use Rattle.question_meaning.specs.Questions.{Question}
-use Rattle.question_meaning.specs.Telling.{Outcome}
+use Rattle.path_questions.specs.Answers.{IsRight}
+use Rattle.path_questions.specs.Questions.{Question}
+use Rattle.path_questions.specs.Telling.{Outcome}
 use Rattle.one_list.specs.Same.{AreAlike, without_refutation}
 
 -- the test says the same of a record whatever its refutation is

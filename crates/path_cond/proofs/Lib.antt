@@ -6,3 +6,8 @@ pub mod Known
 pub mod Summaries
 pub mod Marking
 pub mod Coupling
+pub mod Listing
+pub mod PickLemmas
+pub mod Counting
+pub mod Narrowing
+pub mod Narrowness

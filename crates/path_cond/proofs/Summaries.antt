@@ -9,8 +9,8 @@ use Rattle.std.proofs.Math.Nat.{mul_comm, mul-suc}
 use Rattle.path_formula.specs.Kinds.{kind_of}
 use Rattle.path_formula.specs.View.{view}
 use Rattle.path_formula.specs.declared.kinds.Kind.{Kind}
-use Rattle.path_cases.specs.Cases.{cases_of}
-use Rattle.path_cases.specs.Counts.{capped}
+use Rattle.path_formula.specs.Cases.{cases_of}
+use Rattle.path_formula.specs.CaseCounts.{capped}
 use Rattle.path_cond.specs.Conditions.{Entry, broken_after}
 use Rattle.path_cond.specs.Marks.{Adds}
 use Rattle.path_cond.specs.Occurring.{occurs_in}

@@ -6,8 +6,8 @@ use Rattle.path_formula.specs.Formulas.{FormulaTree}
 use Rattle.path_formula.specs.Kinds.{kind_of}
 use Rattle.path_formula.specs.declared.kinds.Kind.{Kind}
 use Rattle.path_formula.specs.declared.kinds.Kind.TheVariants.{Constant, Simple, Inside, Outside}
-use Rattle.path_cases.specs.Bounds.{Case}
-use Rattle.path_cases.specs.Cases.{cases_of}
+use Rattle.path_formula.specs.Bounds.{Case}
+use Rattle.path_formula.specs.Cases.{cases_of}
 use Rattle.path_cond.specs.Occurring.{occurs_in, symbols_from}
 use Rattle.path_cond.specs.Seen.{ConditionOf}
 use Rattle.path_cond.specs.declared.singles.Single.{Single}

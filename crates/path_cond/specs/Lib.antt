@@ -5,3 +5,8 @@ pub mod Kept
 pub mod Conditions
 pub mod Marks
 pub mod Summaries
+pub mod Occurrences
+pub mod Choices
+pub mod Coupled
+pub mod Picks
+pub mod Counts

@@ -3,8 +3,8 @@ use Rattle.std.specs.Prelude.{◌≡◌, ℕ, Bool, List, Option, map, reverse}
 use Rattle.std.specs.List.{list_any, position_from}
 use Rattle.sn_width.specs.declared.ids.SymId.{SymId}
 use Rattle.path_formula.specs.View.{view}
-use Rattle.path_cases.specs.Bounds.{Case}
-use Rattle.path_cases.specs.Counts.{capped}
+use Rattle.path_formula.specs.Bounds.{Case}
+use Rattle.path_formula.specs.CaseCounts.{capped}
 use Rattle.path_cond.specs.Conditions.{Condition, Entry}
 use Rattle.path_cond.specs.Kept as any
 use Rattle.path_cond.specs.Marks.{has_mark}

@@ -12,8 +12,8 @@ use crate::marks::Marks;
 use crate::sequence::Sequence;
 use crate::singles::Single;
 use crate::summary::Summary;
-use path_cases::laws::an_inside_formula_has_cases;
 use path_formula::Formula;
+use path_formula::case_laws::an_inside_formula_has_cases;
 use path_formula::laws::a_simple_formula_is_over_its_symbol;
 use sn_ranges::Ranges;
 use sn_tree::{Shared, Tree};
@@ -56,7 +56,7 @@ impl PathCond {
     ghost use Rattle.path_cond.specs.Marks.{has_mark};
     ghost use Rattle.path_cond.specs.Summaries.{coupled_count, coupled_symbols, formula_choices, first_without_cases, inside_picks, is_coupled, outside_picks, singles};
     ghost use Rattle.sn_width.specs.declared.ids.SymId.{SymId as Symbol};
-    ghost use Rattle.path_cases.specs.Counts.{capped};
+    ghost use Rattle.path_formula.specs.CaseCounts.{capped};
 
     /// The condition without formulas over symbols of these widths.
     pub fn new(alloc: Global, widths: Vec<Width>) -> Result<PathCond, NoMemory>

@@ -6,7 +6,7 @@ ghost use Rattle.sn_tree.specs.Pairs.{IsAscending};
 ghost use Rattle.path_formula.specs.Kinds.{is_constant_kind};
 ghost use Rattle.path_formula.specs.Terms.{shape_of};
 ghost use Rattle.path_formula.specs.View.{view, views};
-ghost use Rattle.path_cases.specs.Splits.{CanSplit, EachCanSplit};
+ghost use Rattle.path_formula.specs.Splits.{CanSplit, EachCanSplit};
 ghost use Rattle.path_cond.specs.Marks.{Adds, IsPlain, marked_symbol};
 ghost use Rattle.path_cond.specs.Occurring.{stands_in, occurs_in, occurs_among};
 

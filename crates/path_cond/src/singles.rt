@@ -2,14 +2,13 @@
 
 ghost use Rattle.std.specs.Prelude.{◌≡◌, ◌++◌, [], true, if◌then◌else◌, IfOk};
 ghost use Rattle.path_formula.specs.View.{view};
-ghost use Rattle.path_cases.specs.Bounds.{lists_of};
-ghost use Rattle.path_cases.specs.Cases.{cases_of};
-ghost use Rattle.path_cases.specs.Splits.{CanSplit};
+ghost use Rattle.path_formula.specs.Bounds.{lists_of};
+ghost use Rattle.path_formula.specs.Cases.{cases_of};
+ghost use Rattle.path_formula.specs.Splits.{CanSplit};
 ghost use Rattle.path_cond.specs.Kept.{first_case, singles_at};
 
 use crate::sequence::Sequence;
-use path_cases::{SymBound, cases};
-use path_formula::Formula;
+use path_formula::{Formula, SymBound, cases};
 use sn_width::NoMemory;
 use std::alloc::Global;
 

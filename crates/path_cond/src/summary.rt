@@ -3,16 +3,15 @@
 ghost use Rattle.std.specs.Prelude.{◌≡◌, ◌==◌, ◌&&◌, [], ◌∷◌, ◌++◌, true, List, length, if◌then◌else◌, IfOk};
 ghost use Rattle.path_formula.specs.Kinds.{kind_of};
 ghost use Rattle.path_formula.specs.View.{view};
-ghost use Rattle.path_cases.specs.Counts.{capped};
-ghost use Rattle.path_cases.specs.Splits.{CanSplit};
+ghost use Rattle.path_formula.specs.CaseCounts.{capped};
+ghost use Rattle.path_formula.specs.Splits.{CanSplit};
 ghost use Rattle.path_cond.specs.Conditions.{Entry, broken_after};
 ghost use Rattle.path_cond.specs.Summaries.{IsKnown, entry_case_count, is_inside_kind, is_outside_kind};
 
 use crate::marks::{Marks, marked};
 use crate::sequence::Sequence;
 use crate::singles::{Single, singles_with};
-use path_cases::case_count_of;
-use path_formula::{Formula, Kind};
+use path_formula::{Formula, Kind, case_count_of};
 use sn_tree::Shared;
 use sn_width::NoMemory;
 use std::alloc::Global;

@@ -7,3 +7,9 @@ pub mod Solving
 pub mod Truths
 pub mod Typings
 pub mod PartTruths
+pub mod CaseCounts
+pub mod Integers
+pub mod CaseLists
+pub mod CaseMeaning
+pub mod CaseSets
+pub mod Narrow

@@ -7,3 +7,8 @@ pub mod Summaries
 pub mod Solutions
 pub mod Typed
 pub mod TypeTests
+pub mod Bounds
+pub mod Pairs
+pub mod Cases
+pub mod Splits
+pub mod CaseCounts

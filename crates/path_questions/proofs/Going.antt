@@ -5,7 +5,7 @@ use Rattle.path_cond.specs.Seen.{itself}
 use Rattle.path_solver.specs.Judged.{AreExact}
 use Rattle.exact_records.specs.Exact.{SomeOne}
 use Rattle.exact_records.specs.Records.{SymCondition}
-use Rattle.question_meaning.specs.Telling.{FirstMet, HasRefutation, IsUndecided, IsUnmet}
+use Rattle.path_questions.specs.Telling.{FirstMet, HasRefutation, IsUndecided, IsUnmet}
 use Rattle.path_questions.specs.declared.judging.Judged.{Judged}
 use Rattle.path_questions.specs.declared.judging.Judged.TheVariants.{Hit, Open, RuledOut}
 use Rattle.path_questions.specs.Deciding.{IsJudged, Says, is_hit, open_with}

@@ -1,3 +1,8 @@
+mod Commuting
+pub mod Growing
+mod Lists
+mod Typing
+mod Right
 mod AllLemmas
 mod AskLemmas
 mod DecisionLemmas

@@ -6,8 +6,8 @@ use Rattle.path_solver.specs.Judged.{AreExact}
 use Rattle.net_check.specs.Network.{Network, Entry}
 use Rattle.exact_records.specs.Records.{SymCondition, with_test}
 use Rattle.sym_state.specs.Symbolic.{Symbolic}
-use Rattle.question_meaning.specs.Formulas.{formula_of}
-use Rattle.question_meaning.specs.Questions.{Question}
+use Rattle.path_questions.specs.Formulas.{formula_of}
+use Rattle.path_questions.specs.Questions.{Question}
 use Rattle.path_questions.specs.declared.judging.Judged.{Judged}
 use Rattle.path_questions.specs.Deciding.{IsJudged, Says, conditions_with, is_hit, open_with}
 use Rattle.path_questions.proofs.FieldLemmas.{next_is}

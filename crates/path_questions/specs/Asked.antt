@@ -9,8 +9,8 @@ use Rattle.sefl_syntax.specs.Trees.{AskTree}
 use Rattle.sefl_syntax.specs.Views.{cond_tree}
 use Rattle.net_check.specs.Network.{Network, Entry}
 use Rattle.sefl_meaning.specs.declared.walk.Place.{Place}
-use Rattle.question_meaning.specs.Questions as questions
-use Rattle.question_meaning.specs.Placing.{Asks, HasNoField, HasNoPlace, IsFieldFrom, IsMisplaced, IsNotInjected, IsPlaceOf}
+use Rattle.path_questions.specs.Questions as questions
+use Rattle.path_questions.specs.Placing.{Asks, HasNoField, HasNoPlace, IsFieldFrom, IsMisplaced, IsNotInjected, IsPlaceOf}
 use Rattle.path_questions.specs.declared.looking.Look.{Look}
 use Rattle.path_questions.specs.declared.looking.Look.TheVariants.{OnArrivals, AtEnd}
 use Rattle.path_questions.specs.declared.placing.AskFault.{AskFault}

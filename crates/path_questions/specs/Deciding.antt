@@ -9,9 +9,9 @@ use Rattle.net_check.specs.Network.{Network, Entry, entry, network}
 use Rattle.exact_records.specs.Exact.{SomeOne}
 use Rattle.exact_records.specs.Records.{SymCondition, with_test}
 use Rattle.sym_state.specs.Symbolic.{Symbolic}
-use Rattle.question_meaning.specs.Formulas.{formula_of}
-use Rattle.question_meaning.specs.Questions.{Question}
-use Rattle.question_meaning.specs.Telling.{FirstMet, HasRefutation, IsUndecided, IsUnmet}
+use Rattle.path_questions.specs.Formulas.{formula_of}
+use Rattle.path_questions.specs.Questions.{Question}
+use Rattle.path_questions.specs.Telling.{FirstMet, HasRefutation, IsUndecided, IsUnmet}
 use Rattle.path_questions.specs.declared.judging.Judged.{Judged}
 use Rattle.path_questions.specs.declared.judging.Judged.TheVariants.{Hit, Open, RuledOut}
 use Rattle.path_questions.specs.declared.subject.Subject.{Subject}

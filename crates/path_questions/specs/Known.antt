@@ -1,6 +1,6 @@
 -- What is known of a question.
 use Rattle.std.specs.Prelude.{◌≡◌, Bool, false, true, []}
-use Rattle.question_meaning.specs.Telling.{Outcome, found, left_open}
+use Rattle.path_questions.specs.Telling.{Outcome, found, left_open}
 use Rattle.path_questions.specs.declared.kept.Kept.{Kept}
 use Rattle.path_questions.specs.declared.kept.Kept.TheVariants.{Found, LeftOpen}
 

@@ -1,3 +1,11 @@
+pub mod Answers
+pub mod Below
+pub mod Formulas
+pub mod Laws
+pub mod Placing
+pub mod Questions
+pub mod Sentences
+pub mod Telling
 pub mod Asked
 pub mod Deciding
 pub mod Known

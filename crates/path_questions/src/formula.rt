@@ -8,8 +8,8 @@ ghost use Rattle.sefl_meaning.specs.View.{carried_of};
 ghost use Rattle.sefl_meaning.specs.Terms.{truth_in};
 ghost use Rattle.sefl_syntax.specs.Views.{cond_tree};
 ghost use Rattle.term_values.specs.TermValues.{terms};
-ghost use Rattle.question_meaning.specs.Formulas.{differs, formula_of, held_or};
-ghost use Rattle.question_meaning.specs.Sentences.{injected_value};
+ghost use Rattle.path_questions.specs.Formulas.{differs, formula_of, held_or};
+ghost use Rattle.path_questions.specs.Sentences.{injected_value};
 ghost use Rattle.path_questions.specs.Asked.{field_seen, question_seen};
 ghost use Rattle.path_questions.specs.Deciding.{entry_of, net_of};
 

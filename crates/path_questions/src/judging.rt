@@ -7,7 +7,7 @@ ghost use Rattle.path_cond.specs.Seen.{seen};
 ghost use Rattle.path_formula.specs.Typed.{IsTyped};
 ghost use Rattle.path_formula.specs.View.{view};
 ghost use Rattle.exact_records.specs.Records.{with_test};
-ghost use Rattle.question_meaning.specs.Formulas.{formula_of};
+ghost use Rattle.path_questions.specs.Formulas.{formula_of};
 ghost use Rattle.path_questions.specs.Asked.{question_seen};
 ghost use Rattle.path_questions.specs.Deciding.{IsJudged, Says, conditions_with, entry_of, is_hit, judged_by, net_of, open_with};
 

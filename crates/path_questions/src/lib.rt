@@ -1,9 +1,12 @@
-//! One question: which words of a job ask it, where on a path it looks, what states of a path say of it, and what is known of it.
+//! What questions say of packets and their walks, what records tell of them, and that over exact records both agree; and one question: which words of a
+//! job ask it, where on a path it looks, what states of a path say of it, and what is known of it.
 #![tactic(auto)]
 
+mod below;
 mod formula;
 mod judging;
 mod kept;
+pub mod laws;
 mod looking;
 mod placing;
 mod question;

@@ -1,3 +1,4 @@
+pub mod Plain
 pub mod Holding
 pub mod Rows
 pub mod Atoms

@@ -11,9 +11,9 @@ ghost use Rattle.path_report.specs.Printed.{BeginsWithAll, IsOpened, Reading, Sh
 ghost use Rattle.path_report.specs.Reading.{ReadsReport, Shows};
 ghost use Rattle.path_report.specs.declared.report.ReportFault.{ReportFault as FaultOf};
 
+use crate::lines::shaped_lines_are_read;
 use record_text::laws::pieces_join;
 use report_forms::laws::{lines_have_their_form, reports_have_their_form};
-use shaped_lines::lines::shaped_lines_are_read;
 
 /// What is read of the line of a report is that report, where its ids are found by their names and its numbers are in
 /// range: so the line is that of no other report, and is refused for want of memory alone.

@@ -7,6 +7,7 @@ mod fields;
 mod items;
 pub mod laws;
 mod leaves;
+pub mod lines;
 mod printed;
 mod records;
 mod refutations;

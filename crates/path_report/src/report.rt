@@ -13,6 +13,7 @@ ghost use Rattle.path_report.specs.Having.{HasForm, Holds};
 ghost use Rattle.path_report.specs.Reading.{refusal, ReadsReport, GivesBack};
 
 use crate::decoder::{Decoder, field};
+use crate::lines::shaped_lines_are_read;
 use crate::printed::read_printed;
 use net_check::Net;
 use record_text::Report;
@@ -20,7 +21,6 @@ use report_forms::laws::reports_have_their_form;
 use report_names::NetNames;
 use report_shape::{Part, ShapeFault, read_value};
 use serde_json::{Map, Value};
-use shaped_lines::lines::shaped_lines_are_read;
 use sn_width::NoMemory;
 use std::alloc::Global;
 

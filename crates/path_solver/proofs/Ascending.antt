@@ -8,8 +8,8 @@ use Rattle.std.proofs.lemmas.Int.{ints}
 use Rattle.std.proofs.lemmas.List.{length-set, get_or-set_same, get_or-set_other, drop_all}
 use Rattle.refutation_check.specs.Least.{is_at_most}
 use Rattle.sn_width.specs.declared.ids.SymId.{SymId}
-use Rattle.case_counts.specs.Coupled.{symbol_at, symbols_from}
-use Rattle.case_search.specs.Choices.{IsUpTo}
+use Rattle.path_cond.specs.Coupled.{symbol_at, symbols_from}
+use Rattle.difference_solver.specs.Choices.{IsUpTo}
 use Rattle.path_solver.specs.Unknowns.{is_listed}
 use Rattle.path_solver.specs.Values.{integers_of, value_of, with_integers}
 use Rattle.path_solver.proofs.Atoms.{or_cases, or_left, or_right}

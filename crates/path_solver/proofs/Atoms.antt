@@ -16,9 +16,9 @@ use Rattle.path_formula.specs.declared.atom.AtomKind.{AtomKind}
 use Rattle.path_formula.specs.declared.atom.AtomKind.TheVariants.{Constant, Single, Pair, Outside}
 use Rattle.path_formula.specs.declared.atom.Shape.{Shape}
 use Rattle.path_formula.specs.declared.atom.Shape.TheVariants.{Number, Symbol, Other}
-use Rattle.path_cases.specs.Cases.{constant_cases, relation_with, cases_by_shapes, atom_cases, cases_of, cases_of_all, cases_of_any}
-use Rattle.path_cases.specs.Splits.{AtomCanSplit, CanSplit, EachCanSplit}
-use Rattle.case_counts.specs.Coupled.{stands_in, occurs_in, occurs_among}
+use Rattle.path_formula.specs.Cases.{constant_cases, relation_with, cases_by_shapes, atom_cases, cases_of, cases_of_all, cases_of_any}
+use Rattle.path_formula.specs.Splits.{AtomCanSplit, CanSplit, EachCanSplit}
+use Rattle.path_cond.specs.Coupled.{stands_in, occurs_in, occurs_among}
 use Rattle.path_solver.specs.Bounds.{EachAreBetween}
 use Rattle.path_solver.proofs.Goodness.{each_append, each_joined, single_between, pair_between}
 

@@ -5,11 +5,11 @@ use Rattle.std.proofs.lemmas.Bool.{eqb-true, eq-eqb}
 use Rattle.sn_width.specs.declared.ids.SymId.{SymId}
 use Rattle.path_formula.specs.View.{view}
 use Rattle.path_cond.specs.Conditions.{Condition, Entry, AllTyped, in_domain}
-use Rattle.path_cases.specs.Bounds.{is_one_met}
-use Rattle.path_cases.specs.Cases.{cases_of}
-use Rattle.case_search.specs.Choices.{MeetsEach}
-use Rattle.case_counts.specs.Coupled.{is_inside, coupled_symbols}
-use Rattle.case_counts.specs.Counts.{domain_cases}
+use Rattle.path_formula.specs.Bounds.{is_one_met}
+use Rattle.path_formula.specs.Cases.{cases_of}
+use Rattle.difference_solver.specs.Choices.{MeetsEach}
+use Rattle.path_cond.specs.Coupled.{is_inside, coupled_symbols}
+use Rattle.path_cond.specs.Counts.{domain_cases}
 use Rattle.path_solver.specs.Bounds.{EachAreBetween}
 use Rattle.path_solver.specs.Origins.{entry_cases, cases_from, formula_origins, origins_of, choices_from}
 use Rattle.path_solver.specs.Unknowns.{is_listed}

@@ -16,11 +16,11 @@ use Rattle.path_formula.specs.declared.kinds.Kind.TheVariants.{Constant, Simple,
 use Rattle.path_cond.specs.Seen as seen
 use Rattle.path_cond.specs.Seen.{ConditionOf}
 use Rattle.path_cond.specs.Conditions.{Condition, Entry, AllTyped, entry_holds, in_domain, is_simple_on, is_entry_on, meets, is_broken, is_broken_kind, first_broken, is_possible}
-use Rattle.path_cases.specs.Bounds.{AreValues, is_one_met, is_case_met}
-use Rattle.path_cases.specs.Cases.{range_case}
+use Rattle.path_formula.specs.Bounds.{AreValues, is_one_met, is_case_met}
+use Rattle.path_formula.specs.Cases.{range_case}
 use Rattle.sn_ranges.specs.Sets.{ranges_where}
-use Rattle.case_counts.specs.Coupled.{is_inside_kind, is_inside}
-use Rattle.case_counts.specs.Counts.{domain_cases}
+use Rattle.path_cond.specs.Coupled.{is_inside_kind, is_inside}
+use Rattle.path_cond.specs.Counts.{domain_cases}
 use Rattle.refutation_check.specs.Seen as any
 use Rattle.refutation_check.specs.Least.{AreCandidates, is_outside_kind, is_outside, holds_unless_outside}
 use Rattle.path_solver.specs.Origins.{entry_cases, cases_from, origins_of}

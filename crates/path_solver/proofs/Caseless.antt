@@ -10,11 +10,11 @@ use Rattle.path_formula.specs.View.{view}
 use Rattle.path_formula.specs.declared.kinds.Kind.{Kind}
 use Rattle.path_formula.specs.declared.kinds.Kind.TheVariants.{Constant, Simple, Inside, Outside}
 use Rattle.path_cond.specs.Conditions.{Condition, Entry, AllTyped, entry_holds}
-use Rattle.path_cases.specs.Bounds.{is_one_met}
-use Rattle.path_cases.specs.Cases.{cases_of}
-use Rattle.path_cases.specs.Counts.{capped}
-use Rattle.case_counts.specs.Counts.{entry_case_count, product, formula_choices, range_choices, choice_count, has_no_cases, first_without_cases}
-use Rattle.case_counts.specs.Coupled.{coupled_count, is_inside, is_inside_kind}
+use Rattle.path_formula.specs.Bounds.{is_one_met}
+use Rattle.path_formula.specs.Cases.{cases_of}
+use Rattle.path_formula.specs.CaseCounts.{capped}
+use Rattle.path_cond.specs.Counts.{entry_case_count, product, formula_choices, range_choices, choice_count, has_no_cases, first_without_cases}
+use Rattle.path_cond.specs.Coupled.{coupled_count, is_inside, is_inside_kind}
 use Rattle.refutation_check.specs.Accepted.{IsAccepted}
 use Rattle.refutation_check.specs.Decisions.{IsRefuted, most_coupled, most_choices}
 use Rattle.refutation_check.specs.Least.{is_outside_kind, holds_unless_outside}

@@ -9,8 +9,8 @@ use Rattle.path_formula.specs.View.{view}
 use Rattle.path_formula.specs.declared.kinds.Kind.{Kind}
 use Rattle.path_formula.specs.declared.kinds.Kind.TheVariants.{Constant, Simple, Inside, Outside}
 use Rattle.path_cond.specs.Conditions.{Condition, Entry, AllTyped}
-use Rattle.path_cases.specs.Splits.{CanSplit}
-use Rattle.case_counts.specs.Coupled.{occurs_in, is_inside_kind, is_inside, couples, is_coupled, coupled_symbols}
+use Rattle.path_formula.specs.Splits.{CanSplit}
+use Rattle.path_cond.specs.Coupled.{occurs_in, is_inside_kind, is_inside, couples, is_coupled, coupled_symbols}
 use Rattle.path_solver.specs.Laws.{Facts}
 use Rattle.path_solver.specs.Unknowns.{is_listed}
 use Rattle.path_solver.proofs.Atoms.{IsNarrow, occurs_narrow, or_cases, or_left, or_right}

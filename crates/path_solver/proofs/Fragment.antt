@@ -7,11 +7,11 @@ use Rattle.std.proofs.lemmas.List.{length-set, get_or-set_same}
 use Rattle.sn_width.specs.declared.ids.SymId.{SymId}
 use Rattle.path_formula.specs.View.{view}
 use Rattle.path_cond.specs.Conditions.{Condition, Entry, AllTyped, first_broken, is_possible}
-use Rattle.path_cases.specs.Cases.{cases_of}
-use Rattle.path_cases.specs.Counts.{capped}
+use Rattle.path_formula.specs.Cases.{cases_of}
+use Rattle.path_formula.specs.CaseCounts.{capped}
 use Rattle.interval_solver.specs.Verdicts.{IsLeastPossible, AreLeastValues}
-use Rattle.case_counts.specs.Coupled.{is_inside, occurs_in, couples, is_coupled, symbol_at, symbols_from, coupled_symbols}
-use Rattle.case_counts.specs.Counts.{range_count, entry_case_count, product, choice_count}
+use Rattle.path_cond.specs.Coupled.{is_inside, occurs_in, couples, is_coupled, symbol_at, symbols_from, coupled_symbols}
+use Rattle.path_cond.specs.Counts.{range_count, entry_case_count, product, choice_count}
 use Rattle.refutation_check.specs.Decisions.{IsWithinLimits, IsUndecidedBy}
 use Rattle.refutation_check.specs.Least.{AreCandidates, AreLeast, is_outside}
 use Rattle.refutation_check.specs.declared.outcome.Cause.{Cause}

@@ -4,13 +4,13 @@ use Rattle.std.specs.List.{list_all}
 use Rattle.std.proofs.lemmas.List.{map_push, map_more, take_all}
 use Rattle.std.proofs.lemmas.Bool.{eq-eqb}
 use Rattle.sn_width.specs.declared.ids.SymId.{SymId}
-use Rattle.case_search.specs.Choices.{lists_of, cases_of}
-use Rattle.case_search.specs.declared.choice.Choice.{Choice}
+use Rattle.difference_solver.specs.Choices.{lists_of, cases_of}
+use Rattle.difference_solver.specs.declared.choice.Choice.{Choice}
 use Rattle.path_cond.specs.Conditions.{Condition, Entry}
-use Rattle.path_cases.specs.Bounds.{Case}
+use Rattle.path_formula.specs.Bounds.{Case}
 use Rattle.path_cond.specs.Summaries.{inside_picks, picks_where}
-use Rattle.case_counts.specs.Coupled.{coupled_symbols, is_inside}
-use Rattle.case_counts.specs.Picks.{is_inside_pick, are_inside_picks}
+use Rattle.path_cond.specs.Coupled.{coupled_symbols, is_inside}
+use Rattle.path_cond.specs.Picks.{is_inside_pick, are_inside_picks}
 use Rattle.path_solver.specs.Origins.{cases_from, choices_from, formula_origins, origins_of}
 use Rattle.path_solver.specs.Problems.{IsProblem}
 use Rattle.path_solver.specs.Unknowns.{is_listed, choice_of}

@@ -8,11 +8,11 @@ use Rattle.sn_width.specs.declared.rel.Rel.{Rel}
 use Rattle.sn_width.specs.declared.rel.Rel.TheVariants.{Eq, Ne, Lt, Le, Gt, Ge}
 use Rattle.sn_ranges.specs.Ranges.{Range}
 use Rattle.lin_term.specs.Terms.{LinearTerm}
-use Rattle.path_cases.specs.Bounds.{Case}
-use Rattle.path_cases.specs.Cases.{range_case, single_cases, with_bounds, joined}
-use Rattle.path_cases.specs.Pairs.{regions_of, list_of, weak_bound, strict_bound, relation_cases, in_regions, region_cases, row_cases, pair_cases}
+use Rattle.path_formula.specs.Bounds.{Case}
+use Rattle.path_formula.specs.Cases.{range_case, single_cases, with_bounds, joined}
+use Rattle.path_formula.specs.Pairs.{regions_of, list_of, weak_bound, strict_bound, relation_cases, in_regions, region_cases, row_cases, pair_cases}
 use Rattle.sn_ranges.specs.Sets.{with_number, ranges_from, ranges_where}
-use Rattle.path_cases.specs.declared.bound.SymBound.{SymBound}
+use Rattle.path_formula.specs.declared.sym_bound.SymBound.{SymBound}
 use Rattle.path_solver.specs.Bounds.{IsBetween, AreBetween, EachAreBetween}
 
 pub between_append : (test : SymId → Bool) (xs ys : Case) → AreBetween test xs → AreBetween test ys → AreBetween test (xs ++ ys)

@@ -11,15 +11,15 @@ use Rattle.difference_solver.specs.Bound.{Meets, IsInRange, IsSolution, number}
 use Rattle.difference_solver.specs.Cycle.{IsNegativeCycle}
 use Rattle.difference_solver.specs.Raising.{IsBelow, IsLeastNatural, IsNatural}
 use Rattle.difference_solver.specs.declared.bound.Bound.{Bound}
-use Rattle.case_search.specs.Choices.{Case, IsLeast, IsMet, IsUnmet, IsUpTo, MeetsEach, MeetsOne}
+use Rattle.difference_solver.specs.Choices.{Case, IsLeast, IsMet, IsUnmet, IsUpTo, MeetsEach, MeetsOne}
 use Rattle.path_cond.specs.Conditions.{Condition, Entry}
 use Rattle.path_cond.specs.Kept.{first_case, product, singles_at}
 use Rattle.path_cond.specs.declared.singles.Single.{Single}
-use Rattle.path_cases.specs.Cases.{cases_of}
-use Rattle.path_cases.specs.Counts.{capped}
-use Rattle.path_cases.specs.Bounds as Symbolic
+use Rattle.path_formula.specs.Cases.{cases_of}
+use Rattle.path_formula.specs.CaseCounts.{capped}
+use Rattle.path_formula.specs.Bounds as Symbolic
 use Rattle.path_cond.specs.Summaries.{entry_case_count, formula_choices, is_inside, single_case, singles, singles_from}
-use Rattle.case_counts.specs.Coupled.{coupled_symbols}
+use Rattle.path_cond.specs.Coupled.{coupled_symbols}
 use Rattle.path_solver.specs.Origins.{cases_from, choices_from, entry_cases, formula_origins, origins_of}
 use Rattle.path_solver.specs.Singles.{AreJoined, AreSinglesOf}
 use Rattle.path_solver.specs.Unknowns.{bound_of, case_of, choice_of}

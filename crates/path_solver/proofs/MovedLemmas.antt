@@ -15,8 +15,8 @@ use Rattle.path_cond.specs.Conditions.{Condition, Entry, AllTyped, first_broken,
 use Rattle.path_cond.specs.Summaries.{inside_picks, picks_where}
 use Rattle.interval_solver.specs.Domains.{AreDomainsOf}
 use Rattle.interval_solver.specs.Verdicts.{AreLeastValues, IsLeastPossible}
-use Rattle.case_counts.specs.Coupled.{is_inside}
-use Rattle.case_counts.specs.Picks.{passes, is_simple_pick}
+use Rattle.path_cond.specs.Coupled.{is_inside}
+use Rattle.path_cond.specs.Picks.{passes, is_simple_pick}
 use Rattle.refutation_check.specs.Least.{AreLeast, is_at_most}
 use Rattle.path_solver.specs.Bases.{IsMoved, with_first}
 use Rattle.path_solver.specs.Decisions.{HasNoInside}

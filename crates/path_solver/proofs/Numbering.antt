@@ -8,9 +8,9 @@ use Rattle.std.proofs.lemmas.List.Elements.{All-cons, All-head, All-tail, All-ni
 use Rattle.sn_width.specs.declared.ids.SymId.{SymId}
 use Rattle.difference_solver.specs.Bound.{Meets}
 use Rattle.difference_solver.specs.Bound as Integers
-use Rattle.case_search.specs.Choices.{MeetsOne}
-use Rattle.path_cases.specs.Bounds.{Case, number, is_met, is_case_met, is_one_met}
-use Rattle.path_cases.specs.declared.bound.SymBound.{SymBound}
+use Rattle.difference_solver.specs.Choices.{MeetsOne}
+use Rattle.path_formula.specs.Bounds.{Case, number, is_met, is_case_met, is_one_met}
+use Rattle.path_formula.specs.declared.sym_bound.SymBound.{SymBound}
 use Rattle.path_solver.specs.Bounds.{Passes, IsBetween, AreBetween, EachAreBetween}
 use Rattle.path_solver.specs.Unknowns.{is_listed, unknown_from, unknown_of, bound_of, case_of, choice_of}
 use Rattle.path_solver.specs.Values.{integers_of}

@@ -3,7 +3,7 @@ use Rattle.std.proofs.Common.{◌≡◌, ℕ, zero, suc, ◌+◌, ◌<◌, ◌�
 use Rattle.std.specs.Prelude.{slice_get}
 use Rattle.std.proofs.lemmas.Bool.{eq-eqb, eqb-true}
 use Rattle.sn_width.specs.declared.ids.SymId.{SymId}
-use Rattle.case_counts.specs.Coupled.{symbol_at, symbols_from}
+use Rattle.path_cond.specs.Coupled.{symbol_at, symbols_from}
 use Rattle.path_solver.specs.Unknowns.{is_listed, unknown_from}
 use Rattle.path_solver.proofs.Atoms.{or_left, or_right}
 use Rattle.path_solver.proofs.Ascending.{listed_is_from}

@@ -7,14 +7,14 @@ use Rattle.sn_width.specs.declared.ids.SymId.{SymId}
 use Rattle.difference_solver.specs.Cycle as Integers
 use Rattle.difference_solver.specs.declared.bound.Bound.{Bound}
 use Rattle.path_cond.specs.Conditions.{Condition, AllTyped}
-use Rattle.path_cases.specs.Bounds.{Case}
-use Rattle.path_cases.specs.Cases.{with_bounds}
-use Rattle.path_cases.specs.declared.bound.SymBound.{SymBound}
-use Rattle.case_search.specs.Choices.{cases_at, with_each}
-use Rattle.case_search.specs.Steps as Search
-use Rattle.case_search.specs.declared.choice.Step.{Step}
-use Rattle.case_search.specs.declared.choice.Step.TheVariants.{Split as SplitStep, Cycle as CycleStep}
-use Rattle.case_counts.specs.Coupled.{coupled_symbols}
+use Rattle.path_formula.specs.Bounds.{Case}
+use Rattle.path_formula.specs.Cases.{with_bounds}
+use Rattle.path_formula.specs.declared.sym_bound.SymBound.{SymBound}
+use Rattle.difference_solver.specs.Choices.{cases_at, with_each}
+use Rattle.difference_solver.specs.Steps as Search
+use Rattle.difference_solver.specs.declared.choice.Step.{Step}
+use Rattle.difference_solver.specs.declared.choice.Step.TheVariants.{Split as SplitStep, Cycle as CycleStep}
+use Rattle.path_cond.specs.Coupled.{coupled_symbols}
 use Rattle.refutation_check.specs.Accepted.{Leaves, Refutes, IsAccepted}
 use Rattle.refutation_check.specs.Cycles.{IsWalk, at_most_of, total, IsNegativeCycle}
 use Rattle.path_solver.specs.Bounds.{Passes, AreBetween, EachAreBetween}

@@ -18,12 +18,12 @@ use Rattle.path_cond.specs.Conditions.{Condition, Entry, AllTyped, first_broken,
 use Rattle.interval_solver.specs.Verdicts.{AreLeastValues, IsFirstWithoutValue}
 use Rattle.path_formula.specs.Typed.{IsTyped}
 use Rattle.path_cond.specs.Conditions.{entry_holds, is_entry_on, meets, picks_from, simple_picks}
-use Rattle.path_cases.specs.Bounds.{Case, AreValues, is_one_met, is_case_met}
-use Rattle.path_cases.specs.Cases.{cases_of}
-use Rattle.path_cases.specs.Splits.{AtomCanSplit, CanSplit, EachCanSplit}
-use Rattle.path_cases.specs.declared.bound.SymBound.{SymBound}
-use Rattle.case_counts.specs.Coupled.{occurs_in, occurs_among, stands_in}
-use Rattle.case_counts.specs.Picks.{passes, is_simple_pick, are_simple_picks, meets_picks}
+use Rattle.path_formula.specs.Bounds.{Case, AreValues, is_one_met, is_case_met}
+use Rattle.path_formula.specs.Cases.{cases_of}
+use Rattle.path_formula.specs.Splits.{AtomCanSplit, CanSplit, EachCanSplit}
+use Rattle.path_formula.specs.declared.sym_bound.SymBound.{SymBound}
+use Rattle.path_cond.specs.Coupled.{occurs_in, occurs_among, stands_in}
+use Rattle.path_cond.specs.Picks.{passes, is_simple_pick, are_simple_picks, meets_picks}
 use Rattle.refutation_check.specs.Accepted.{IsAccepted}
 use Rattle.refutation_check.specs.Decisions.{IsRefuted, IsSimplyOpen}
 use Rattle.refutation_check.specs.declared.steps.Refute.TheVariants.{Empty, Split}

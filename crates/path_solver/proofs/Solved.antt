@@ -8,13 +8,13 @@ use Rattle.sn_width.specs.declared.ids.SymId.{SymId}
 use Rattle.sn_ranges.specs.Ranges.{Range}
 use Rattle.difference_solver.specs.Bound.{number, Meets, IsInRange}
 use Rattle.path_cond.specs.Conditions.{Condition, AllTyped, in_domain, first_broken, is_possible}
-use Rattle.path_cases.specs.Bounds.{Case}
-use Rattle.path_cases.specs.Cases.{range_case}
+use Rattle.path_formula.specs.Bounds.{Case}
+use Rattle.path_formula.specs.Cases.{range_case}
 use Rattle.sn_ranges.specs.Sets.{ranges_where}
-use Rattle.case_search.specs.Choices.{MeetsOne, MeetsEach, IsMet, IsUnmet, IsUpTo, HasBelow, EachHasBelow, OneHasBelow, AreBelow, AreInRange}
-use Rattle.case_search.specs.Choices as Search
-use Rattle.case_counts.specs.Coupled.{is_coupled, coupled_symbols}
-use Rattle.case_counts.specs.Counts.{domain_cases}
+use Rattle.difference_solver.specs.Choices.{MeetsOne, MeetsEach, IsMet, IsUnmet, IsUpTo, HasBelow, EachHasBelow, OneHasBelow, AreBelow, AreInRange}
+use Rattle.difference_solver.specs.Choices as Search
+use Rattle.path_cond.specs.Coupled.{is_coupled, coupled_symbols}
+use Rattle.path_cond.specs.Counts.{domain_cases}
 use Rattle.refutation_check.specs.Least.{AreCandidates, AreLeast, HasNoCandidates}
 use Rattle.path_solver.specs.Bounds.{AreBetween, EachAreBetween}
 use Rattle.path_solver.specs.Origins.{cases_from, formula_origins, origins_of, choices_from}

@@ -5,7 +5,7 @@ use Rattle.std.specs.List.{position_from}
 use Rattle.std.proofs.lemmas.List.{drop_more}
 use Rattle.path_cond.specs.Conditions.{Condition, Entry, entry_holds}
 use Rattle.path_cond.specs.Summaries.{is_outside, picks_where, outside_picks}
-use Rattle.case_counts.specs.Picks.{first_where, passes}
+use Rattle.path_cond.specs.Picks.{first_where, passes}
 use Rattle.refutation_check.specs.Least.{is_broken_outside, first_broken_outside}
 use Rattle.path_solver.specs.Unmet.{is_unmet, is_unmet_at}
 

@@ -2,7 +2,7 @@
 use Rattle.std.specs.Prelude.{◌≡◌, ◌≤◌, ◌+◌, ◌++◌, ℕ, true, List, Option, Some, None, length, take, drop}
 use Rattle.sn_width.specs.declared.ids.SymId.{SymId}
 use Rattle.path_cond.specs.Conditions.{AllTyped, Condition, first_broken}
-use Rattle.case_counts.specs.Picks.{is_simple_pick}
+use Rattle.path_cond.specs.Picks.{is_simple_pick}
 use Rattle.refutation_check.specs.Decisions.{IsUndecidedBy, IsWithinLimits}
 use Rattle.refutation_check.specs.Least.{AreLeast, first_broken_outside}
 use Rattle.refutation_check.specs.declared.outcome.Cause.{Cause}

@@ -1,8 +1,8 @@
 -- Bounds between symbols that pass a test.
 use Rattle.std.specs.Prelude.{◌≡◌, ◌≤ℤ◌, ◌^◌, neg_ℤ, pos, Bool, true, List, [], ◌∷◌, Option, Some, None}
 use Rattle.sn_width.specs.declared.ids.SymId.{SymId}
-use Rattle.path_cases.specs.Bounds.{Case}
-use Rattle.path_cases.specs.declared.bound.SymBound.{SymBound}
+use Rattle.path_formula.specs.Bounds.{Case}
+use Rattle.path_formula.specs.declared.sym_bound.SymBound.{SymBound}
 
 -- the number zero, or a symbol that passes the test
 abbrev pub Passes : (SymId → Bool) → Option SymId → Type 0

@@ -3,7 +3,7 @@ use Rattle.std.specs.Prelude.{◌≡◌, ◌⊎◌, ℕ, false, List}
 use Rattle.std.specs.List.{list_any}
 use Rattle.path_cond.specs.Conditions.{Condition}
 use Rattle.interval_solver.specs.Verdicts.{AreLeastValues}
-use Rattle.case_counts.specs.Coupled.{is_inside}
+use Rattle.path_cond.specs.Coupled.{is_inside}
 use Rattle.refutation_check.specs.Accepted.{IsAccepted}
 use Rattle.refutation_check.specs.Decisions.{IsRefuted, IsUndecidedBy, IsMetBy, IsWithinLimits}
 use Rattle.refutation_check.specs.Least.{is_outside}

@@ -8,10 +8,10 @@ use Rattle.path_formula.specs.Kinds.{kind_of}
 use Rattle.path_formula.specs.Solutions.{agrees, alone}
 use Rattle.path_formula.specs.Typed.{IsTyped}
 use Rattle.path_formula.specs.declared.kinds.Kind.TheVariants.{Constant, Simple, Inside}
-use Rattle.path_cases.specs.Bounds.{AreValues, is_one_met}
-use Rattle.path_cases.specs.Cases.{cases_of, single_cases}
+use Rattle.path_formula.specs.Bounds.{AreValues, is_one_met}
+use Rattle.path_formula.specs.Cases.{cases_of, single_cases}
 use Rattle.sn_ranges.specs.Sets.{ranges_where}
-use Rattle.path_cases.specs.Splits.{CanSplit}
+use Rattle.path_formula.specs.Splits.{CanSplit}
 
 -- what the laws of the crates below say
 pub record Facts : Type 0 where

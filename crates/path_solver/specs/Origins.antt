@@ -1,14 +1,14 @@
 -- Where the choices of cases of a condition come from.
 use Rattle.std.specs.Prelude.{ℕ, suc, List, [], ◌∷◌, ◌++◌, map, Option, Some, None, slice_get, slice_index_or, if◌then◌else◌}
 use Rattle.difference_solver.specs.declared.bound.Bound.{Bound}
-use Rattle.case_search.specs.declared.choice.Step.{Step}
-use Rattle.case_search.specs.declared.choice.Step.TheVariants.{Split as SplitStep, Cycle as CycleStep}
+use Rattle.difference_solver.specs.declared.choice.Step.{Step}
+use Rattle.difference_solver.specs.declared.choice.Step.TheVariants.{Split as SplitStep, Cycle as CycleStep}
 use Rattle.path_formula.specs.View.{view}
 use Rattle.path_cond.specs.Conditions.{Condition, Entry}
-use Rattle.path_cases.specs.Bounds.{Case}
-use Rattle.path_cases.specs.Cases.{cases_of}
-use Rattle.case_counts.specs.Coupled.{coupled_symbols, is_inside}
-use Rattle.case_counts.specs.Counts.{domain_cases}
+use Rattle.path_formula.specs.Bounds.{Case}
+use Rattle.path_formula.specs.Cases.{cases_of}
+use Rattle.path_cond.specs.Coupled.{coupled_symbols, is_inside}
+use Rattle.path_cond.specs.Counts.{domain_cases}
 use Rattle.refutation_check.specs.declared.steps.Refute.{Refute}
 use Rattle.refutation_check.specs.declared.steps.Refute.TheVariants.{Domain, Split, Cycle}
 use Rattle.path_solver.specs.Unknowns.{choice_of}

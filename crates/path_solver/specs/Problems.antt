@@ -1,6 +1,6 @@
 -- The choices of cases of a condition, as they are gathered.
 use Rattle.std.specs.Prelude.{◌≡◌, List}
-use Rattle.case_search.specs.Choices.{lists_of}
+use Rattle.difference_solver.specs.Choices.{lists_of}
 use Rattle.path_cond.specs.Conditions.{Condition}
 use Rattle.path_solver.specs.Origins.{choices_from}
 use Rattle.path_solver.specs.declared.origin.Origin.{Origin}

@@ -1,7 +1,7 @@
 -- Choices of one case each, and their bounds together.
 use Rattle.std.specs.Prelude.{◌↔◌, ℕ, ℤ, List, All}
 use Rattle.difference_solver.specs.Bound.{Meets, IsInRange}
-use Rattle.case_search.specs.Choices.{AreInRange, Case, MeetsEach}
+use Rattle.difference_solver.specs.Choices.{AreInRange, Case, MeetsEach}
 use Rattle.path_cond.specs.Conditions.{Condition}
 use Rattle.path_solver.specs.Origins.{choices_from}
 use Rattle.path_solver.specs.declared.origin.Origin.{Origin}

@@ -1,8 +1,8 @@
 -- What the cases of a condition decide.
 use Rattle.std.specs.Prelude.{length}
-use Rattle.case_search.specs.Choices.{IsLeast}
+use Rattle.difference_solver.specs.Choices.{IsLeast}
 use Rattle.path_cond.specs.Conditions.{Condition}
-use Rattle.case_counts.specs.Coupled.{coupled_symbols}
+use Rattle.path_cond.specs.Coupled.{coupled_symbols}
 use Rattle.refutation_check.specs.Accepted.{IsAccepted}
 use Rattle.refutation_check.specs.Least.{AreLeast, HasNoCandidates}
 use Rattle.path_solver.specs.Origins.{choices_from, origins_of}

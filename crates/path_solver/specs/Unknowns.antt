@@ -3,8 +3,8 @@ use Rattle.std.specs.Prelude.{◌≡◌, ℕ, suc, ◌==◌, Bool, List, [], ◌
 use Rattle.std.specs.List.{list_any}
 use Rattle.sn_width.specs.declared.ids.SymId.{SymId}
 use Rattle.difference_solver.specs.declared.bound.Bound.{Bound}
-use Rattle.path_cases.specs.Bounds.{Case}
-use Rattle.path_cases.specs.declared.bound.SymBound.{SymBound}
+use Rattle.path_formula.specs.Bounds.{Case}
+use Rattle.path_formula.specs.declared.sym_bound.SymBound.{SymBound}
 
 -- the symbol is one of the list
 abbrev pub is_listed : List SymId → SymId → Bool

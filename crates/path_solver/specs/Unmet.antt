@@ -1,7 +1,7 @@
 -- Formulas at picks that have not the truth that they must have.
 use Rattle.std.specs.Prelude.{ℕ, Bool, not, List, slice_get}
 use Rattle.path_cond.specs.Conditions.{Condition, Entry, entry_holds}
-use Rattle.case_counts.specs.Picks.{passes}
+use Rattle.path_cond.specs.Picks.{passes}
 
 -- the formula has not the truth that it must have at these values
 abbrev pub is_unmet : List ℕ → Entry → Bool

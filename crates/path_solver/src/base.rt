@@ -9,9 +9,8 @@ ghost use Rattle.path_solver.specs.Bases.{IsBaseOf, IsOnBase};
 
 use crate::moved::move_value;
 use crate::outside::first_broken_outside;
-use case_counts::formula_count;
 use interval_solver::Domains;
-use path_cond::PathCond;
+use path_cond::{PathCond, formula_count};
 use path_formula::Kind;
 use refutation_check::Listed;
 use refutation_check::laws::least_values_stay;

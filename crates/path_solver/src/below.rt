@@ -2,7 +2,7 @@
 
 ghost use Rattle.path_solver.specs.Laws.{Facts};
 
-use path_cases::laws::{
+use path_formula::case_laws::{
     a_set_has_the_ranges_of_its_test, an_inside_formula_has_cases,
     one_case_is_met_exactly_where_the_formula_has_the_truth,
     one_range_is_met_exactly_where_the_value_passes,

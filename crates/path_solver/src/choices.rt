@@ -1,15 +1,14 @@
 //! The number of choices of cases, where the domains are known.
 
 ghost use Rattle.std.specs.Prelude.{◌≡◌, true, IfOk};
-ghost use Rattle.case_counts.specs.Counts.{choice_count, range_count};
-ghost use Rattle.case_counts.specs.Coupled.{coupled_symbols};
+ghost use Rattle.path_cond.specs.Counts.{choice_count, range_count};
+ghost use Rattle.path_cond.specs.Coupled.{coupled_symbols};
 ghost use Rattle.interval_solver.specs.Domains.{AreDomainsOf};
 ghost use Rattle.path_solver.specs.Unknowns.{is_listed};
 
 use crate::below::facts;
-use case_counts::case_count_with;
 use interval_solver::Domains;
-use path_cond::PathCond;
+use path_cond::{PathCond, case_count_with};
 use sn_width::{NoMemory, SymId};
 use std::alloc::Global;
 

@@ -8,7 +8,7 @@ ghost use Rattle.refutation_check.specs.Decisions.{AreManyCoupled, IsMetBy, IsRe
 ghost use Rattle.refutation_check.specs.Least.{AreLeast, first_broken_outside};
 ghost use Rattle.refutation_check.specs.Longer.{zeros};
 ghost use Rattle.refutation_check.specs.declared.outcome.Cause.{Cause as CauseOf};
-ghost use Rattle.case_counts.specs.Coupled.{coupled_symbols};
+ghost use Rattle.path_cond.specs.Coupled.{coupled_symbols};
 ghost use Rattle.path_solver.specs.Bases.{IsBaseOf, IsExcessOf};
 ghost use Rattle.path_solver.specs.Decisions.{IsDecisionOn, IsSat, IsUnsat, IsUndecided, IsSettled, IsInFragment, HasNoInside, HasLeastValues};
 
@@ -21,11 +21,10 @@ use crate::laws::{
 };
 use crate::outside::first_broken_outside;
 use crate::solve::{Solved, solve_cases};
-use case_counts::coupled_symbols;
 use interval_solver::laws::each_symbol_of_filled_domains_has_a_value;
 use interval_solver::{Domains, SimpleVerdict, decide_simple};
-use path_cond::PathCond;
 use path_cond::laws::each_formula_is_typed;
+use path_cond::{PathCond, coupled_symbols};
 use refutation_check::laws::an_accepted_refutation_refutes;
 use refutation_check::{Cause, Listed, MOST_CHOICES, MOST_COUPLED, Refutation, Refute};
 use sn_width::{NoMemory, Num, SymId};

@@ -2,7 +2,7 @@
 
 ghost use Rattle.std.specs.Prelude.{◌≡◌, ◌+◌, true, None, length, IfSome};
 ghost use Rattle.path_cond.specs.Conditions.{Condition, first_broken, is_simple_on};
-ghost use Rattle.case_counts.specs.Picks.{is_simple_pick};
+ghost use Rattle.path_cond.specs.Picks.{is_simple_pick};
 ghost use Rattle.interval_solver.specs.Domains.{AreDomainsOf};
 ghost use Rattle.interval_solver.specs.Verdicts.{IsLeastPossible};
 ghost use Rattle.refutation_check.specs.Least.{AreLeast};

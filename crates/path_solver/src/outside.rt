@@ -1,13 +1,12 @@
 //! The first outside formula that values break.
 
 ghost use Rattle.std.specs.Prelude.{◌≡◌, IfOk};
-ghost use Rattle.case_counts.specs.Picks.{first_where};
+ghost use Rattle.path_cond.specs.Picks.{first_where};
 ghost use Rattle.refutation_check.specs.Least.{first_broken_outside};
 ghost use Rattle.path_solver.specs.Unmet.{is_unmet_at};
 
-use case_counts::laws::the_first_of_the_picks_is_the_first_of_the_formulas;
-use case_counts::outside_picks;
-use path_cond::PathCond;
+use path_cond::count_laws::the_first_of_the_picks_is_the_first_of_the_formulas;
+use path_cond::{PathCond, outside_picks};
 use sn_width::{NoMemory, Num};
 use std::alloc::Global;
 

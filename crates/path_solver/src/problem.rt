@@ -2,9 +2,9 @@
 
 ghost use Rattle.std.specs.Prelude.{◌≡◌, ◌≤◌, ◌++◌, ◌∷◌, [], true, List, length, OnOk, IfOk};
 ghost use Rattle.path_cond.specs.Conditions.{Condition};
-ghost use Rattle.path_cases.specs.Bounds.{lists_of as cases_seen};
-ghost use Rattle.case_counts.specs.Coupled.{coupled_symbols};
-ghost use Rattle.case_counts.specs.Picks.{is_inside_pick};
+ghost use Rattle.path_formula.specs.Bounds.{lists_of as cases_seen};
+ghost use Rattle.path_cond.specs.Coupled.{coupled_symbols};
+ghost use Rattle.path_cond.specs.Picks.{is_inside_pick};
 ghost use Rattle.interval_solver.specs.Domains.{AreDomainsOf};
 ghost use Rattle.path_solver.specs.Origins.{cases_from, origins_of};
 ghost use Rattle.path_solver.specs.Problems.{IsProblem};
@@ -15,11 +15,10 @@ ghost use Rattle.path_solver.specs.declared.origin.Origin.TheVariants.{Ranges as
 use crate::below::facts;
 use crate::origin::Origin;
 use crate::unknowns::choice_of;
-use case_counts::inside_picks;
-use case_search::Choice;
+use difference_solver::Choice;
 use interval_solver::Domains;
-use path_cases::{SymBound, cases, range_cases};
-use path_cond::PathCond;
+use path_cond::{PathCond, inside_picks};
+use path_formula::{SymBound, cases, range_cases};
 use sn_width::{NoMemory, SymId};
 use std::alloc::Global;
 

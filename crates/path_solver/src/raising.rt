@@ -1,7 +1,7 @@
 //! The decision of a condition each of whose choices has one case, by raising values.
 
 ghost use Rattle.std.specs.Prelude.{◌≡◌, ◌≤◌, length, IfOk, IfSome};
-ghost use Rattle.case_counts.specs.Coupled.{coupled_symbols};
+ghost use Rattle.path_cond.specs.Coupled.{coupled_symbols};
 ghost use Rattle.interval_solver.specs.Domains.{AreDomainsOf};
 ghost use Rattle.refutation_check.specs.Accepted.{IsAccepted};
 ghost use Rattle.path_solver.specs.Solutions.{IsFound};

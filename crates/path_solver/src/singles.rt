@@ -2,9 +2,9 @@
 
 ghost use Rattle.std.specs.Prelude.{◌≡◌, ◌≤◌, ◌++◌, ◌∷◌, [], List, length, map, IsTrue, OnOk, IfOk, IfSome};
 ghost use Rattle.path_cond.specs.Conditions.{Condition};
-ghost use Rattle.path_cases.specs.Bounds.{lists_of as cases_seen};
-ghost use Rattle.case_counts.specs.Coupled.{coupled_symbols};
-ghost use Rattle.case_counts.specs.Counts.{formula_choices};
+ghost use Rattle.path_formula.specs.Bounds.{lists_of as cases_seen};
+ghost use Rattle.path_cond.specs.Coupled.{coupled_symbols};
+ghost use Rattle.path_cond.specs.Counts.{formula_choices};
 ghost use Rattle.interval_solver.specs.Domains.{AreDomainsOf};
 ghost use Rattle.path_solver.specs.Origins.{cases_from, origins_of};
 ghost use Rattle.path_solver.specs.Singles.{AreSinglesOf};
@@ -17,8 +17,8 @@ use crate::problem::ranges_of;
 use crate::unknowns::{bound_in, table_of};
 use difference_solver::Bound;
 use interval_solver::Domains;
-use path_cases::SymBound;
 use path_cond::{PathCond, Single};
+use path_formula::SymBound;
 use sn_width::{NoMemory, SymId};
 use std::alloc::Global;
 

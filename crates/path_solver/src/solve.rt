@@ -2,7 +2,7 @@
 
 ghost use Rattle.std.specs.Prelude.{◌≡◌, ◌≤◌, None, length, IfOk};
 ghost use Rattle.path_cond.specs.Conditions.{first_broken};
-ghost use Rattle.case_counts.specs.Coupled.{coupled_symbols};
+ghost use Rattle.path_cond.specs.Coupled.{coupled_symbols};
 ghost use Rattle.interval_solver.specs.Domains.{AreDomainsOf};
 ghost use Rattle.interval_solver.specs.Verdicts.{AreLeastValues};
 ghost use Rattle.path_solver.specs.Solutions.{IsFound, IsSolved};
@@ -13,7 +13,7 @@ use crate::problem::Problem;
 use crate::raising::find_by_raising;
 use crate::steps::refutation_of;
 use crate::values::put_integers;
-use case_search::{Outcome, find_least};
+use difference_solver::{Outcome, find_least};
 use interval_solver::Domains;
 use path_cond::PathCond;
 use refutation_check::Refutation;

@@ -4,7 +4,7 @@ ghost use Rattle.std.specs.Prelude.{◌≡◌, map, IfOk};
 ghost use Rattle.path_solver.specs.Origins.{refute_of, refute_from};
 
 use crate::origin::Origin;
-use case_search::Step;
+use difference_solver::Step;
 use refutation_check::{Listed, Refutation, Refute};
 use std::alloc::{AllocError, Global};
 

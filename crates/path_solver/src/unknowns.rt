@@ -1,14 +1,13 @@
 //! Unknowns of bounds, for the symbols of a list.
 
 ghost use Rattle.std.specs.Prelude.{◌≡◌, ◌<◌, ◌≤◌, List, length, IfOk, IfSome};
-ghost use Rattle.path_cases.specs.Bounds.{lists_of};
-ghost use Rattle.case_search.specs.Choices.{cases_of};
+ghost use Rattle.path_formula.specs.Bounds.{lists_of};
+ghost use Rattle.difference_solver.specs.Choices.{cases_of};
 ghost use Rattle.path_solver.specs.Unknowns.{IsTableOf, unknown_of, bound_of, case_of, choice_of};
 ghost use Rattle.sn_width.specs.declared.ids.SymId.{SymId as Symbol};
 
-use case_search::Choice;
-use difference_solver::Bound;
-use path_cases::SymBound;
+use difference_solver::{Bound, Choice};
+use path_formula::SymBound;
 use sn_width::{NoMemory, SymId};
 use std::alloc::{AllocError, Global};
 

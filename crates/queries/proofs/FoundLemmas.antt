@@ -3,7 +3,7 @@ use Rattle.std.proofs.Common.{◌≡◌, ◌∙◌, ◌+◌, ℕ, true, List, []
 use Rattle.std.specs.List.{list_all}
 use Rattle.net_check.specs.Network.{Network, Entry}
 use Rattle.exact_records.specs.Records.{RecordTree}
-use Rattle.question_meaning.specs.Telling.{saying}
+use Rattle.path_questions.specs.Telling.{saying}
 use Rattle.path_questions.specs.Asked.{question_seen}
 use Rattle.path_questions.specs.Known.{is_found}
 use Rattle.path_questions.specs.declared.kept.Kept.{Kept}

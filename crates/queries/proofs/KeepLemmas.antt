@@ -4,8 +4,8 @@ use Rattle.path_cond.specs.Seen.{itself}
 use Rattle.path_solver.specs.Judged.{AreExact}
 use Rattle.net_check.specs.Network.{Network, Entry}
 use Rattle.exact_records.specs.Records.{RecordTree}
-use Rattle.question_meaning.specs.Questions.{Question}
-use Rattle.question_meaning.specs.Telling.{IsKept, left_open, saying}
+use Rattle.path_questions.specs.Questions.{Question}
+use Rattle.path_questions.specs.Telling.{IsKept, left_open, saying}
 use Rattle.path_questions.specs.Known.{is_found, outcome_seen}
 use Rattle.path_questions.specs.declared.judging.Judged.{Judged}
 use Rattle.path_questions.specs.declared.judging.Judged.TheVariants.{Hit, Open, RuledOut}

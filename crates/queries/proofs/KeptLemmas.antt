@@ -1,7 +1,7 @@
 -- The steps of what is kept.
 use Rattle.std.proofs.Common.{◌≡◌, ℕ, suc, ◌+◌, inl, inr, List, [], ◌∷◌, ◌++◌, length, refl, ap, subst, ◌∙◌, append_assoc, arith}
 use Rattle.std.specs.List.{AllByRecursion}
-use Rattle.question_meaning.specs.Telling.{AreOpenBy, IsKept, Saying, found, left_open}
+use Rattle.path_questions.specs.Telling.{AreOpenBy, IsKept, Saying, found, left_open}
 
 all_append : {A : Type 0} (P : A → Type 0) (xs ys : List A) → AllByRecursion P xs → AllByRecursion P ys → AllByRecursion P (xs ++ ys)
 all_append P [] ys h k = k

@@ -7,11 +7,11 @@ use Rattle.path_records.specs.declared.records.Record.{Record}
 use Rattle.exact_records.specs.Packets.{AreExactFor}
 use Rattle.exact_records.specs.Records.{RecordTree}
 use Rattle.exact_records.specs.View.{record_tree, record_trees}
-use Rattle.question_meaning.specs.Laws.{IsOfInjection, KeptIsRight}
-use Rattle.question_meaning.specs.Placing.{Asks}
-use Rattle.question_meaning.specs.Questions.{Question}
-use Rattle.question_meaning.specs.Questions as questions
-use Rattle.question_meaning.specs.Telling.{IsKept, Outcome, left_open, saying}
+use Rattle.path_questions.specs.Laws.{IsOfInjection, KeptIsRight}
+use Rattle.path_questions.specs.Placing.{Asks}
+use Rattle.path_questions.specs.Questions.{Question}
+use Rattle.path_questions.specs.Questions as questions
+use Rattle.path_questions.specs.Telling.{IsKept, Outcome, left_open, saying}
 use Rattle.queries.specs.Answers.{IsAnswerTo, Reply, reply_of}
 
 -- the field of a question is one of the injection

@@ -6,7 +6,7 @@ use Rattle.std.proofs.lemmas.Map.Views.{exact_unsigned_eq}
 use Rattle.sefl_syntax.specs.declared.net.Side.{Side}
 use Rattle.sefl_syntax.specs.declared.net.Side.TheVariants.{Inward, Outward}
 use Rattle.sefl_meaning.specs.declared.walk.Place.{Place}
-use Rattle.question_meaning.specs.Questions.{same_place, same_side}
+use Rattle.path_questions.specs.Questions.{same_place, same_side}
 use Rattle.queries.specs.declared.states.Stop.{Stop}
 use Rattle.queries.specs.Paths.{ends_with, has_place, noted_at}
 

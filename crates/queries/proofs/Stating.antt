@@ -13,8 +13,8 @@ use Rattle.exact_records.specs.Records.{SymRoute, SymStart, SymTree}
 use Rattle.path_exec.specs.Visiting.{AreVisits, Arrival}
 use Rattle.sym_state.specs.Symbolic.{Symbolic}
 use Rattle.symbolic_engine.specs.Exploring.{ArrivesBy, ArrivesIn, FollowsTo}
-use Rattle.question_meaning.specs.Formulas.{asked_left, asked_on, explored}
-use Rattle.question_meaning.specs.Questions.{Field, Question, reach, invariant, visible, ends_at, if_delivered, same_place, states_at}
+use Rattle.path_questions.specs.Formulas.{asked_left, asked_on, explored}
+use Rattle.path_questions.specs.Questions.{Field, Question, reach, invariant, visible, ends_at, if_delivered, same_place, states_at}
 use Rattle.path_questions.specs.Asked.{look_of}
 use Rattle.path_questions.specs.declared.looking.Look.TheVariants.{AtEnd, OnArrivals}
 use Rattle.queries.specs.declared.states.PathRun.{PathRun}

@@ -13,9 +13,9 @@ use Rattle.sefl_meaning.specs.Routes.{route}
 use Rattle.sefl_meaning.specs.Start.{widths_on}
 use Rattle.exact_records.specs.Records.{RecordTree, SymCondition, SymRoute, condition_on, path, pruned, unexplored, with_test}
 use Rattle.sym_state.specs.Symbolic.{Symbolic}
-use Rattle.question_meaning.specs.Formulas.{asked_on, condition_with, conditions_on, explored, formula_of}
-use Rattle.question_meaning.specs.Questions.{Question}
-use Rattle.question_meaning.specs.Telling.{HasRefutation, RulesItOut, ShowsNoHit}
+use Rattle.path_questions.specs.Formulas.{asked_on, condition_with, conditions_on, explored, formula_of}
+use Rattle.path_questions.specs.Questions.{Question}
+use Rattle.path_questions.specs.Telling.{HasRefutation, RulesItOut, ShowsNoHit}
 use Rattle.path_questions.specs.declared.judging.Judged.{Judged}
 use Rattle.path_questions.specs.declared.judging.Judged.TheVariants.{Hit, Open, RuledOut}
 use Rattle.path_questions.specs.Deciding.{IsJudged, conditions_with}

@@ -25,8 +25,8 @@ use Rattle.symbolic_engine.specs.Origins.{progress_in}
 use Rattle.symbolic_engine.specs.Exploring.{FollowsTo, IsHandedBy}
 use Rattle.symbolic_engine.specs.Leading.{LeadsThere, WaitsAs}
 use Rattle.sym_state.specs.Symbolic.{Symbolic}
-use Rattle.question_meaning.specs.Formulas.{asked_left, asked_on, explored, no_start, start_or}
-use Rattle.question_meaning.specs.Questions.{Question}
+use Rattle.path_questions.specs.Formulas.{asked_left, asked_on, explored, no_start, start_or}
+use Rattle.path_questions.specs.Questions.{Question}
 use Rattle.queries.specs.declared.states.PathRun.{PathRun}
 use Rattle.queries.specs.Paths.{AsksNothing, IsPathRun, LeadsSo, end_of, led_over}
 

@@ -3,10 +3,10 @@ use Rattle.std.specs.Prelude.{ℕ, ◌≡◌, List, [], ◌∷◌, Option, None,
 use Rattle.sefl_syntax.specs.Trees.{AskTree}
 use Rattle.net_check.specs.Network.{Network, Entry}
 use Rattle.exact_records.specs.Records.{RecordTree}
-use Rattle.question_meaning.specs.Answers.{IsRight}
-use Rattle.question_meaning.specs.Placing.{Asks}
-use Rattle.question_meaning.specs.Questions.{Question, reach, invariant, visible}
-use Rattle.question_meaning.specs.Telling.{Outcome, found, left_open}
+use Rattle.path_questions.specs.Answers.{IsRight}
+use Rattle.path_questions.specs.Placing.{Asks}
+use Rattle.path_questions.specs.Questions.{Question, reach, invariant, visible}
+use Rattle.path_questions.specs.Telling.{Outcome, found, left_open}
 use Rattle.path_questions.specs.declared.kept.Kept.{Kept}
 use Rattle.path_questions.specs.declared.question.Question as code
 use Rattle.path_questions.specs.Asked.{question_seen}

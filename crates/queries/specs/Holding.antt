@@ -4,9 +4,9 @@ use Rattle.std.specs.List.{AllByRecursion}
 use Rattle.net_check.specs.Network.{Network, Entry}
 use Rattle.net_check.specs.Sound.{AreOfOneJob}
 use Rattle.exact_records.specs.Records.{RecordTree}
-use Rattle.question_meaning.specs.Laws.{IsOfInjection}
-use Rattle.question_meaning.specs.Questions.{Question}
-use Rattle.question_meaning.specs.Telling.{IsKept, Outcome, found, left_open, saying}
+use Rattle.path_questions.specs.Laws.{IsOfInjection}
+use Rattle.path_questions.specs.Questions.{Question}
+use Rattle.path_questions.specs.Telling.{IsKept, Outcome, found, left_open, saying}
 use Rattle.path_questions.specs.Asked.{question_seen}
 use Rattle.path_questions.specs.Deciding.{entry_of, net_of}
 use Rattle.path_questions.specs.Known.{outcome_seen}

@@ -4,8 +4,8 @@ use Rattle.net_check.specs.Network.{Network, Entry}
 use Rattle.sefl_meaning.specs.declared.walk.Decision.{Decision}
 use Rattle.exact_records.specs.Exact.{IsUnexplored}
 use Rattle.exact_records.specs.Records.{RecordTree, path, pruned, unexplored}
-use Rattle.question_meaning.specs.Questions.{Question}
-use Rattle.question_meaning.specs.Telling.{LeavesItOpen, RulesItOut, ShowsHit, ShowsNoHit}
+use Rattle.path_questions.specs.Questions.{Question}
+use Rattle.path_questions.specs.Telling.{LeavesItOpen, RulesItOut, ShowsHit, ShowsNoHit}
 use Rattle.path_questions.specs.declared.judging.Judged.{Judged}
 use Rattle.path_questions.specs.declared.judging.Judged.TheVariants.{Hit, Open, RuledOut}
 use Rattle.queries.specs.Paths.{AreNoted, IsPathRun}

@@ -18,8 +18,8 @@ use Rattle.symbolic_engine.specs.Origins.{condition_seen}
 use Rattle.symbolic_engine.specs.declared.guiding.Led.{Led}
 use Rattle.symbolic_engine.specs.declared.guiding.Waits.{Waits}
 use Rattle.symbolic_engine.specs.declared.guiding.Waits.TheVariants.{Nothing as Over, Decides as Waiting}
-use Rattle.question_meaning.specs.Formulas.{asked_on, conditions_on, explored}
-use Rattle.question_meaning.specs.Questions.{Question, same_place, states_at}
+use Rattle.path_questions.specs.Formulas.{asked_on, conditions_on, explored}
+use Rattle.path_questions.specs.Questions.{Question, same_place, states_at}
 use Rattle.path_questions.specs.Deciding.{IsJudged}
 use Rattle.path_questions.specs.declared.judging.Judged.{Judged}
 use Rattle.queries.specs.declared.states.PathRun.{PathRun}

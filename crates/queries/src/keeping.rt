@@ -3,7 +3,7 @@
 ghost use Rattle.std.specs.Prelude.{◌≡◌, ◌++◌, ◌∷◌, [], IfOk, List, length};
 ghost use Rattle.net_check.specs.Sound.{AreOfOneJob};
 ghost use Rattle.exact_records.specs.Records.{RecordTree};
-ghost use Rattle.question_meaning.specs.Laws.{IsOfInjection};
+ghost use Rattle.path_questions.specs.Laws.{IsOfInjection};
 ghost use Rattle.path_questions.specs.Asked.{question_seen};
 ghost use Rattle.path_questions.specs.Deciding.{entry_of, net_of};
 ghost use Rattle.path_questions.specs.Known.{outcome_seen};

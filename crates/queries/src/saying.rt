@@ -2,7 +2,7 @@
 
 ghost use Rattle.std.specs.Prelude.{◌≡◌, IfOk};
 ghost use Rattle.net_check.specs.Sound.{AreOfOneJob};
-ghost use Rattle.question_meaning.specs.Laws.{IsOfInjection};
+ghost use Rattle.path_questions.specs.Laws.{IsOfInjection};
 ghost use Rattle.path_questions.specs.Asked.{look_of, question_seen};
 ghost use Rattle.path_questions.specs.Deciding.{entry_of, net_of};
 ghost use Rattle.path_questions.specs.declared.looking.Look.TheVariants.{AtEnd, OnArrivals};
@@ -11,8 +11,8 @@ ghost use Rattle.queries.specs.Judged.{IsWellSeen, SaysOf};
 
 use crate::seen::Seen;
 use crate::states::{PathRun, Stop, noted_at, state_at_end, states_at};
+use path_questions::laws::the_formulas_of_questions_are_typed;
 use path_questions::{Judged, Look, Question, Subject, judge_states, look_of};
-use question_meaning::laws::the_formulas_of_questions_are_typed;
 use sefl_meaning::Place;
 use sn_width::NoMemory;
 use std::alloc::Global;

@@ -13,7 +13,7 @@ use Rattle.path_exec.specs.Handing.{Handed}
 use Rattle.path_records.specs.declared.records.Record.{Record}
 use Rattle.symbolic_engine.specs.declared.found.Found.{Found}
 use Rattle.symbolic_engine.specs.Recorded.{ByRecords}
-use Rattle.record_ranges.specs.Ranges.{RecordInRange}
+use Rattle.report_forms.specs.Ranges.{RecordInRange}
 use Rattle.record_text.specs.Records.{record_data}
 use Rattle.record_text.specs.Reports.{record_pieces}
 use Rattle.std.specs.Io.KnownBytes.{append_known}

@@ -12,7 +12,7 @@ use Rattle.record_lines.specs.declared.lines.RefutedSides.{RefutedSides}
 use Rattle.record_lines.specs.declared.lines.RefutedSides.TheVariants.{Written, Counted}
 use Rattle.record_lines.specs.declared.lines.Task.{Task}
 use Rattle.record_lines.specs.declared.lines.Task.TheVariants as task
-use Rattle.record_ranges.specs.Ranges.{RecordInRange}
+use Rattle.report_forms.specs.Ranges.{RecordInRange}
 use Rattle.report_forms.specs.Fits.{StepFits, VerdictFits}
 use Rattle.symbolic_engine.specs.declared.found.Before.{Before}
 use Rattle.symbolic_engine.specs.declared.found.Found.{Found}

@@ -2,14 +2,14 @@
 
 ghost use Rattle.std.specs.Prelude.{◌≡◌, ◌+◌, IfSome, IsTrue};
 ghost use Rattle.path_exec.specs.Handing.{IsListed, handed};
-ghost use Rattle.record_ranges.specs.Ranges.{RecordInRange};
+ghost use Rattle.report_forms.specs.Ranges.{RecordInRange};
 ghost use Rattle.record_lines.specs.Lines.{IsFoundTask, IsRecordTask, IsSideTask, SideInRange, is_only_counted, refuted_by};
 
 use crate::ends::put_piece;
 use kept_texts::{OfNet, Pieces};
 use path_exec::{Observer, Took};
 use path_records::Record;
-use record_ranges::{numbers_are_in_range, steps_fit, verdict_fits};
+use report_forms::{numbers_are_in_range, steps_fit, verdict_fits};
 use sefl_meaning::Decision;
 use sn_edge::{Put, Sink};
 use std::alloc::Global;

@@ -1,11 +1,11 @@
 //! Refutations.
 
-ghost use Rattle.compact_json.specs.Tokens.{Gains};
+ghost use Rattle.run_text.specs.Tokens.{Gains};
 ghost use Rattle.record_text.specs.Records.{ids_data, empty_data, numbered_data, cycle_data, step_data, refutation_data};
 
-use compact_json::JsonText;
-use compact_json::laws::lists_are_written;
 use refutation_check::Refute;
+use run_text::JsonText;
+use run_text::json_laws::lists_are_written;
 use sn_width::{NoMemory, SymId};
 
 #[tactic(auto, unfolding(crate::specs::Records::ids_data))]

@@ -3,15 +3,15 @@
 ghost use Rattle.std.specs.Prelude.{◌≡◌, string_bytes, IfOk};
 ghost use Rattle.serde_json.specs.Data.{string};
 ghost use Rattle.net_check.specs.Network.{network};
-ghost use Rattle.compact_json.specs.Tokens.{Gains};
+ghost use Rattle.run_text.specs.Tokens.{Gains};
 ghost use Rattle.record_text.specs.Records.{records_data};
 ghost use Rattle.record_text.specs.Reports.{state_text, report_data, data_of, head_text, tail_text, report_text};
 
 use crate::records::write_record;
-use compact_json::JsonText;
-use compact_json::laws::objects_are_written;
 use net_check::Net;
 use path_records::Record;
+use run_text::JsonText;
+use run_text::json_laws::objects_are_written;
 use sn_width::NoMemory;
 use std::alloc::Global;
 

@@ -1,12 +1,11 @@
 //! Verdicts and causes.
 
-ghost use Rattle.compact_json.specs.Tokens.{Gains};
+ghost use Rattle.run_text.specs.Tokens.{Gains};
 ghost use Rattle.record_text.specs.Records.{outside_data, counted_data, cause_data, sat_data, undecided_data, verdict_data, before_data};
 
-use compact_json::JsonText;
-use compact_json::laws::objects_are_written;
 use refutation_check::{Cause, Verdict};
-use run_text::write_values;
+use run_text::json_laws::objects_are_written;
+use run_text::{JsonText, write_values};
 use sn_width::{NoMemory, Num};
 use std::alloc::Global;
 

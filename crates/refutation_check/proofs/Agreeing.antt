@@ -7,7 +7,7 @@ use Rattle.sn_width.specs.declared.ids.SymId.{SymId}
 use Rattle.sn_ranges.specs.Ranges.{fits_width}
 use Rattle.path_formula.specs.Formulas.{FormulaTree}
 use Rattle.path_cond.specs.Seen.{ConditionOf, first_broken, in_domain}
-use Rattle.case_counts.specs.Seen.{coupled_count, choice_count}
+use Rattle.path_cond.specs.Choices.{coupled_count, choice_count}
 use Rattle.refutation_check.specs.Longer.{moved}
 use Rattle.refutation_check.specs.Seen.{most_coupled, most_choices, AreFitting, is_possible, holds_unless_outside, first_broken_outside, AreCandidates, AreLeast, HasNoCandidates, HasEmptyDomain, IsSimplyRefuted, IsSimplyOpen, IsWithinLimits, IsRefuted, HasLeast, AreManyCoupled, AreManyChoices, IsUndecidedBy, IsMetBy}
 use Rattle.refutation_check.specs.declared.outcome.Cause.{Cause}

@@ -11,7 +11,7 @@ use Rattle.path_formula.specs.Formulas.{FormulaTree, always, compared, belongs, 
 use Rattle.path_formula.specs.Solutions.{agrees}
 use Rattle.path_formula.specs.Typed.{PartsAreTyped, IsTyped, AreTyped}
 use Rattle.path_cond.specs.Seen.{ConditionOf, AllTyped, entry_holds, holds_at}
-use Rattle.path_cases.specs.Bounds.{AreValues}
+use Rattle.path_formula.specs.Bounds.{AreValues}
 
 -- each value modulo 2 to the width of its symbol
 pub reduced : List ℕ → List ℕ → List ℕ

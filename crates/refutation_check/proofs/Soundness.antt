@@ -16,11 +16,11 @@ use Rattle.path_formula.specs.Typed.{IsTyped}
 use Rattle.path_formula.specs.declared.kinds.Kind.{Kind}
 use Rattle.path_formula.specs.declared.kinds.Kind.TheVariants.{Constant, Simple, Inside, Outside}
 use Rattle.path_cond.specs.Seen.{ConditionOf, AllTyped, entry_holds, holds_at, in_domain, is_entry_on, is_simple_on, meets}
-use Rattle.path_cases.specs.Bounds.{Case, AreValues, number, is_met, is_case_met, is_one_met}
-use Rattle.path_cases.specs.Cases.{cases_of, single_cases, with_bounds}
-use Rattle.path_cases.specs.Splits.{CanSplit}
-use Rattle.path_cases.specs.declared.bound.SymBound.{SymBound}
-use Rattle.case_counts.specs.Seen.{passes, is_simple_pick, pick_holds, are_simple_picks, meets_picks}
+use Rattle.path_formula.specs.Bounds.{Case, AreValues, number, is_met, is_case_met, is_one_met}
+use Rattle.path_formula.specs.Cases.{cases_of, single_cases, with_bounds}
+use Rattle.path_formula.specs.Splits.{CanSplit}
+use Rattle.path_formula.specs.declared.sym_bound.SymBound.{SymBound}
+use Rattle.path_cond.specs.Choices.{passes, is_simple_pick, pick_holds, are_simple_picks, meets_picks}
 use Rattle.refutation_check.specs.Seen.{IsUnmeetable, Leaves, Refutes, IsAccepted}
 use Rattle.refutation_check.specs.Cycles.{IsWalk, at_most_of, total, IsNegativeCycle}
 use Rattle.refutation_check.specs.declared.steps.Refute.{Refute}

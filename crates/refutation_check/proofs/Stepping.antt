@@ -5,9 +5,9 @@ use Rattle.std.specs.Global.{Vec}
 use Rattle.std.proofs.lemmas.List.{reverse-append, length-take, length-map, length-reverse}
 use Rattle.path_formula.specs.View.{view}
 use Rattle.path_cond.specs.Conditions.{Condition, Entry}
-use Rattle.path_cases.specs.Bounds.{Case, lists_of}
-use Rattle.path_cases.specs.Cases.{cases_of, with_bounds}
-use Rattle.path_cases.specs.declared.bound.SymBound.{SymBound}
+use Rattle.path_formula.specs.Bounds.{Case, lists_of}
+use Rattle.path_formula.specs.Cases.{cases_of, with_bounds}
+use Rattle.path_formula.specs.declared.sym_bound.SymBound.{SymBound}
 use Rattle.refutation_check.specs.Accepted.{IsSplitInto, Leaves, Refutes, Advances, Reaches}
 use Rattle.refutation_check.specs.Agenda.{starts, AreNested, alternative_with}
 use Rattle.refutation_check.specs.declared.agenda.Alternative.{Alternative}

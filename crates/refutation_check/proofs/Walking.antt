@@ -4,8 +4,8 @@ use Rattle.std.proofs.lemmas.Int.{ints}
 use Rattle.std.specs.Prelude.{slice_get, IsTrue, false}
 use Rattle.std.proofs.lemmas.List.{drop_more}
 use Rattle.sn_width.specs.declared.ids.SymId.{SymId}
-use Rattle.path_cases.specs.Bounds.{Case}
-use Rattle.path_cases.specs.declared.bound.SymBound.{SymBound}
+use Rattle.path_formula.specs.Bounds.{Case}
+use Rattle.path_formula.specs.declared.sym_bound.SymBound.{SymBound}
 use Rattle.refutation_check.specs.Cycles.{IsWalk, at_most_of, total, IsNegativeCycle}
 
 same_bound : (g : Case) (n : ℕ) (b d : SymBound) → slice_get g n ≡ Some b → slice_get g n ≡ Some d → d ≡ b

@@ -17,10 +17,10 @@ use Rattle.path_formula.specs.Typed.{PartsAreTyped, IsTyped, AreTyped}
 use Rattle.path_formula.specs.declared.kinds.Kind.{Kind}
 use Rattle.path_formula.specs.declared.kinds.Kind.TheVariants.{Constant, Simple, Inside, Outside}
 use Rattle.path_cond.specs.Seen.{ConditionOf, AllTyped, entry_holds, is_simple_on, meets, in_domain}
-use Rattle.path_cases.specs.Counts.{capped}
+use Rattle.path_formula.specs.CaseCounts.{capped}
 use Rattle.sn_ranges.specs.Sets.{ranges_where}
-use Rattle.case_counts.specs.Occurring.{stands_in, occurs_in, occurs_among, symbol_at, symbols_from}
-use Rattle.case_counts.specs.Seen.{product, couples, is_inside, is_coupled, coupled_symbols, coupled_count, range_count, formula_choices, choice_count}
+use Rattle.path_cond.specs.Occurrences.{stands_in, occurs_in, occurs_among, symbol_at, symbols_from}
+use Rattle.path_cond.specs.Choices.{product, couples, is_inside, is_coupled, coupled_symbols, coupled_count, range_count, formula_choices, choice_count}
 use Rattle.refutation_check.specs.Longer.{zeros, with_widths, with_zeros, WidenFreely}
 use Rattle.refutation_check.specs.Seen.{most_coupled, most_choices, is_possible, HasEmptyDomain, IsSimplyOpen, IsWithinLimits, IsRefuted, HasLeast, IsUndecidedBy}
 use Rattle.refutation_check.specs.declared.outcome.Cause.{Cause}

@@ -3,8 +3,8 @@ use Rattle.std.specs.Prelude.{◌≡◌, ℕ, List, [], ◌∷◌, ◌++◌}
 use Rattle.sn_width.specs.declared.ids.SymId.{SymId}
 use Rattle.path_formula.specs.View.{view}
 use Rattle.path_cond.specs.Conditions.{Condition}
-use Rattle.path_cases.specs.Bounds.{Case}
-use Rattle.path_cases.specs.Cases.{with_bounds}
+use Rattle.path_formula.specs.Bounds.{Case}
+use Rattle.path_formula.specs.Cases.{with_bounds}
 use Rattle.refutation_check.specs.Seen as any
 use Rattle.refutation_check.specs.declared.steps.Refute.{Refute}
 

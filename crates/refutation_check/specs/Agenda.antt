@@ -1,8 +1,8 @@
 -- Alternatives as the checker keeps them.
 use Rattle.std.specs.Prelude.{ℕ, ◌≤◌, List, [], ◌∷◌, ◌++◌, length, reverse, take}
 use Rattle.std.specs.Global.{Vec}
-use Rattle.path_cases.specs.Bounds.{Case}
-use Rattle.path_cases.specs.declared.bound.SymBound.{SymBound}
+use Rattle.path_formula.specs.Bounds.{Case}
+use Rattle.path_formula.specs.declared.sym_bound.SymBound.{SymBound}
 use Rattle.refutation_check.specs.declared.agenda.Agenda.{Agenda}
 use Rattle.refutation_check.specs.declared.agenda.Alternative.{Alternative}
 

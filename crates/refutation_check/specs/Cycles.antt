@@ -1,8 +1,8 @@
 -- Bounds that no integers meet together.
 use Rattle.std.specs.Prelude.{◌≡◌, ℕ, ℤ, pos, ◌+ℤ◌, ◌<ℤ◌, List, [], ◌∷◌, Option, Some, None, slice_get}
 use Rattle.sn_width.specs.declared.ids.SymId.{SymId}
-use Rattle.path_cases.specs.Bounds.{Case}
-use Rattle.path_cases.specs.declared.bound.SymBound.{SymBound}
+use Rattle.path_formula.specs.Bounds.{Case}
+use Rattle.path_formula.specs.declared.sym_bound.SymBound.{SymBound}
 
 -- the bounds of these numbers join head to tail: the first has this plus, the minus of each is the plus of the next, and
 -- the last has this minus

@@ -8,10 +8,10 @@ use Rattle.path_formula.specs.Formulas.{FormulaTree}
 use Rattle.path_cond.specs.Seen.{ConditionOf, entry_holds, first_broken}
 pub use Rattle.path_cond.specs.Seen.{is_possible}
 pub use Rattle.path_cond.specs.Kept.{is_outside_kind, is_outside}
-use Rattle.path_cases.specs.Bounds.{AreValues, Case}
-use Rattle.path_cases.specs.Cases.{cases_of, with_bounds}
-use Rattle.path_cases.specs.Splits.{CanSplit}
-use Rattle.case_counts.specs.Seen.{are_simple_picks, choice_count, coupled_count, domain_cases, meets_picks}
+use Rattle.path_formula.specs.Bounds.{AreValues, Case}
+use Rattle.path_formula.specs.Cases.{cases_of, with_bounds}
+use Rattle.path_formula.specs.Splits.{CanSplit}
+use Rattle.path_cond.specs.Choices.{are_simple_picks, choice_count, coupled_count, domain_cases, meets_picks}
 use Rattle.refutation_check.specs.Cycles.{IsNegativeCycle}
 use Rattle.refutation_check.specs.declared.outcome.Cause.{Cause}
 use Rattle.refutation_check.specs.declared.outcome.Cause.TheVariants.{Outside as OutsideCause, Cases, Coupled}

@@ -3,8 +3,8 @@ use Rattle.std.specs.Prelude.{◌≡◌, ◌↔◌, ℕ, false, List}
 use Rattle.sn_width.specs.declared.ids.SymId.{SymId}
 use Rattle.path_formula.specs.Formulas.{FormulaTree}
 use Rattle.path_cond.specs.Seen.{ConditionOf, itself, seen, holds_at, first_broken, AllTyped}
-use Rattle.path_cases.specs.Bounds.{Case}
-use Rattle.case_counts.specs.Seen.{coupled_symbols, choice_count, domain_cases, first_without_cases}
+use Rattle.path_formula.specs.Bounds.{Case}
+use Rattle.path_cond.specs.Choices.{coupled_symbols, choice_count, domain_cases, first_without_cases}
 use Rattle.refutation_check.specs.Seen.{AreCandidates, AreLeast, HasNoCandidates, first_broken_outside, is_possible, HasEmptyDomain, IsRefuted, IsUndecidedBy, IsMetBy, IsLicensed, Leaves, Refutes, IsAccepted}
 use Rattle.refutation_check.specs.declared.outcome.Cause.{Cause}
 use Rattle.refutation_check.specs.declared.steps.Refute.{Refute}

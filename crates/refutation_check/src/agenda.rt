@@ -1,14 +1,14 @@
 //! The alternatives that a refutation still has to refute.
 
 ghost use Rattle.std.specs.Prelude.{◌≡◌, ◌≤◌, ◌∷◌, ◌++◌, [], List, true, length, map, reverse, take, ◌↔◌, IsTrue, IfOk, OnOk, MatchBool};
-ghost use Rattle.path_cases.specs.Bounds.{Case};
+ghost use Rattle.path_formula.specs.Bounds.{Case};
 ghost use Rattle.refutation_check.specs.Accepted.{Advances};
 ghost use Rattle.refutation_check.specs.Agenda.{pending, IsNested, alternative_with};
 
 use crate::leaves::cases_left;
 use crate::steps::Refute;
-use path_cases::SymBound;
 use path_cond::PathCond;
+use path_formula::SymBound;
 use sn_width::NoMemory;
 use std::alloc::Global;
 

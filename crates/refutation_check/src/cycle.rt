@@ -3,7 +3,7 @@
 ghost use Rattle.std.specs.Prelude.{◌≡◌, ◌+ℤ◌, ◌↔◌, IsTrue, IfOk, MatchOption, slice_get};
 ghost use Rattle.refutation_check.specs.Cycles.{IsWalk, total, IsNegativeCycle};
 
-use path_cases::SymBound;
+use path_formula::SymBound;
 use sn_width::{NoMemory, SymId};
 
 /// The sum of two numbers. A list of bounds whose sum needs more than 128 bits is longer than any memory.

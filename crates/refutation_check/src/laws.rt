@@ -4,13 +4,13 @@ ghost use Rattle.std.specs.Prelude.{◌≡◌, ℕ, false, List, [], ◌∷◌, 
 ghost use Rattle.path_formula.specs.View.{view};
 ghost use Rattle.path_cond.specs.Conditions.{AllTyped, Condition, holds_at};
 ghost use Rattle.path_cond.specs.Seen.{itself};
-ghost use Rattle.path_cases.specs.Bounds.{Case};
+ghost use Rattle.path_formula.specs.Bounds.{Case};
 ghost use Rattle.refutation_check.specs.Accepted.{Advances, IsAccepted, Reaches, Refutes};
 ghost use Rattle.refutation_check.specs.Longer.{ConstantsAreFree, LeastStay, WidenFreely};
 ghost use Rattle.refutation_check.specs.Trees.{AcceptedRefute, IsJudgedByTrees};
 ghost use Rattle.refutation_check.specs.declared.steps.Refute.{Refute as Step};
 
-use path_cases::laws::{
+use path_formula::case_laws::{
     bounds_before_cases_are_met_with_one_of_them,
     one_case_is_met_exactly_where_the_formula_has_the_truth,
     one_range_is_met_exactly_where_the_value_passes,

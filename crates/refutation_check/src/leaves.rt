@@ -1,19 +1,17 @@
 //! What a step of a refutation leaves to be refuted.
 
 ghost use Rattle.std.specs.Prelude.{◌≡◌, ◌≤◌, length, ◌↔◌, true, false, [], List, IsTrue, IfOk, MatchOption};
-ghost use Rattle.path_cases.specs.Bounds.{Case, lists_of};
-ghost use Rattle.case_counts.specs.Counts.{domain_cases};
-ghost use Rattle.case_counts.specs.Picks.{are_simple_picks, is_simple_pick};
+ghost use Rattle.path_formula.specs.Bounds.{Case, lists_of};
+ghost use Rattle.path_cond.specs.Counts.{domain_cases};
+ghost use Rattle.path_cond.specs.Picks.{are_simple_picks, is_simple_pick};
 ghost use Rattle.path_cond.specs.Conditions.{is_simple_on};
 ghost use Rattle.refutation_check.specs.Accepted.{IsUnmeetable, IsDivisible, IsSplitInto, Leaves};
 
 use crate::cycle::is_negative_cycle;
 use crate::steps::Refute;
-use case_counts::{domain_of, values_meeting};
-use path_cases::laws::a_set_has_the_ranges_of_its_test;
-use path_cases::{SymBound, can_split, case_count_of, cases, range_cases};
-use path_cond::PathCond;
-use path_formula::Kind;
+use path_cond::{PathCond, domain_of, values_meeting};
+use path_formula::case_laws::a_set_has_the_ranges_of_its_test;
+use path_formula::{Kind, SymBound, can_split, case_count_of, cases, range_cases};
 use sn_width::{NoMemory, SymId};
 use std::alloc::Global;
 

@@ -6,8 +6,7 @@ ghost use Rattle.refutation_check.specs.Decisions.{is_possible, AreManyCoupled, 
 
 use crate::outcome::Cause;
 use crate::values::{agrees, are_candidates, is_outside};
-use case_counts::{case_count, domain_of};
-use path_cond::PathCond;
+use path_cond::{PathCond, case_count, domain_of};
 use sn_width::{NoMemory, Num, SymId};
 use std::alloc::Global;
 

@@ -5,8 +5,7 @@ ghost use Rattle.std.specs.List.{list_all};
 ghost use Rattle.path_formula.specs.Solutions.{agrees as agreement};
 ghost use Rattle.refutation_check.specs.Least.{AreFitting, AreCandidates, is_outside_kind, holds_unless_outside, FitsAt};
 
-use case_counts::formula_count;
-use path_cond::PathCond;
+use path_cond::{PathCond, formula_count};
 use path_formula::Kind;
 use sn_width::{NoMemory, Num, SymId};
 

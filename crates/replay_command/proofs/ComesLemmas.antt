@@ -19,9 +19,9 @@ use Rattle.record_checks.specs.declared.counts.Confirmed.{Confirmed}
 use Rattle.record_checks.specs.declared.fault.ReplayFault.{ReplayFault}
 use Rattle.record_checks.specs.declared.fault.ReplayFault.TheVariants.{NotConfirmed as IsBroken, NoMemory as NoReplay}
 use Rattle.path_replay.specs.Replaying.{ConfirmsAllFor, ConfirmsFor}
-use Rattle.run_answers.specs.Inputs.{a_net, some_bytes}
+use Rattle.command_runs.specs.Inputs.{a_net, some_bytes}
 use Rattle.command_edge.specs.Puts.{text}
-use Rattle.run_answers.specs.Runs.{IsRefusal}
+use Rattle.command_runs.specs.Runs.{IsRefusal}
 use Rattle.command_edge.specs.declared.ending.Ending.TheVariants.{Done}
 use Rattle.command_edge.specs.declared.fault.OwnFault.{OwnFault}
 use Rattle.command_edge.specs.declared.fault.OwnFault.TheVariants.{BadReport, NotConfirmed, NoMemory}

@@ -14,7 +14,7 @@ use Rattle.record_checks.specs.declared.fault.ReplayFault.TheVariants.{NotConfir
 use Rattle.record_checks.specs.declared.part.Part.{Part}
 use Rattle.record_checks.specs.declared.part.Part.TheVariants.{NotTaken, NotRefuted, OtherEnd, NotUndecided}
 use Rattle.path_replay.specs.Replaying.{ConfirmsFor}
-use Rattle.run_answers.specs.Inputs.{Given, a_net, some_bytes}
+use Rattle.command_runs.specs.Inputs.{Given, a_net, some_bytes}
 use Rattle.command_edge.specs.Puts.{Outcome, text, refused}
 use Rattle.command_edge.specs.declared.ending.Ending.TheVariants.{Done}
 use Rattle.command_edge.specs.declared.fault.OwnFault.{OwnFault}

@@ -1,12 +1,12 @@
 //! The counts of confirmed records as JSON.
 
 ghost use Rattle.std.specs.Prelude.{◌≡◌, string_bytes, IfOk};
-ghost use Rattle.compact_json.specs.Tokens.{Gains};
+ghost use Rattle.run_text.specs.Tokens.{Gains};
 ghost use Rattle.replay_command.specs.Counted.{confirmed_data, confirmed_text};
 
-use compact_json::JsonText;
-use compact_json::laws::objects_are_written;
 use path_replay::Confirmed;
+use run_text::JsonText;
+use run_text::json_laws::objects_are_written;
 use sn_width::NoMemory;
 use std::alloc::Global;
 

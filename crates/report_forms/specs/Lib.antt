@@ -1,2 +1,5 @@
 pub mod Seen
 pub mod Fits
+pub mod Ranges
+pub mod Below
+pub mod Spelled

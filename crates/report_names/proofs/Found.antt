@@ -9,8 +9,8 @@ use Rattle.sn_width.specs.declared.ids.NameId.{NameId}
 use Rattle.sn_width.specs.declared.ids.TagId.{TagId}
 use Rattle.sefl_syntax.specs.Name.{is_name}
 use Rattle.sefl_syntax.specs.Trees.{DeclTree, NetTree}
-use Rattle.net_tables.specs.Places.{node_position}
-use Rattle.net_tables.specs.Laws.{IsNamed}
+use Rattle.net_check.specs.Places.{node_position}
+use Rattle.net_check.specs.Laws.{IsNamed}
 use Rattle.net_check.specs.Network.{Network}
 use Rattle.run_text.specs.Names.{node_name, meta_name, tag_name}
 use Rattle.report_names.specs.Names.{node_named, meta_named, tag_named}

@@ -11,7 +11,7 @@ use Rattle.sefl_syntax.specs.Name.{is_name}
 use Rattle.sefl_syntax.specs.declared.net.Side.{Side}
 use Rattle.sefl_syntax.specs.declared.net.Side.TheVariants.{Inward, Outward}
 use Rattle.sefl_meaning.specs.declared.walk.Place.{Place}
-use Rattle.net_tables.specs.Places.{node_position}
+use Rattle.net_check.specs.Places.{node_position}
 use Rattle.net_check.specs.Network.{Network}
 use Rattle.run_text.specs.Names.{node_name}
 use Rattle.run_text.specs.Forms.{side_text, place_data}

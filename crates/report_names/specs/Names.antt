@@ -5,7 +5,7 @@ use Rattle.sefl_syntax.specs.Name.{is_name}
 use Rattle.sefl_syntax.specs.declared.net.Side.{Side}
 use Rattle.sefl_syntax.specs.declared.net.Side.TheVariants.{Inward, Outward}
 use Rattle.sefl_meaning.specs.declared.walk.Place.{Place}
-use Rattle.net_tables.specs.Places.{node_position}
+use Rattle.net_check.specs.Places.{node_position}
 use Rattle.net_check.specs.Network.{Network}
 use Rattle.report_shape.specs.declared.part.Part.{Part}
 use Rattle.report_shape.specs.declared.part.Part.TheVariants as part

@@ -11,7 +11,7 @@ ghost use Rattle.report_names.specs.Own.{IsOwnNode, IsOwnName, IsOwnTag, IsOwnPl
 use crate::names::{meta_named, node_named, tag_named};
 use crate::places::place_named;
 use net_check::Net;
-use net_tables::laws::positions_have_names;
+use net_check::table_laws::positions_have_names;
 use sefl_meaning::Place;
 use sn_width::{NameId, NoMemory, NodeId, TagId};
 use std::alloc::Global;

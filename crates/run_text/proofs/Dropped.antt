@@ -3,7 +3,7 @@ use Rattle.std.proofs.Common.{◌≡◌, ◌+◌, ℕ, zero, suc, List, [], ◌�
 use Rattle.std.specs.Prelude.{slice_get}
 use Rattle.json.specs.Token.{Token, end_array}
 use Rattle.lin_term.specs.Terms.{Part}
-use Rattle.compact_json.specs.Tokens.{tokens_of, ending, Puts, Adds}
+use Rattle.run_text.specs.Tokens.{tokens_of, ending, Puts, Adds}
 use Rattle.run_text.specs.Forms.{term_part_data, term_parts_data, list}
 
 next : (xs : List Part) (i : ℕ) (x : Part) → slice_get xs i ≡ Some x → drop i xs ≡ x ∷ drop (suc i) xs

@@ -1,1 +1,4 @@
+pub mod Lines
+pub mod ReadBack
+pub mod Steps
 pub mod Dropped

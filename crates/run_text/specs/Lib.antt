@@ -1,3 +1,5 @@
+pub mod Tokens
+pub mod Plain
 pub mod Names
 pub mod Held
 pub mod Forms

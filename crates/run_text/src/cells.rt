@@ -2,14 +2,14 @@
 
 ghost use Rattle.std.specs.Prelude.{List, OnOk};
 ghost use Rattle.serde_json.specs.Data.{Data};
-ghost use Rattle.compact_json.specs.Tokens.{AddsAll, Gains};
+ghost use Rattle.run_text.specs.Tokens.{AddsAll, Gains};
 ghost use Rattle.run_text.specs.Forms.{count, given_by, cell_data, cells_data, number_parts, term_data};
 
+use crate::JsonText;
+use crate::json_laws::lists_are_written;
 use crate::parts::write_value;
 use crate::terms::write_parts;
 use cell_stacks::Cell;
-use compact_json::JsonText;
-use compact_json::laws::lists_are_written;
 use lin_term::Term;
 use sn_width::{NoMemory, Num, Width};
 use std::alloc::Global;

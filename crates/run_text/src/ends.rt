@@ -1,10 +1,10 @@
 //! Ends.
 
-ghost use Rattle.compact_json.specs.Tokens.{Gains};
+ghost use Rattle.run_text.specs.Tokens.{Gains};
 ghost use Rattle.run_text.specs.Forms.{fault_data, message_data, failure_data, end_data};
 
-use compact_json::JsonText;
-use compact_json::laws::objects_are_written;
+use crate::JsonText;
+use crate::json_laws::objects_are_written;
 use sefl_meaning::{End, Failure};
 use sn_width::{NoMemory, Site};
 

@@ -3,16 +3,16 @@
 ghost use Rattle.std.specs.Prelude.{map};
 ghost use Rattle.serde_json.specs.Data.{string};
 ghost use Rattle.net_check.specs.Network.{network};
-ghost use Rattle.compact_json.specs.Tokens.{Gains};
+ghost use Rattle.run_text.specs.Tokens.{Gains};
 ghost use Rattle.run_text.specs.Held.{held_head, held_meta};
 ghost use Rattle.run_text.specs.Names.{meta_name, tag_name};
 ghost use Rattle.run_text.specs.Forms.{owner_data, head_data, meta_data, tag_data, heads_data, metas_data, tags_data, fields_data};
 
+use crate::JsonText;
 use crate::cells::{CellValue, write_cells};
+use crate::json_laws::{lists_are_written, objects_are_written};
 use crate::names::{name_text, node_text, tag_text};
 use cell_stacks::Cell;
-use compact_json::JsonText;
-use compact_json::laws::{lists_are_written, objects_are_written};
 use net_check::Net;
 use sn_width::{NameId, NoMemory, NodeId, TagId};
 use std::alloc::Global;

@@ -2,12 +2,12 @@
 
 ghost use Rattle.std.specs.Prelude.{◌≡◌, ◌++◌, string_bytes, codes, decimal, IfOk};
 ghost use Rattle.net_check.specs.Network.{network};
-ghost use Rattle.compact_json.specs.Tokens.{Gains};
+ghost use Rattle.run_text.specs.Tokens.{Gains};
 ghost use Rattle.run_text.specs.Names.{node_name};
 ghost use Rattle.run_text.specs.Forms.{value_data, values_data, decision_data, decisions_data, place_data, places_data};
 
+use crate::JsonText;
 use crate::names::node_text;
-use compact_json::JsonText;
 use net_check::Net;
 use sefl_meaning::{Decision, Place};
 use sefl_syntax::Side;

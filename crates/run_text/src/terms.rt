@@ -1,11 +1,11 @@
 //! Terms.
 
-ghost use Rattle.compact_json.specs.Tokens.{Gains};
+ghost use Rattle.run_text.specs.Tokens.{Gains};
 ghost use Rattle.run_text.specs.Forms.{term_part_data, term_parts_data};
 
+use crate::JsonText;
+use crate::json_laws::lists_are_written;
 use crate::parts::write_value;
-use compact_json::JsonText;
-use compact_json::laws::lists_are_written;
 use lin_term::Term;
 use sn_width::{NoMemory, Num, SymId};
 use std::alloc::Global;

@@ -6,3 +6,6 @@ pub mod Reading
 pub mod Runs
 pub mod Stands
 pub mod Steps
+pub mod PacketBytes
+pub mod PacketRuns
+pub mod PacketSpelling

@@ -12,7 +12,7 @@ use Rattle.job_items.specs.AtomRules.{width_of}
 use Rattle.job_items.specs.Items as items
 use Rattle.job_items.specs.Items.{Item, instr_item, within, inner_items, code_items, one_port_items, port_items, decl_items, node_items, link_items, net_items, with_input, with_output}
 use Rattle.job_items.specs.Nodes.{Nodes, with_node, nodes_after, ports_of, codes_of}
-use Rattle.net_tables.specs.Places.{codes_of_node, is_port}
+use Rattle.net_check.specs.Places.{codes_of_node, is_port}
 use Rattle.net_check.specs.Keeping.{KeepsRules}
 use Rattle.sefl_meaning.specs.declared.walk.Failure.TheVariants.{Constraint}
 use Rattle.sefl_meaning.specs.Values.{Values}

@@ -40,9 +40,9 @@ use Rattle.std.proofs.lemmas.Option.{slice_get_within}
 use Rattle.sefl_syntax.specs.Trees.{NetTree}
 use Rattle.job_items.specs.Items.{value_items, test_item}
 use Rattle.job_items.specs.Tags.{tags_after}
-use Rattle.net_tables.specs.Laws.{IsCodePlace, IsLinked, IsNamed, place_on}
-use Rattle.net_tables.specs.Places as places
-use Rattle.net_tables.specs.Places.{Port, code_place, link_from, node_position}
+use Rattle.net_check.specs.Laws.{IsCodePlace, IsLinked, IsNamed, place_on}
+use Rattle.net_check.specs.Places as places
+use Rattle.net_check.specs.Places.{Port, code_place, link_from, node_position}
 use Rattle.net_check.specs.Keeping.{HasNamesOf, IsAmong, line_items}
 use Rattle.net_check.specs.Sound.{AreIdsFrom}
 use Rattle.sefl_meaning.specs.declared.walk.Turn.{Turn}

@@ -6,10 +6,10 @@ use Rattle.sn_width.specs.declared.ids.NameId.{NameId}
 use Rattle.sn_width.specs.declared.ids.NodeId.{NodeId}
 use Rattle.sefl_syntax.specs.declared.net.Side.{Side}
 use Rattle.sefl_syntax.specs.Trees.{CodeTree}
-use Rattle.net_tables.specs.Places.{Port, code_site, link_from}
+use Rattle.net_check.specs.Places.{Port, code_site, link_from}
 use Rattle.net_check.specs.Network.{code_at}
 pub use Rattle.net_check.specs.Network.{Network, Entry, names_found}
-pub use Rattle.net_tables.specs.Places.{code_size, inner_size}
+pub use Rattle.net_check.specs.Places.{code_size, inner_size}
 
 -- the id of a name is its index among the names of the job; the number past them where it is none of these
 abbrev pub tag_id : Network → List ℕ → TagId

@@ -22,7 +22,7 @@ use crate::laws::{
     Truths, accepted_injections_go, runs_are_ways, valuing_commutes, widths_are_kept,
 };
 use net_check::laws::{found_names_ascend, names_are_known, packets_enter_a_node};
-use net_tables::laws::{codes_have_places, links_are_told, positions_have_names};
+use net_check::table_laws::{codes_have_places, links_are_told, positions_have_names};
 
 /// What is explored from an injection: the walks of a packet are those of its tree over numbers, a packet
 /// starts exactly where all tests are true there, functions that respect the operations commute with it,

@@ -17,7 +17,7 @@ use Rattle.sefl_meaning.specs.Runs.{Progress, off, go, forked, failed}
 use Rattle.sefl_meaning.specs.Courses.{Course, ends, asks, after}
 use Rattle.sefl_meaning.specs.Trees.{arrives, copies, leave, over, passed, crossed, port_course, then_tree}
 use Rattle.term_values.specs.TermValues.{terms}
-use Rattle.port_moves.specs.Hops.{AreLeft}
+use Rattle.cell_values.specs.Hops.{AreLeft}
 use Rattle.code_frames.specs.declared.frame.Frame.{Frame}
 use Rattle.code_frames.specs.declared.frame.Move.{Move}
 use Rattle.code_frames.specs.Frames as code

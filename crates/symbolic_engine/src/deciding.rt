@@ -8,8 +8,7 @@ ghost use Rattle.exact_records.specs.Spots.{IsKnown};
 ghost use Rattle.symbolic_engine.specs.Finding.{IsFoundOf, values_in, broken_in};
 ghost use Rattle.symbolic_engine.specs.Origins.{condition_seen};
 
-use case_counts::formula_count;
-use path_cond::PathCond;
+use path_cond::{PathCond, formula_count};
 use path_solver::laws::{a_base_stays_one, the_values_of_a_decision_are_a_base};
 use path_solver::{Base, Decided, decide_after};
 use refutation_check::laws::a_condition_is_judged_by_its_trees;

@@ -3,12 +3,12 @@ use Rattle.std.proofs.Common.{ℕ, ◌≡◌, ◌⊎◌, List, [], ◌++◌, Opt
 use Rattle.std.specs.Io.KnownBytes.{append_known}
 use Rattle.sn_edge.specs.MemFolder.{file_at}
 use Rattle.caller_edge.specs.Outside.{GivenState, IsKeptPut, files_told, output_told}
-use Rattle.run_answers.specs.Inputs.{Input, FirstFails, IsSettled}
-use Rattle.run_answers.specs.Outside.{Outside, Tells, World, world}
-use Rattle.run_answers.specs.Runs.{OwnWork}
-use Rattle.run_answers.specs.Status.{input_status}
-use Rattle.run_answers.specs.declared.status.Status.{Status}
-use Rattle.run_answers.specs.declared.status.Status.TheVariants.{Usage, NoFile, ReadFault, WriteFault, TooBig, Syntax, BadPattern, Refused, BadTable, BadPacket, BadReport, BadAsk}
+use Rattle.command_runs.specs.Inputs.{Input, FirstFails, IsSettled}
+use Rattle.command_runs.specs.Outside.{Outside, Tells, World, world}
+use Rattle.command_runs.specs.Runs.{OwnWork}
+use Rattle.command_runs.specs.Status.{input_status}
+use Rattle.command_runs.specs.declared.status.Status.{Status}
+use Rattle.command_runs.specs.declared.status.Status.TheVariants.{Usage, NoFile, ReadFault, WriteFault, TooBig, Syntax, BadPattern, Refused, BadTable, BadPacket, BadReport, BadAsk}
 use Rattle.command_edge.specs.declared.fault.InputFault.{InputFault}
 use Rattle.command_words.specs.Commands.{Command, read_command}
 use Rattle.symnet_program.specs.Commands.{inputs, work}

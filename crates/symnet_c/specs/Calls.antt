@@ -4,11 +4,11 @@ use Rattle.sn_edge.specs.MemFolder.{file_at}
 use Rattle.sn_edge.specs.Told.{PatternsTold}
 use Rattle.sn_edge.specs.declared.patterns.Found.{Found}
 use Rattle.regex_patterns.specs.Found.{IsFoundByRegex, finds_match, refusals_after}
-use Rattle.run_answers.specs.Inputs.{FirstFails, IsSettled}
-use Rattle.run_answers.specs.Outside.{Outside, World, outside, world}
-use Rattle.run_answers.specs.Status.{input_status, number_of}
-use Rattle.run_answers.specs.declared.status.Status.{Status}
-use Rattle.run_answers.specs.declared.status.Status.TheVariants.{NoFile, ReadFault, WriteFault, TooBig, BadPattern}
+use Rattle.command_runs.specs.Inputs.{FirstFails, IsSettled}
+use Rattle.command_runs.specs.Outside.{Outside, World, outside, world}
+use Rattle.command_runs.specs.Status.{input_status, number_of}
+use Rattle.command_runs.specs.declared.status.Status.{Status}
+use Rattle.command_runs.specs.declared.status.Status.TheVariants.{NoFile, ReadFault, WriteFault, TooBig, BadPattern}
 use Rattle.command_edge.specs.declared.fault.InputFault.{InputFault}
 use Rattle.command_words.specs.Commands.{Command, read_command}
 use Rattle.symnet_program.specs.Commands.{inputs, work}

@@ -7,8 +7,8 @@ ghost use Rattle.caller_edge.specs.Lists.{HasFiles, HasTexts};
 
 use crate::message::message_of;
 use caller_edge::{GivenFiles, KeptOutput, NamedFile, put, read_files, read_texts};
+use command_runs::Status;
 use regex_patterns::RegexPatterns;
-use run_answers::Status;
 use std::alloc::{AllocError, Global};
 use symnet_program::laws::runs_tell;
 use symnet_program::symnet;

@@ -1,10 +1,10 @@
 //! What is said of a status for people: the lines that the program shows on standard error. Nothing is claimed of it.
 
 use caller_edge::GivenFiles;
+use command_runs::Status;
 use fault_places::{is_plain, place_text, plain_text};
 use fault_words::reason_text;
 use regex_patterns::RegexPatterns;
-use run_answers::Status;
 use std::alloc::{AllocError, Global};
 
 fn add_line(text: &mut Vec<u8>, line: &str) -> Result<(), AllocError> {

@@ -1,10 +1,10 @@
 //! The program `symnet`: symbolic execution of SEFL network models.
 #![tactic(auto)]
 
+use command_runs::Status;
 use fault_places::{KeepingFolder, KeptFolder, is_plain, place_text, plain_text};
 use fault_words::reason_text;
 use regex_patterns::RegexPatterns;
-use run_answers::Status;
 use sn_edge::{DirFolder, OutSink, Printed};
 use std::process::ExitCode;
 use std::rt::{Env, Files};

@@ -10,14 +10,14 @@ use Rattle.job_items.specs.declared.rule.Rule.{Rule}
 use Rattle.net_check.specs.Network.{Network, Entry}
 use Rattle.net_check.specs.Sound.{IsSound}
 use Rattle.command_edge.specs.Files.{HasFile, LoadFails}
-use Rattle.run_answers.specs.Flaws.{Flaw, HasFlaw, flaw_of}
-use Rattle.run_answers.specs.Refusals.{fault_by_number, fault_by_rule}
-use Rattle.run_answers.specs.Jobs.{AcceptFails, HasJob, IsOnlyFlaw, IsOnlyJob, IsRefusedAt, IsTextOf, ReadFails, first_bad}
-use Rattle.run_answers.specs.Outside.{World, world}
-use Rattle.run_answers.specs.Inputs.{Input, Given, a_job, a_net, AllOpen, FirstFails, IsSettled, Opens, Fails}
+use Rattle.command_runs.specs.Flaws.{Flaw, HasFlaw, flaw_of}
+use Rattle.command_runs.specs.Refusals.{fault_by_number, fault_by_rule}
+use Rattle.command_runs.specs.Jobs.{AcceptFails, HasJob, IsOnlyFlaw, IsOnlyJob, IsRefusedAt, IsTextOf, ReadFails, first_bad}
+use Rattle.command_runs.specs.Outside.{World, world}
+use Rattle.command_runs.specs.Inputs.{Input, Given, a_job, a_net, AllOpen, FirstFails, IsSettled, Opens, Fails}
 use Rattle.command_edge.specs.Puts.{Outcome, text, refused}
-use Rattle.run_answers.specs.Runs.{OwnWork}
-use Rattle.run_answers.specs.Tables.{CodeFails, FirstUnfilled, IsFilled}
+use Rattle.command_runs.specs.Runs.{OwnWork}
+use Rattle.command_runs.specs.Tables.{CodeFails, FirstUnfilled, IsFilled}
 use Rattle.command_edge.specs.declared.limits.TheConstants.{FILE_LIMIT}
 use Rattle.command_edge.specs.declared.ending.Ending.TheVariants as ending
 use Rattle.command_edge.specs.declared.fault.InputFault.{InputFault}
@@ -26,11 +26,11 @@ use Rattle.command_edge.specs.declared.fault.OwnFault.TheVariants as working
 use Rattle.explore_command.specs.Explores.{ReportsOf}
 use Rattle.symnet_program.specs.Commands.{inputs, sides_of, work}
 use Rattle.symnet_program.specs.Program.{Cause, Comes, IsCaused}
-use Rattle.run_answers.specs.Status.{IsStopped, IsUnread, IsWritten, MayBeBad, input_status, outcome_status}
+use Rattle.command_runs.specs.Status.{IsStopped, IsUnread, IsWritten, MayBeBad, input_status, outcome_status}
 use Rattle.command_words.specs.Commands.{Command, explore}
 use Rattle.command_words.specs.declared.command.Pruned.{Pruned}
-use Rattle.run_answers.specs.declared.status.Status.{Status}
-use Rattle.run_answers.specs.declared.status.Status.TheVariants.{Done, NoMemory, Usage, NoFile, ReadFault, WriteFault, TooBig, Syntax, BadPattern, Refused, BadTable, BadPacket, Partial, TooMany, BadReport, NotConfirmed, BadAsk, BadCompare}
+use Rattle.command_runs.specs.declared.status.Status.{Status}
+use Rattle.command_runs.specs.declared.status.Status.TheVariants.{Done, NoMemory, Usage, NoFile, ReadFault, WriteFault, TooBig, Syntax, BadPattern, Refused, BadTable, BadPacket, Partial, TooMany, BadReport, NotConfirmed, BadAsk, BadCompare}
 
 some_and : {T : Type 0} (o : Option T) (P : T → Type 0) → IsSomeAnd o P → (x : T) × (o ≡ Some x) × P x
 some_and None P h = absurd h

@@ -1,18 +1,18 @@
 -- Where all inputs are good, the status tells what the own work comes to.
 use Rattle.std.proofs.Common.{◌≡◌, ◌⊎◌, inl, inr, refl, subst, List, ℕ, Bool, Option, None, Some}
-use Rattle.run_answers.specs.Outside.{World, world}
-use Rattle.run_answers.specs.Inputs.{Input, Given, AllOpen, FirstFails, IsSettled}
+use Rattle.command_runs.specs.Outside.{World, world}
+use Rattle.command_runs.specs.Inputs.{Input, Given, AllOpen, FirstFails, IsSettled}
 use Rattle.command_edge.specs.Puts.{Outcome, text, refused}
-use Rattle.run_answers.specs.Runs.{OwnWork}
+use Rattle.command_runs.specs.Runs.{OwnWork}
 use Rattle.command_edge.specs.declared.ending.Ending.TheVariants as ending
 use Rattle.command_edge.specs.declared.fault.InputFault.{InputFault}
 use Rattle.command_edge.specs.declared.fault.InputFault.TheVariants as input
 use Rattle.command_edge.specs.declared.fault.OwnFault.TheVariants as own
 use Rattle.symnet_program.specs.Program.{Cause, Comes}
-use Rattle.run_answers.specs.Status.{outcome_status}
+use Rattle.command_runs.specs.Status.{outcome_status}
 use Rattle.symnet_program.specs.Told.{MayStop}
-use Rattle.run_answers.specs.declared.status.Status.{Status}
-use Rattle.run_answers.specs.declared.status.Status.TheVariants.{Done, NoMemory, Usage, NoFile, ReadFault, WriteFault, TooBig, Syntax, BadPattern, Refused, BadTable, BadPacket, Partial, TooMany, BadReport, NotConfirmed, BadAsk, BadCompare}
+use Rattle.command_runs.specs.declared.status.Status.{Status}
+use Rattle.command_runs.specs.declared.status.Status.TheVariants.{Done, NoMemory, Usage, NoFile, ReadFault, WriteFault, TooBig, Syntax, BadPattern, Refused, BadTable, BadPacket, Partial, TooMany, BadReport, NotConfirmed, BadAsk, BadCompare}
 
 module _ (is : List Input) (w : OwnWork) (p : World) (given : List Given)
     (once : (other : List Given) → AllOpen (world p) tt is other tt → other ≡ given)

@@ -3,11 +3,11 @@ use Rattle.std.proofs.Common.{◌≡◌, ◌⊎◌, inl, inr, ap, sym, subst, re
 use Rattle.sn_edge.specs.Told.{FolderTold, PatternsTold, SinkTold}
 use Rattle.sn_edge.specs.declared.folder.Loaded.{Loaded}
 use Rattle.sn_edge.specs.declared.patterns.Found.{Found}
-use Rattle.run_answers.specs.Outside.{Outside, World, Tells, outside, world}
-use Rattle.run_answers.specs.Inputs.{Input, Given, AllOpen, FirstFails, IsSettled}
+use Rattle.command_runs.specs.Outside.{Outside, World, Tells, outside, world}
+use Rattle.command_runs.specs.Inputs.{Input, Given, AllOpen, FirstFails, IsSettled}
 use Rattle.command_edge.specs.Files.{InputShows}
 use Rattle.command_edge.specs.Puts.{Outcome, text, refused}
-use Rattle.run_answers.specs.Runs.{OwnWork, Shows}
+use Rattle.command_runs.specs.Runs.{OwnWork, Shows}
 use Rattle.command_edge.specs.declared.fault.InputFault.{InputFault}
 use Rattle.command_edge.specs.declared.fault.InputFault.TheVariants as input
 use Rattle.command_edge.specs.declared.fault.OwnFault.{OwnFault}
@@ -17,13 +17,13 @@ use Rattle.command_edge.specs.declared.ending.Ending.TheVariants as ending
 use Rattle.command_edge.specs.declared.ending.Stop.{Stop}
 use Rattle.command_edge.specs.declared.ending.Stop.TheVariants.{Input as ByInput, Own, Write, NoMemory as NoRoom}
 use Rattle.symnet_program.proofs.ToldLemmas.{first_told, all_told}
-use Rattle.run_answers.specs.Status.{input_status, own_status, status_of}
+use Rattle.command_runs.specs.Status.{input_status, own_status, status_of}
 use Rattle.symnet_program.specs.Told.{MayBeUnread}
 use Rattle.symnet_program.specs.Commands.{inputs, work}
 use Rattle.command_words.specs.Commands.{Command}
 use Rattle.symnet_program.specs.Program.{Cause, Comes, IsAnswered, IsCaused, RefusesInput, Shown, Stops}
-use Rattle.run_answers.specs.declared.status.Status.{Status}
-use Rattle.run_answers.specs.declared.status.Status.TheVariants.{Done, NoMemory, Usage, NoFile, ReadFault, WriteFault, TooBig, Syntax, BadPattern, Refused, BadTable, BadPacket, Partial, TooMany, BadReport, NotConfirmed, BadAsk, BadCompare}
+use Rattle.command_runs.specs.declared.status.Status.{Status}
+use Rattle.command_runs.specs.declared.status.Status.TheVariants.{Done, NoMemory, Usage, NoFile, ReadFault, WriteFault, TooBig, Syntax, BadPattern, Refused, BadTable, BadPacket, Partial, TooMany, BadReport, NotConfirmed, BadAsk, BadCompare}
 
 module _ {S : Type 0} (o : Outside S) (u v : S) (is : List Input) (w : OwnWork) where
   -- ---- with no count raised

@@ -5,14 +5,14 @@ use Rattle.sn_edge.specs.Putting.{TakesUntil}
 use Rattle.sn_edge.specs.Told.{SinkTold}
 use Rattle.sn_edge.specs.declared.sink.Put.{Put}
 use Rattle.sn_edge.proofs.Putting.{known_alone, takes_none, until_all, until_taken}
-use Rattle.run_answers.specs.Outside.{Outside}
+use Rattle.command_runs.specs.Outside.{Outside}
 use Rattle.net_check.specs.Network.{Network, Entry}
-use Rattle.run_answers.specs.Inputs.{Input, Given, a_net, AllOpen}
+use Rattle.command_runs.specs.Inputs.{Input, Given, a_net, AllOpen}
 use Rattle.command_edge.specs.Puts.{text}
-use Rattle.run_answers.specs.Runs.{OwnWork, IsRefusal, Runs}
-use Rattle.run_answers.specs.Status.{input_status, own_status, status_of}
-use Rattle.run_answers.specs.declared.status.Status.{Status}
-use Rattle.run_answers.specs.declared.status.Status.TheVariants.{Done, NoMemory, Usage, NoFile, ReadFault, WriteFault, TooBig, Syntax, BadPattern, Refused, BadTable, BadPacket, Partial, TooMany, BadReport, NotConfirmed, BadAsk, BadCompare}
+use Rattle.command_runs.specs.Runs.{OwnWork, IsRefusal, Runs}
+use Rattle.command_runs.specs.Status.{input_status, own_status, status_of}
+use Rattle.command_runs.specs.declared.status.Status.{Status}
+use Rattle.command_runs.specs.declared.status.Status.TheVariants.{Done, NoMemory, Usage, NoFile, ReadFault, WriteFault, TooBig, Syntax, BadPattern, Refused, BadTable, BadPacket, Partial, TooMany, BadReport, NotConfirmed, BadAsk, BadCompare}
 use Rattle.command_edge.specs.declared.fault.InputFault.{InputFault}
 use Rattle.command_edge.specs.declared.fault.InputFault.TheVariants as input
 use Rattle.command_edge.specs.declared.fault.OwnFault.{OwnFault}

@@ -7,10 +7,10 @@ use Rattle.std.specs.Option.{ForSome}
 use Rattle.sefl_syntax.specs.Trees.{JobTree}
 use Rattle.net_check.specs.Network.{Network, Entry}
 use Rattle.command_edge.specs.Files.{LoadFails}
-use Rattle.run_answers.specs.Jobs.{AcceptFails, ListsFound, first_bad}
-use Rattle.run_answers.specs.Outside.{Outside, World, outside, world}
-use Rattle.run_answers.specs.Inputs.{Input, Given, a_job, a_made_job, a_file, AllOpen, FirstFails, Opens, Fails}
-use Rattle.run_answers.proofs.LoadLemmas.{file_told, job_told, no_job_told}
+use Rattle.command_runs.specs.Jobs.{AcceptFails, ListsFound, first_bad}
+use Rattle.command_runs.specs.Outside.{Outside, World, outside, world}
+use Rattle.command_runs.specs.Inputs.{Input, Given, a_job, a_made_job, a_file, AllOpen, FirstFails, Opens, Fails}
+use Rattle.command_runs.proofs.LoadLemmas.{file_told, job_told, no_job_told}
 use Rattle.command_edge.specs.declared.fault.InputFault.{InputFault}
 use Rattle.command_edge.specs.declared.fault.InputFault.TheVariants.{BadPattern, Refused, NoMemory}
 

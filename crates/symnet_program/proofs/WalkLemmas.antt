@@ -6,11 +6,11 @@ use Rattle.std.specs.Prelude.{IsSomeAnd}
 use Rattle.sefl_syntax.specs.Trees.{JobTree}
 use Rattle.net_check.specs.Network.{Network, Entry}
 use Rattle.net_check.specs.Sound.{IsSound}
-use Rattle.packet_file.specs.Packet.{packet_of}
+use Rattle.sefl_lex.specs.Packets.{packet_of}
 use Rattle.command_edge.specs.Files.{LoadFails}
-use Rattle.run_answers.specs.Jobs.{HasFilled, ListsFound, first_bad}
-use Rattle.run_answers.specs.Outside.{World, world}
-use Rattle.run_answers.specs.Inputs.{Given, a_job, a_file, a_net, some_bytes, AllOpen, Opens, IsSettled}
+use Rattle.command_runs.specs.Jobs.{HasFilled, ListsFound, first_bad}
+use Rattle.command_runs.specs.Outside.{World, world}
+use Rattle.command_runs.specs.Inputs.{Given, a_job, a_file, a_net, some_bytes, AllOpen, Opens, IsSettled}
 use Rattle.command_edge.specs.Puts.{Outcome}
 use Rattle.command_edge.specs.declared.limits.TheConstants.{FILE_LIMIT}
 use Rattle.command_edge.specs.declared.fault.InputFault.{InputFault}
@@ -18,11 +18,11 @@ use Rattle.command_edge.specs.declared.fault.InputFault.TheVariants as input
 use Rattle.walk_command.specs.Walks.{WalksOf}
 use Rattle.symnet_program.specs.Commands.{inputs, work}
 use Rattle.symnet_program.specs.Program.{IsCaused}
-use Rattle.run_answers.specs.Status.{IsUnread, MayBeBad, OrBad, input_status, outcome_status}
+use Rattle.command_runs.specs.Status.{IsUnread, MayBeBad, OrBad, input_status, outcome_status}
 use Rattle.symnet_program.specs.Told.{MayBeUnread, MayStop, TellsNet}
 use Rattle.command_words.specs.Commands.{walk}
-use Rattle.run_answers.specs.declared.status.Status.{Status}
-use Rattle.run_answers.specs.declared.status.Status.TheVariants.{NoMemory, NoFile, ReadFault, WriteFault, TooBig, BadPattern}
+use Rattle.command_runs.specs.declared.status.Status.{Status}
+use Rattle.command_runs.specs.declared.status.Status.TheVariants.{NoMemory, NoFile, ReadFault, WriteFault, TooBig, BadPattern}
 use Rattle.symnet_program.proofs.CaseLemmas.{FilledOnce, JobCase, case_of, has_bad, is_unfilled, breaks_rule, is_taken, job_in, sound_or_refused, unread_stops}
 use Rattle.symnet_program.proofs.OwnLemmas.{own_told}
 use Rattle.symnet_program.proofs.ProgramLemmas.{Decides, exact_of}

@@ -1,7 +1,7 @@
 -- Each command: what it reads, in order, and its own work.
 use Rattle.std.specs.Prelude.{ℕ, ◌≡◌, List, [], ◌∷◌}
-use Rattle.run_answers.specs.Inputs.{Input, a_job, a_made_job, a_file}
-use Rattle.run_answers.specs.Runs.{OwnWork, one_piece}
+use Rattle.command_runs.specs.Inputs.{Input, a_job, a_made_job, a_file}
+use Rattle.command_runs.specs.Runs.{OwnWork, one_piece}
 use Rattle.command_edge.specs.declared.limits.TheConstants.{FILE_LIMIT}
 use Rattle.explore_command.specs.Explores.{explore_work}
 use Rattle.ask_command.specs.Asks.{AskComes}
@@ -14,7 +14,7 @@ use Rattle.grow_command.specs.Grows.{GrowComes}
 use Rattle.replay_command.specs.Replays.{ReplayComes}
 use Rattle.replay_command.specs.declared.replay.TheConstants.{REPORT_LIMIT}
 use Rattle.model_command.specs.Models.{ModelComes}
-use Rattle.click_command.specs.Models.{ClickComes}
+use Rattle.model_command.specs.ClickModels.{ClickComes}
 use Rattle.acl_command.specs.declared.model.ListStyle.{ListStyle}
 use Rattle.acl_command.specs.declared.model.ListStyle.TheVariants as list
 use Rattle.acl_command.specs.Commands.{AclComes, RulesComes}

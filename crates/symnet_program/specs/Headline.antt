@@ -2,7 +2,7 @@
 use Rattle.std.specs.Prelude.{ℕ, List}
 use Rattle.sefl_syntax.specs.Trees.{JobTree}
 use Rattle.net_check.specs.Network.{Network, Entry}
-use Rattle.run_answers.specs.Outside.{Outside}
+use Rattle.command_runs.specs.Outside.{Outside}
 use Rattle.command_edge.specs.declared.ending.Ending.{Ending}
 use Rattle.record_lines.specs.declared.lines.RefutedSides.{RefutedSides}
 use Rattle.explore_command.specs.Explores.{IsReport}

@@ -1,18 +1,18 @@
 -- Why the program answers so, and what it wrote.
 use Rattle.std.specs.Prelude.{ℕ, ◌≡◌, ◌⊎◌, ◌<◌, List, [], Option, None, Some}
 use Rattle.sn_edge.specs.Told.{FolderTold, PatternsTold, SinkTold}
-use Rattle.run_answers.specs.Outside.{Outside}
-use Rattle.run_answers.specs.Inputs.{Input, Given, AllOpen, FirstFails}
+use Rattle.command_runs.specs.Outside.{Outside}
+use Rattle.command_runs.specs.Inputs.{Input, Given, AllOpen, FirstFails}
 use Rattle.command_edge.specs.Puts.{Outcome, text, refused}
-use Rattle.run_answers.specs.Runs.{OwnWork}
+use Rattle.command_runs.specs.Runs.{OwnWork}
 use Rattle.command_edge.specs.declared.fault.InputFault.{InputFault}
 use Rattle.command_edge.specs.declared.fault.InputFault.TheVariants as input
 use Rattle.command_edge.specs.declared.fault.OwnFault.TheVariants as own
 use Rattle.command_edge.specs.declared.ending.Ending.TheVariants as ending
 use Rattle.command_words.specs.Commands.{Command}
 use Rattle.symnet_program.specs.Commands.{inputs, work}
-use Rattle.run_answers.specs.declared.status.Status.{Status}
-use Rattle.run_answers.specs.declared.status.Status.TheVariants.{Done, NoMemory, Usage, NoFile, ReadFault, WriteFault, TooBig, Syntax, BadPattern, Refused, BadTable, BadPacket, Partial, TooMany, BadReport, NotConfirmed, BadAsk, BadCompare}
+use Rattle.command_runs.specs.declared.status.Status.{Status}
+use Rattle.command_runs.specs.declared.status.Status.TheVariants.{Done, NoMemory, Usage, NoFile, ReadFault, WriteFault, TooBig, Syntax, BadPattern, Refused, BadTable, BadPacket, Partial, TooMany, BadReport, NotConfirmed, BadAsk, BadCompare}
 
 -- of an outside whose patterns go from state to state, a command with these inputs and this own work
 module _ {S : Type 0} (o : Outside S) (u v : S) (is : List Input) (w : OwnWork) where

@@ -3,12 +3,12 @@ use Rattle.std.specs.Prelude.{ℕ, ◌≡◌, ◌⊎◌, List, [], ◌∷◌, Op
 use Rattle.sn_edge.specs.Putting.{Takes, TakesPart, TakesUntil}
 use Rattle.sn_edge.specs.Told.{SinkTold}
 use Rattle.sn_edge.specs.declared.sink.Put.{Put}
-use Rattle.run_answers.specs.Outside.{Outside}
-use Rattle.run_answers.specs.Inputs.{Given, AllOpen, FirstFails, a_net}
-use Rattle.run_answers.specs.Runs.{OwnWork}
-use Rattle.run_answers.specs.Status.{input_status}
-use Rattle.run_answers.specs.declared.status.Status.{Status}
-use Rattle.run_answers.specs.declared.status.Status.TheVariants.{Done, NoMemory, Usage, WriteFault, BadTable, BadPacket, Partial, TooMany, BadReport, NotConfirmed, BadAsk, BadCompare}
+use Rattle.command_runs.specs.Outside.{Outside}
+use Rattle.command_runs.specs.Inputs.{Given, AllOpen, FirstFails, a_net}
+use Rattle.command_runs.specs.Runs.{OwnWork}
+use Rattle.command_runs.specs.Status.{input_status}
+use Rattle.command_runs.specs.declared.status.Status.{Status}
+use Rattle.command_runs.specs.declared.status.Status.TheVariants.{Done, NoMemory, Usage, WriteFault, BadTable, BadPacket, Partial, TooMany, BadReport, NotConfirmed, BadAsk, BadCompare}
 use Rattle.command_edge.specs.Puts.{text, refused}
 use Rattle.command_edge.specs.declared.ending.Ending.{Ending}
 use Rattle.command_edge.specs.declared.ending.Ending.TheVariants as ending

@@ -3,12 +3,12 @@ use Rattle.std.specs.Prelude.{ℕ, ◌≡◌, ◌≤◌, Bool, List, length, Non
 use Rattle.sefl_syntax.specs.Trees.{JobTree}
 use Rattle.net_check.specs.Network.{Network, Entry}
 use Rattle.net_check.specs.Sound.{IsSound, IsNetOf, IsEntryOf}
-use Rattle.run_answers.specs.Jobs.{IsTextOf, ListsFound}
-use Rattle.run_answers.specs.Outside.{World}
-use Rattle.run_answers.specs.Tables.{IsFilled}
+use Rattle.command_runs.specs.Jobs.{IsTextOf, ListsFound}
+use Rattle.command_runs.specs.Outside.{World}
+use Rattle.command_runs.specs.Tables.{IsFilled}
 use Rattle.command_edge.specs.declared.limits.TheConstants.{FILE_LIMIT}
-use Rattle.run_answers.specs.declared.status.Status.{Status}
-use Rattle.run_answers.specs.declared.status.Status.TheVariants.{NoMemory, ReadFault, WriteFault, BadPattern}
+use Rattle.command_runs.specs.declared.status.Status.{Status}
+use Rattle.command_runs.specs.declared.status.Status.TheVariants.{NoMemory, ReadFault, WriteFault, BadPattern}
 
 -- the outside failed, or there was no memory; or a pattern was refused, where it is not told which are bad
 abbrev pub MayStop : World → Status → Type 0

@@ -1,7 +1,7 @@
 //! Runs of rows.
 
+use command_runs::Status;
 use row_tables::{Ending, Given};
-use run_answers::Status;
 use sn_edge::{MemFolder, MemPatterns, MemSink};
 use std::alloc::{AllocError, Global};
 use symnet_program::symnet;

@@ -8,7 +8,7 @@ use Rattle.serde_json.specs.Data.{Data, null, string, array, object, Items, no_i
 use Rattle.serde_json.specs.Read.{read, max_depth}
 use Rattle.serde_json.specs.View.{items_of}
 use Rattle.serde_json.specs.Written.{compact_text}
-use Rattle.compact_json.specs.Plain.{AllAbove, IsSorted, IsPlain, ArePlain, HasPlain}
+use Rattle.run_text.specs.Plain.{AllAbove, IsSorted, IsPlain, ArePlain, HasPlain}
 use Rattle.run_text.specs.Forms.{list, count, value_data, values_data, address_data}
 use Rattle.report_forms.specs.Fits.{AddressFits}
 

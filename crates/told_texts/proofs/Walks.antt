@@ -29,7 +29,7 @@ use Rattle.run_text.specs.Names.{meta_name, node_name, tag_name}
 use Rattle.report_names.specs.Names.{meta_named, node_named, place_named, tag_named}
 use Rattle.report_names.specs.Own.{IsOwnPlace}
 use Rattle.report_forms.specs.Fits.{AddressFits, DecisionFits, EndFits, OwnerFits, TagFits}
-use Rattle.walk_text.specs.Walks.{walk_data, walk_list, walks_data, walks_text}
+use Rattle.walk_command.specs.WalkTexts.{walk_data, walk_list, walks_data, walks_text}
 use Rattle.told_texts.specs.Walks.{CellFits, FieldsFit, HeadFits, MetaFits, NumberFits, WalkFits, WalkTold, walk_told}
 use Rattle.told_texts.proofs.Lines.{AreGood, IsGood, ReadsLines, address_good, array_good, count_good, deeper, end_good, item_good, list_good, null_good, object_good, one_good, same_told, text_good, value_good}
 use Rattle.told_texts.proofs.Back.{all_back, item_back, list_back, member_back, number_back, text_back, told_back, value_is, whole_back, whole_is}

@@ -6,9 +6,9 @@ use Rattle.net_check.specs.Network.{Network, Entry}
 use Rattle.exact_records.specs.Exact.{IsCutOff, IsTried, IsUnexplored, IsWhole}
 use Rattle.exact_records.specs.Packets.{AreExactFor}
 use Rattle.exact_records.specs.Records.{RecordTree, SymStart}
-use Rattle.question_meaning.specs.Answers.{IsRight}
-use Rattle.question_meaning.specs.Questions.{Question, reach, invariant, visible}
-use Rattle.question_meaning.specs.Telling.{AreOpenBy, IsFirstHit, LeavesItOpen, Outcome, found, left_open, saying}
+use Rattle.path_questions.specs.Answers.{IsRight}
+use Rattle.path_questions.specs.Questions.{Question, reach, invariant, visible}
+use Rattle.path_questions.specs.Telling.{AreOpenBy, IsFirstHit, LeavesItOpen, Outcome, found, left_open, saying}
 use Rattle.queries.specs.Answers.{AreReplies, Reply, reply_of}
 use Rattle.command_edge.specs.declared.ending.Ending.TheVariants.{Done}
 use Rattle.ask_command.specs.Asks.{IsAnswersText}

@@ -20,14 +20,14 @@ ghost use Rattle.loops_command.specs.Texts.{loops_text};
 ghost use Rattle.loops_command.specs.declared.text.OpenPaths.{OpenPaths as OpenPathsOf};
 ghost use Rattle.record_checks.specs.declared.counts.Confirmed.{Confirmed as ConfirmedOf};
 ghost use Rattle.replay_command.specs.Counted.{confirmed_text};
-ghost use Rattle.walk_text.specs.Walks.{walks_text};
+ghost use Rattle.walk_command.specs.WalkTexts.{walks_text};
 ghost use Rattle.told_texts.specs.Compared.{ComparisonFits};
 ghost use Rattle.told_texts.specs.Loops.{FoundFits, loops_told};
 ghost use Rattle.told_texts.specs.Ranges.{AllBelow, AllFit, ConfirmedFits, CountsFit, SummaryFits, numbers_of};
 ghost use Rattle.told_texts.specs.Walks.{WalkFits, walk_told};
 
-use compact_json::laws::lines_are_read;
 use report_names::laws::places_are_found;
+use run_text::json_laws::lines_are_read;
 
 /// The text of answers tells them: two lists of answers that differ have different texts. So what `ask` wrote is the text of one list
 /// of answers, whatever job it was asked of.

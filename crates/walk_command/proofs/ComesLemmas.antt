@@ -2,10 +2,10 @@
 use Rattle.std.proofs.Common.{◌≡◌, refl, sym, subst, ℕ, List, [], ◌∷◌, Some}
 use Rattle.sefl_syntax.specs.Trees.{AskTree}
 use Rattle.net_check.specs.Network.{Network, Entry}
-use Rattle.packet_file.specs.Packet.{packet_of}
-use Rattle.run_answers.specs.Inputs.{a_net, some_bytes}
+use Rattle.sefl_lex.specs.Packets.{packet_of}
+use Rattle.command_runs.specs.Inputs.{a_net, some_bytes}
 use Rattle.command_edge.specs.Puts.{text}
-use Rattle.run_answers.specs.Runs.{IsRefusal}
+use Rattle.command_runs.specs.Runs.{IsRefusal}
 use Rattle.command_edge.specs.declared.ending.Ending.TheVariants.{Done}
 use Rattle.command_edge.specs.declared.fault.OwnFault.{OwnFault}
 use Rattle.command_edge.specs.declared.fault.OwnFault.TheVariants.{BadPacket, TooMany, NoMemory}

@@ -12,7 +12,7 @@ use Rattle.concrete_run.specs.Answers.{Walked}
 use Rattle.concrete_run.specs.Starting.{IsFirstOther, IsFirstTooWide, IsStartFault}
 use Rattle.concrete_run.specs.declared.injecting.StartFault.{StartFault}
 use Rattle.concrete_run.specs.declared.injecting.StartFault.TheVariants.{Short, ValueTooWide, WhereFalse, NoMemory}
-use Rattle.walk_text.specs.Walks.{walks_text}
+use Rattle.walk_command.specs.WalkTexts.{walks_text}
 use Rattle.command_edge.specs.Puts.{Outcome, text, refused}
 use Rattle.command_edge.specs.declared.fault.OwnFault.TheVariants.{BadPacket, TooMany}
 use Rattle.walk_command.specs.Walks.{HasTooMany, IsNoStart, IsWalksText, WalksOf, start_kind}

@@ -1,1 +1,2 @@
+pub mod WalkTexts
 pub mod Walks

@@ -1,15 +1,15 @@
 -- What `walk` writes of an accepted job and the bytes of a packet.
 use Rattle.std.specs.Prelude.{ℕ, ◌≡◌, ◌≤◌, ◌<◌, ◌+◌, List, [], ◌∷◌, length, Option, None, Some}
 use Rattle.net_check.specs.Network.{Network, Entry}
-use Rattle.packet_file.specs.Packet.{packet_of}
+use Rattle.sefl_lex.specs.Packets.{packet_of}
 use Rattle.concrete_run.specs.Answers.{Walked}
 use Rattle.concrete_run.specs.Starting.{IsStartFault}
 use Rattle.concrete_run.specs.declared.injecting.StartFault.{StartFault}
 use Rattle.concrete_run.specs.declared.injecting.StartFault.TheVariants.{Short, ValueTooWide, WhereFalse, NoMemory as NoStart}
 use Rattle.concrete_run.specs.declared.walks.WalkFault.{WalkFault}
 use Rattle.concrete_run.specs.declared.walks.WalkFault.TheVariants.{Start, TooMany as More, NoMemory as NoWalks}
-use Rattle.walk_text.specs.Walks.{walks_text}
-use Rattle.run_answers.specs.Inputs.{Given, a_net, some_bytes}
+use Rattle.walk_command.specs.WalkTexts.{walks_text}
+use Rattle.command_runs.specs.Inputs.{Given, a_net, some_bytes}
 use Rattle.command_edge.specs.Puts.{Outcome, text, refused}
 use Rattle.command_edge.specs.declared.ending.Ending.TheVariants.{Done}
 use Rattle.command_edge.specs.declared.fault.OwnFault.{OwnFault}

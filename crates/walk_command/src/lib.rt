@@ -3,6 +3,9 @@
 
 mod fault;
 pub mod laws;
+mod state;
 mod walk;
+mod walks;
 
 pub use walk::Walk;
+pub use walks::walks_text;

@@ -3,22 +3,21 @@
 ghost use Rattle.std.specs.Prelude.{◌≡◌, Some, [], ◌∷◌, IfOk, IfErr, string_bytes};
 ghost use Rattle.net_check.specs.Network.{entry, network};
 ghost use Rattle.net_check.specs.Sound.{AreOfOneJob};
-ghost use Rattle.packet_file.specs.Packet.{packet_of};
-ghost use Rattle.run_answers.specs.Inputs.{given_of, some_bytes};
+ghost use Rattle.sefl_lex.specs.Packets.{packet_of};
+ghost use Rattle.command_runs.specs.Inputs.{given_of, some_bytes};
 ghost use Rattle.command_edge.specs.Puts.{text as a_text};
-ghost use Rattle.run_answers.specs.Runs.{IsRefusal};
+ghost use Rattle.command_runs.specs.Runs.{IsRefusal};
 ghost use Rattle.walk_command.specs.Walks.{IsNoPacket, IsWalkRefusal, IsWalksText, WalkComes};
 
 use crate::fault::fault_of_walk;
+use crate::walks_text;
 use command_edge::{Ending, OwnFault};
-use command_runs::{Both, ByteFile, OnePiece, Two};
+use command_runs::{Both, ByteFile, JobFile, OnePiece, Two};
 use concrete_run::walk_all;
-use job_files::JobFile;
 use net_check::Accepted;
-use packet_file::{PacketFault, read_packet};
+use sefl_lex::{PacketFault, read_packet};
 use sn_width::Num;
 use std::alloc::Global;
-use walk_text::walks_text;
 
 /// All walks of the packet of one file through the job of the other, with `hops` hops; refused where they are more than
 /// the limit.

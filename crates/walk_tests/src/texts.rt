@@ -10,7 +10,7 @@ use sefl_syntax::{Side, Text};
 use sn_width::{LayoutFault, NameId, NodeId, Num, Site, TagId};
 use std::alloc::Global;
 use std::process::Abort;
-use walk_text::walks_text;
+use walk_command::walks_text;
 
 /// A box r with one port on each side, the tag name L3 and the metadata names m and n.
 const JOB: &str =

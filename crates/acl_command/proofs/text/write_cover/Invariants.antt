@@ -1,5 +1,5 @@
 use Rattle.std.proofs.Common.{◌≡◌, ◌++◌, map, drop}
-use Rattle.compact_json.specs.Tokens.{tokens_of, ending}
+use Rattle.run_text.specs.Tokens.{tokens_of, ending}
 use Rattle.run_text.specs.Forms.{list}
 use Rattle.acl_command.specs.Texts.{step_data}
 use Rattle.acl_command.proofs.text.write_cover.Given as goal

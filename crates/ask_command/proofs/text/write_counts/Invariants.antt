@@ -1,5 +1,5 @@
 use Rattle.std.proofs.Common.{◌≡◌, ◌++◌, map, drop}
-use Rattle.compact_json.specs.Tokens.{tokens_of, ending}
+use Rattle.run_text.specs.Tokens.{tokens_of, ending}
 use Rattle.run_text.specs.Forms.{count, list}
 use Rattle.ask_command.proofs.text.write_counts.Given as goal
 

@@ -1,6 +1,6 @@
 use Rattle.std.proofs.Common.{List, ℕ, subst}
 use Rattle.serde_json.specs.Data.{string}
-use Rattle.compact_json.specs.Tokens.{Adds}
+use Rattle.run_text.specs.Tokens.{Adds}
 use Rattle.compare_command.proofs.text.write_other.Goals as goal
 
 pub returns : goal.returns

@@ -1,5 +1,5 @@
 use Rattle.std.proofs.Common.{◌≡◌, ◌++◌, map, drop}
-use Rattle.compact_json.specs.Tokens.{tokens_of, ending}
+use Rattle.run_text.specs.Tokens.{tokens_of, ending}
 use Rattle.run_text.specs.Forms.{list}
 use Rattle.loops_command.specs.Texts.{loop_data}
 use Rattle.loops_command.proofs.text.write_loop_list.Given as goal

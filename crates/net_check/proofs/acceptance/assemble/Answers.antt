@@ -1,7 +1,7 @@
 use Rattle.std.proofs.Common.{◌∙◌, sym, ap}
 use Rattle.std.proofs.lemmas.List.{length-map}
 use Rattle.sefl_syntax.specs.Views.{injection_tree, job_tree, net_tree}
-use Rattle.net_tables.specs.Places.{node_position}
+use Rattle.net_check.specs.Places.{node_position}
 use Rattle.net_check.proofs.SoundLemmas.{injection_has_position}
 use Rattle.net_check.proofs.acceptance.assemble.Goals as goal
 

@@ -2,7 +2,7 @@ use Rattle.std.proofs.Common.{◌≡◌, ◌++◌, drop, map}
 use Rattle.std.specs.List.{AllByRecursion}
 use Rattle.net_check.specs.Network.{entry, network}
 use Rattle.exact_records.specs.View.{record_trees}
-use Rattle.question_meaning.specs.Formulas.{explored}
+use Rattle.path_questions.specs.Formulas.{explored}
 use Rattle.compare_meaning.specs.Paths.{delivered_from}
 use Rattle.net_compare.specs.Facings.{IsSound}
 use Rattle.net_compare.specs.Saying.{seen_path}

@@ -7,7 +7,7 @@ use Rattle.sefl_meaning.specs.Valued.{CarriedFits}
 use Rattle.term_values.specs.Fits.{typed_fits}
 use Rattle.exact_records.specs.Records.{HasMeaning}
 use Rattle.exact_records.specs.View.{record_tree}
-use Rattle.question_meaning.specs.Formulas.{explored}
+use Rattle.path_questions.specs.Formulas.{explored}
 use Rattle.compare_typing.specs.Typing.{HeadsAreTyped}
 use Rattle.net_compare.specs.Delivering.{LeadsToState, TellsState}
 use Rattle.net_compare.proofs.DeliveryLemmas.{heads_are, heads_typed}

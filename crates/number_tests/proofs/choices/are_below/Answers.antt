@@ -1,6 +1,6 @@
 use Rattle.std.proofs.Common.{◌≡◌, ℕ, ◌+◌, inl, inr, arith, sym, subst}
 use Rattle.std.proofs.lemmas.Bool.{cases_lt}
-use Rattle.case_search.specs.Choices.{lists_of, OneHasBelow}
+use Rattle.difference_solver.specs.Choices.{lists_of, OneHasBelow}
 use Rattle.number_tests.proofs.choices.are_below.Goals as goal
 
 pub loop-unknown-preserved : goal.loop-unknown-preserved

@@ -1,5 +1,5 @@
 use Rattle.std.proofs.Common.{ℕ, ◌<◌, ◌≤◌}
-use Rattle.case_search.specs.Choices.{OneHasBelow, lists_of}
+use Rattle.difference_solver.specs.Choices.{OneHasBelow, lists_of}
 use Rattle.number_tests.proofs.choices.are_below.Given as goal
 
 abbrev pub invariant-loop-unknown : goal.invariant-loop-unknown

@@ -1,7 +1,7 @@
 use Rattle.std.proofs.Common.{arith}
 use Rattle.std.specs.Prelude.{All}
 use Rattle.difference_solver.specs.Bound.{IsInRange}
-use Rattle.case_search.specs.Choices.{cases_of}
+use Rattle.difference_solver.specs.Choices.{cases_of}
 use Rattle.number_tests.proofs.Testing.{all_more, all_taken}
 use Rattle.number_tests.proofs.choices.are_in_range.Goals as goal
 

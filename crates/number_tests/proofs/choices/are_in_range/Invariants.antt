@@ -1,5 +1,5 @@
 use Rattle.std.proofs.Common.{take}
-use Rattle.case_search.specs.Choices.{AreInRange, lists_of}
+use Rattle.difference_solver.specs.Choices.{AreInRange, lists_of}
 use Rattle.number_tests.proofs.choices.are_in_range.Given as goal
 
 abbrev pub invariant-loop-choice : goal.invariant-loop-choice

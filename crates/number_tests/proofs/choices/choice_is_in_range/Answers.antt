@@ -1,7 +1,7 @@
 use Rattle.std.proofs.Common.{◌∙◌, subst, ap, arith, get_or, length}
 use Rattle.std.specs.Prelude.{All}
 use Rattle.difference_solver.specs.Bound.{IsInRange}
-use Rattle.case_search.specs.Choices.{Case, items_of}
+use Rattle.difference_solver.specs.Choices.{Case, items_of}
 use Rattle.number_tests.proofs.Testing.{all_more, all_taken}
 use Rattle.number_tests.proofs.choices.choice_is_in_range.Goals as goal
 

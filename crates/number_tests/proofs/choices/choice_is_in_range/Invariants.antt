@@ -1,7 +1,7 @@
 use Rattle.std.proofs.Common.{map, take}
 use Rattle.std.specs.Prelude.{All}
 use Rattle.difference_solver.specs.Bound.{IsInRange}
-use Rattle.case_search.specs.Choices.{items_of}
+use Rattle.difference_solver.specs.Choices.{items_of}
 use Rattle.number_tests.proofs.choices.choice_is_in_range.Given as goal
 
 abbrev pub invariant-loop-case : goal.invariant-loop-case

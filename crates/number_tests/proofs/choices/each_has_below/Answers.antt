@@ -1,5 +1,5 @@
 use Rattle.std.proofs.Common.{◌∙◌, subst, ap, arith, get_or, length}
-use Rattle.case_search.specs.Choices.{Case, HasBelow, items_of}
+use Rattle.difference_solver.specs.Choices.{Case, HasBelow, items_of}
 use Rattle.number_tests.proofs.Testing.{below_more}
 use Rattle.number_tests.proofs.choices.each_has_below.Goals as goal
 

@@ -1,5 +1,5 @@
 use Rattle.std.proofs.Common.{map, take}
-use Rattle.case_search.specs.Choices.{EachHasBelow, items_of}
+use Rattle.difference_solver.specs.Choices.{EachHasBelow, items_of}
 use Rattle.number_tests.proofs.choices.each_has_below.Given as goal
 
 abbrev pub invariant-loop-case : goal.invariant-loop-case

@@ -1,7 +1,7 @@
 use Rattle.std.proofs.Common.{◌≡◌, ◌||◌, drop}
 use Rattle.sn_width.specs.declared.ids.SymId.{SymId}
 use Rattle.path_formula.specs.View.{views}
-use Rattle.path_cases.specs.Splits.{EachCanSplit}
+use Rattle.path_formula.specs.Splits.{EachCanSplit}
 use Rattle.path_cond.specs.Marks.{has_mark}
 use Rattle.path_cond.specs.Occurring.{occurs_among}
 use Rattle.path_cond.proofs.marks.+mark.Given as goal

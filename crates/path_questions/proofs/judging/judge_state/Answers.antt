@@ -1,5 +1,5 @@
 use Rattle.std.proofs.Common.{true}
-use Rattle.question_meaning.specs.Formulas.{formula_of}
+use Rattle.path_questions.specs.Formulas.{formula_of}
 use Rattle.path_questions.specs.Asked.{question_seen}
 use Rattle.path_questions.specs.Deciding.{entry_of, net_of}
 use Rattle.path_questions.proofs.DecisionLemmas.{says_with}

@@ -3,7 +3,7 @@ use Rattle.path_cond.specs.Seen.{seen}
 use Rattle.path_formula.specs.Typed.{IsTyped}
 use Rattle.path_formula.specs.View.{view}
 use Rattle.sym_state.specs.Symbolic.{Symbolic}
-use Rattle.question_meaning.specs.Formulas.{formula_of}
+use Rattle.path_questions.specs.Formulas.{formula_of}
 use Rattle.path_questions.specs.Asked.{question_seen}
 use Rattle.path_questions.specs.Deciding.{entry_of, net_of}
 use Rattle.path_questions.proofs.StateLemmas.{met_at_state, past_state, typed_here, typed_next}

@@ -1,5 +1,5 @@
 use Rattle.std.proofs.Common.{◌≡◌, take, map}
-use Rattle.case_counts.specs.Counts.{range_count}
+use Rattle.path_cond.specs.Counts.{range_count}
 use Rattle.path_solver.proofs.choices.count_choices.Given as goal
 
 -- the numbers of ranges of the symbols so far

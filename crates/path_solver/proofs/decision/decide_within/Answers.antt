@@ -1,5 +1,5 @@
 use Rattle.std.proofs.Common.{◌≡◌, ◌∙◌, List, Some, subst, sym}
-use Rattle.case_counts.specs.Counts.{first_without_cases}
+use Rattle.path_cond.specs.Counts.{first_without_cases}
 use Rattle.refutation_check.specs.Accepted.{IsAccepted}
 use Rattle.refutation_check.specs.declared.steps.Refute.{Refute}
 use Rattle.path_solver.proofs.Caseless.{split_refutes}

@@ -1,5 +1,5 @@
 use Rattle.std.proofs.Common.{◌≡◌, drop}
-use Rattle.case_counts.specs.Picks.{first_where}
+use Rattle.path_cond.specs.Picks.{first_where}
 use Rattle.path_solver.specs.Unmet.{is_unmet_at}
 use Rattle.path_solver.proofs.outside.first_unmet.Given as goal
 

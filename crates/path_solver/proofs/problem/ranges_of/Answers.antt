@@ -2,8 +2,8 @@ use Rattle.std.proofs.Common.{◌≡◌, List, Some, None, map, sym, subst, arit
 use Rattle.std.specs.Prelude.{slice_get, slice_index, IfOk}
 use Rattle.sn_ranges.specs.Ranges.{Range}
 use Rattle.path_cond.specs.Conditions.{in_domain}
-use Rattle.path_cases.specs.Bounds.{lists_of}
-use Rattle.path_cases.specs.Cases.{range_case}
+use Rattle.path_formula.specs.Bounds.{lists_of}
+use Rattle.path_formula.specs.Cases.{range_case}
 use Rattle.path_solver.proofs.Entries.{listed_narrow, known_at, index_at, missing}
 use Rattle.path_solver.proofs.problem.ranges_of.Goals as goal
 

@@ -6,8 +6,8 @@ use Rattle.difference_solver.specs.Cycle.{IsNegativeCycle}
 use Rattle.difference_solver.specs.Raising.{IfCircle, IfRaised, IsLeastNatural}
 use Rattle.difference_solver.specs.declared.bound.Bound.{Bound}
 use Rattle.difference_solver.specs.declared.lifting.Raised.{Raised}
-use Rattle.case_counts.specs.Counts.{formula_choices}
-use Rattle.case_counts.specs.Coupled.{coupled_symbols}
+use Rattle.path_cond.specs.Counts.{formula_choices}
+use Rattle.path_cond.specs.Coupled.{coupled_symbols}
 use Rattle.refutation_check.specs.Accepted.{IsAccepted}
 use Rattle.refutation_check.specs.declared.steps.Refute.{Refute}
 use Rattle.path_solver.specs.Origins.{choices_from, origins_of}

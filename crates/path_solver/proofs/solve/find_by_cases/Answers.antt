@@ -1,12 +1,12 @@
 use Rattle.std.proofs.Common.{◌≡◌, ℕ, List, [], ◌∷◌, map, length, sym, ap, subst, ◌∙◌}
 use Rattle.sn_width.specs.declared.ids.SymId.{SymId}
 use Rattle.difference_solver.specs.declared.bound.Bound.{Bound}
-use Rattle.case_search.specs.Choices.{lists_of, AreBelow, AreInRange, IsLeast, IsUnmet}
-use Rattle.case_search.specs.Outcomes.{IfLeast, IfRefuted, IsRefuted}
-use Rattle.case_search.specs.Steps as Search
-use Rattle.case_search.specs.declared.choice.Outcome.{Outcome}
+use Rattle.difference_solver.specs.Choices.{lists_of, AreBelow, AreInRange, IsLeast, IsUnmet}
+use Rattle.difference_solver.specs.Outcomes.{IfLeast, IfRefuted, IsRefuted}
+use Rattle.difference_solver.specs.Steps as Search
+use Rattle.difference_solver.specs.declared.choice.Outcome.{Outcome}
 use Rattle.path_cond.specs.Conditions.{Condition}
-use Rattle.case_counts.specs.Coupled.{coupled_symbols}
+use Rattle.path_cond.specs.Coupled.{coupled_symbols}
 use Rattle.refutation_check.specs.Accepted.{IsAccepted}
 use Rattle.refutation_check.specs.declared.steps.Refute.{Refute}
 use Rattle.path_solver.specs.Origins.{choices_from, origins_of, refute_from}

@@ -1,6 +1,6 @@
 use Rattle.std.proofs.Common.{◌≡◌, ℕ, List, drop, ap, sym, subst, ◌∙◌}
 use Rattle.sn_width.specs.declared.ids.SymId.{SymId}
-use Rattle.case_counts.specs.Coupled.{coupled_symbols}
+use Rattle.path_cond.specs.Coupled.{coupled_symbols}
 use Rattle.refutation_check.specs.Least.{AreLeast}
 use Rattle.path_solver.specs.Solutions.{IsFound}
 use Rattle.path_solver.specs.Values.{with_integers}

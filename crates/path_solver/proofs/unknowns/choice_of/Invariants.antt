@@ -1,6 +1,6 @@
 use Rattle.std.proofs.Common.{◌≡◌, take, map}
-use Rattle.case_search.specs.Choices.{items_of}
-use Rattle.path_cases.specs.Bounds.{lists_of}
+use Rattle.difference_solver.specs.Choices.{items_of}
+use Rattle.path_formula.specs.Bounds.{lists_of}
 use Rattle.path_solver.specs.Unknowns.{choice_of}
 use Rattle.path_solver.proofs.unknowns.choice_of.Given as goal
 

@@ -1,7 +1,7 @@
 use Rattle.std.proofs.Common.{◌∙◌, ◌+◌, ◌≤◌, [], length, take, refl, sym, ap, subst, arith, List}
 use Rattle.path_records.specs.declared.records.Record.{Record}
 use Rattle.exact_records.specs.View.{record_trees}
-use Rattle.question_meaning.specs.Telling.{IsKept, left_open, saying}
+use Rattle.path_questions.specs.Telling.{IsKept, left_open, saying}
 use Rattle.path_questions.specs.Asked.{question_seen}
 use Rattle.path_questions.specs.Deciding.{entry_of, net_of}
 use Rattle.queries.specs.Holding.{IsKeptOf}

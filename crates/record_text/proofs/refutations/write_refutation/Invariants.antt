@@ -1,5 +1,5 @@
 use Rattle.std.proofs.Common.{◌≡◌, ◌++◌, map, drop}
-use Rattle.compact_json.specs.Tokens.{tokens_of, ending}
+use Rattle.run_text.specs.Tokens.{tokens_of, ending}
 use Rattle.run_text.specs.Forms.{list}
 use Rattle.record_text.specs.Records.{step_data}
 use Rattle.record_text.proofs.refutations.write_refutation.Given as goal

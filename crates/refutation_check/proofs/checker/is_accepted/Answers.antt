@@ -1,6 +1,6 @@
 use Rattle.std.proofs.Common.{◌≡◌, ◌+◌, ◌-◌, ◌≤◌, ◌∷◌, List, true, drop, length, arith, sym, ap, ◌∙◌, rules}
 use Rattle.std.proofs.lemmas.List.{drop_more, length-drop}
-use Rattle.path_cases.specs.Bounds.{Case}
+use Rattle.path_formula.specs.Bounds.{Case}
 use Rattle.refutation_check.specs.Accepted.{Advances, IsAccepted}
 use Rattle.refutation_check.specs.Agenda.{pending}
 use Rattle.refutation_check.proofs.Stepping.{refutes_next, refutes_not}

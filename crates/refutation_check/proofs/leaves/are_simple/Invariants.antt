@@ -1,5 +1,5 @@
 use Rattle.std.proofs.Common.{◌≡◌, drop}
-use Rattle.case_counts.specs.Picks.{are_simple_picks}
+use Rattle.path_cond.specs.Picks.{are_simple_picks}
 use Rattle.refutation_check.proofs.leaves.are_simple.Given as goal
 
 -- the picks that are left decide

@@ -1,6 +1,6 @@
 use Rattle.std.proofs.Common.{sym, rules}
 use Rattle.path_formula.specs.View.{view}
-use Rattle.path_cases.specs.Splits.{CanSplit}
+use Rattle.path_formula.specs.Splits.{CanSplit}
 use Rattle.refutation_check.proofs.leaves.cases_of_formula.Goals as goal
 
 pub returns-in_ok-found-in-Some : goal.returns-in_ok-found-in-Some

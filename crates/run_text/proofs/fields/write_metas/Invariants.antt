@@ -1,5 +1,5 @@
 use Rattle.std.proofs.Common.{◌≡◌, ◌++◌, map, drop}
-use Rattle.compact_json.specs.Tokens.{tokens_of, ending}
+use Rattle.run_text.specs.Tokens.{tokens_of, ending}
 use Rattle.net_check.specs.Network.{network}
 use Rattle.run_text.specs.Held.{held_meta}
 use Rattle.run_text.specs.Forms.{meta_data, list}

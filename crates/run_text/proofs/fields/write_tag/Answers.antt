@@ -1,5 +1,5 @@
 use Rattle.std.proofs.Common.{rules}
-use Rattle.compact_json.specs.Tokens.{Adds}
+use Rattle.run_text.specs.Tokens.{Adds}
 use Rattle.run_text.specs.Forms.{address_data}
 use Rattle.run_text.proofs.fields.write_tag.Goals as goal
 

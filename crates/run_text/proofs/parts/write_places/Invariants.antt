@@ -1,5 +1,5 @@
 use Rattle.std.proofs.Common.{◌≡◌, ◌++◌, map, drop}
-use Rattle.compact_json.specs.Tokens.{tokens_of, ending}
+use Rattle.run_text.specs.Tokens.{tokens_of, ending}
 use Rattle.net_check.specs.Network.{network}
 use Rattle.run_text.specs.Forms.{place_data, list}
 use Rattle.run_text.proofs.parts.write_places.Given as goal

@@ -1,5 +1,5 @@
 use Rattle.std.proofs.Common.{◌≡◌, ◌++◌, ◌-◌, length, map, drop}
-use Rattle.compact_json.specs.Tokens.{tokens_of, ending}
+use Rattle.run_text.specs.Tokens.{tokens_of, ending}
 use Rattle.run_text.specs.Forms.{term_part_data, list}
 use Rattle.run_text.proofs.terms.write_parts.Given as goal
 

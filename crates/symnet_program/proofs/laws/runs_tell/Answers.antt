@@ -1,4 +1,4 @@
-use Rattle.run_answers.specs.Outside.{outside}
+use Rattle.command_runs.specs.Outside.{outside}
 use Rattle.command_edge.specs.declared.ending.Ending.TheVariants.{Done, Partial}
 use Rattle.symnet_program.proofs.RunLemmas.{run_caused, run_told, run_written}
 use Rattle.symnet_program.proofs.laws.runs_tell.Goals as goal

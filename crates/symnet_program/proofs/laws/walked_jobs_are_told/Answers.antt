@@ -1,6 +1,6 @@
 use Rattle.symnet_program.specs.Commands.{inputs}
 use Rattle.command_words.specs.Commands.{walk}
-use Rattle.packet_file.specs.Packet.{packet_of}
+use Rattle.sefl_lex.specs.Packets.{packet_of}
 use Rattle.symnet_program.proofs.WalkLemmas.{absent_packet, long_packet, walked_packet}
 use Rattle.symnet_program.proofs.laws.walked_jobs_are_told.Goals as goal
 

@@ -2,9 +2,9 @@ use Rattle.std.proofs.Common.{ℕ, [], ◌∷◌, arith, subst}
 use Rattle.record_lines.specs.declared.lines.RefutedSides.{RefutedSides}
 use Rattle.sefl_syntax.specs.declared.net.Style.{Style}
 use Rattle.sefl_syntax.specs.declared.net.TableKind.{TableKind}
-use Rattle.run_answers.specs.Inputs.{a_job, a_file}
-use Rattle.run_answers.specs.Outside.{outside}
-use Rattle.run_answers.specs.Runs.{Runs, one_piece}
+use Rattle.command_runs.specs.Inputs.{a_job, a_file}
+use Rattle.command_runs.specs.Outside.{outside}
+use Rattle.command_runs.specs.Runs.{Runs, one_piece}
 use Rattle.command_edge.specs.declared.limits.TheConstants.{FILE_LIMIT}
 use Rattle.explore_command.specs.Explores.{explore_work}
 use Rattle.acl_command.specs.declared.model.ListStyle.{ListStyle}

@@ -1,4 +1,4 @@
-use Rattle.run_answers.specs.Outside.{outside}
+use Rattle.command_runs.specs.Outside.{outside}
 use Rattle.command_words.specs.Commands.{command_of, reading}
 use Rattle.symnet_program.proofs.ProgramLemmas.{complete_said, exact_said, shown_said, told_said, unread}
 use Rattle.symnet_program.proofs.RunLemmas.{run_caused, run_said, unread_run}

@@ -2,7 +2,7 @@ use Rattle.std.proofs.Common.{◌≡◌, Some, map, subst, string_bytes}
 use Rattle.std.proofs.lemmas.Result.{err_from_is_err_and}
 use Rattle.sefl_syntax.specs.Views.{ask_tree}
 use Rattle.net_check.specs.Network.{entry, network}
-use Rattle.packet_file.specs.Packet.{packet_of}
+use Rattle.sefl_lex.specs.Packets.{packet_of}
 use Rattle.walk_command.specs.Walks.{IsNoPacket, IsWalkRefusal, IsWalksText}
 use Rattle.walk_command.proofs.ComesLemmas.{no_packet, no_walks, walks_come}
 use Rattle.walk_command.proofs.walk.text_of.Goals as goal

@@ -1,5 +1,5 @@
 use Rattle.std.proofs.lemmas.Result.{err_from_is_err_and}
-use Rattle.run_answers.specs.Outside.{outside}
+use Rattle.command_runs.specs.Outside.{outside}
 use Rattle.command_runs.proofs.InputLemmas.{fails_first, fails_later, open_both}
 use Rattle.command_runs.proofs.source.BothSource.open.Goals as goal
 

@@ -1,8 +1,8 @@
 use Rattle.std.proofs.Common.{[], ◌∷◌, IfErr, IfOk, subst}
 use Rattle.sefl_syntax.specs.Views.{job_tree}
-use Rattle.run_answers.specs.Inputs.{AllOpen, FirstFails, a_made_job, given_of}
-use Rattle.run_answers.specs.Outside.{outside}
-use Rattle.job_files.proofs.OpenLemmas.{made_by, unmade_by}
+use Rattle.command_runs.specs.Inputs.{AllOpen, FirstFails, a_made_job, given_of}
+use Rattle.command_runs.specs.Outside.{outside}
+use Rattle.command_runs.proofs.OpenLemmas.{made_by, unmade_by}
 use Rattle.grow_command.proofs.grown_job.GrownJobSource.open.Goals as goal
 
 pub returns-clause-opened : goal.returns-clause-opened

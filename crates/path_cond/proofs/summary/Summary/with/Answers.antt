@@ -1,7 +1,7 @@
 use Rattle.std.proofs.Common.{Bool, ◌&&◌, [], ◌∷◌, ◌++◌, cond, ap, subst, ◌∙◌}
 use Rattle.sn_width.specs.declared.ids.SymId.{SymId}
 use Rattle.path_formula.specs.View.{view}
-use Rattle.path_cases.specs.Cases.{cases_of}
+use Rattle.path_formula.specs.Cases.{cases_of}
 use Rattle.path_cond.specs.Kept.{first_case, singles_at}
 use Rattle.path_cond.specs.Marks.{Adds}
 use Rattle.path_cond.specs.Occurring.{occurs_in}

@@ -1,7 +1,7 @@
 use Rattle.std.proofs.Common.{◌≡◌, true, Some, sym, ap, ◌∙◌}
 use Rattle.std.specs.Prelude.{slice_get}
-use Rattle.case_counts.specs.Coupled.{is_inside}
-use Rattle.case_counts.specs.Picks.{passes}
+use Rattle.path_cond.specs.Coupled.{is_inside}
+use Rattle.path_cond.specs.Picks.{passes}
 use Rattle.path_solver.proofs.Entries.{entry_splits}
 use Rattle.path_solver.proofs.problem.Problem.add_formula.Goals as goal
 

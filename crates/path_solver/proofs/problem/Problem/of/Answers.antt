@@ -1,6 +1,6 @@
 use Rattle.std.proofs.Common.{◌≡◌, List, ◌++◌, map, take, sym, subst, ap, ◌∙◌, true, arith}
-use Rattle.case_counts.specs.Coupled.{coupled_symbols}
-use Rattle.case_counts.specs.Picks.{are_inside_picks}
+use Rattle.path_cond.specs.Coupled.{coupled_symbols}
+use Rattle.path_cond.specs.Picks.{are_inside_picks}
 use Rattle.path_solver.specs.Problems.{IsProblem}
 use Rattle.path_solver.specs.declared.origin.Origin.{Origin}
 use Rattle.path_solver.specs.declared.origin.Origin.TheVariants.{Ranges, Cases}

@@ -1,5 +1,5 @@
 use Rattle.std.proofs.Common.{map, take, ◌++◌}
-use Rattle.case_counts.specs.Coupled.{coupled_symbols}
+use Rattle.path_cond.specs.Coupled.{coupled_symbols}
 use Rattle.path_solver.specs.Problems.{IsProblem}
 use Rattle.path_solver.specs.declared.origin.Origin.TheVariants.{Ranges, Cases}
 use Rattle.path_solver.proofs.problem.Problem.of.Given as goal

@@ -1,6 +1,6 @@
 use Rattle.std.proofs.Common.{List, ap, ◌∙◌}
 use Rattle.sn_width.specs.declared.ids.SymId.{SymId}
-use Rattle.path_cases.specs.Bounds.{lists_of}
+use Rattle.path_formula.specs.Bounds.{lists_of}
 use Rattle.path_solver.specs.Unknowns.{choice_of}
 use Rattle.path_solver.proofs.Gathering.{problem_push}
 use Rattle.path_solver.proofs.problem.Problem.push.Goals as goal

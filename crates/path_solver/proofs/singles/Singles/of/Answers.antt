@@ -2,7 +2,7 @@ use Rattle.std.proofs.Common.{◌∙◌, ◌++◌, ℕ, List, Option, Vec, Globa
 use Rattle.std.specs.Prelude.{IfSome}
 use Rattle.sn_width.specs.declared.ids.SymId.{SymId}
 use Rattle.path_cond.specs.declared.singles.Single.{Single}
-use Rattle.case_counts.specs.Coupled.{coupled_symbols}
+use Rattle.path_cond.specs.Coupled.{coupled_symbols}
 use Rattle.path_solver.specs.Unknowns.{IsTableOf, bound_of}
 use Rattle.path_solver.proofs.Joining.{all_joined, all_ranges}
 use Rattle.path_solver.proofs.singles.Singles.of.Goals as goal

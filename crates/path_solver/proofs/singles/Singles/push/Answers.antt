@@ -1,5 +1,5 @@
-use Rattle.path_cases.specs.Bounds.{lists_of}
-use Rattle.case_counts.specs.Coupled.{coupled_symbols}
+use Rattle.path_formula.specs.Bounds.{lists_of}
+use Rattle.path_cond.specs.Coupled.{coupled_symbols}
 use Rattle.path_solver.proofs.Joining.{singles_more}
 use Rattle.path_solver.proofs.singles.Singles.push.Goals as goal
 

@@ -1,5 +1,5 @@
 use Rattle.std.proofs.Common.{◌≡◌, ◌++◌, ◌∷◌, [], map, reverse, length, take, sym, subst, rules, List, ◌≤◌, ◌<◌, ◌+◌, ◌-◌}
-use Rattle.path_cases.specs.Bounds.{Case, lists_of}
+use Rattle.path_formula.specs.Bounds.{Case, lists_of}
 use Rattle.refutation_check.specs.Accepted.{Leaves}
 use Rattle.refutation_check.specs.Agenda.{starts, alternative_with}
 use Rattle.refutation_check.proofs.Stepping.{Kept, divided, no_room, not_divided}

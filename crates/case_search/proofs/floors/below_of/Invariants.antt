@@ -1,6 +1,0 @@
-use Rattle.std.proofs.Common.{◌≡◌, drop}
-use Rattle.case_search.specs.Floors.{below_of}
-use Rattle.case_search.proofs.floors.below_of.Given as goal
-
-abbrev pub invariant-loop-bound : goal.invariant-loop-bound
-invariant-loop-bound l = below_of l.unknown l.case ≡ below_of l.unknown (drop l.bound-index l.case)

@@ -1,6 +1,0 @@
-use Rattle.std.proofs.Common.{◌≡◌, ◌++◌, take}
-use Rattle.case_search.specs.Floors.{bounds_of}
-use Rattle.case_search.proofs.floors.with_floors.Given as goal
-
-abbrev pub invariant-loop-floor : goal.invariant-loop-floor
-invariant-loop-floor l = l.bounds.items ≡ l.gathered ++ bounds_of (take l.floor-index l.floors)

@@ -1,6 +1,0 @@
-use Rattle.std.proofs.Common.{[], ◌∷◌, inl, arith}
-use Rattle.case_search.proofs.Reading.{refuted_unmet}
-use Rattle.case_search.proofs.laws.refuted_choices_are_not_met.Goals as goal
-
-pub returns : goal.returns
-returns c = λ choices steps v h each. refuted_unmet c.cycle_refutes.ensures choices ([] ∷ []) steps v h each (inl (λ k d lt. absurd (omega arith)))

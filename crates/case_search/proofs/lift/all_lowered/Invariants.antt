@@ -1,6 +1,0 @@
-use Rattle.std.proofs.Common.{◌≡◌, map, take}
-use Rattle.case_search.specs.Lifting.{lowered}
-use Rattle.case_search.proofs.lift.all_lowered.Given as goal
-
-abbrev pub invariant-loop-index : goal.invariant-loop-index
-invariant-loop-index l = l.after.items ≡ map (lowered l.first l.width) (take l.index-index l.indices)

@@ -1,7 +1,0 @@
-use Rattle.std.proofs.Common.{sym, ◌∙◌, arith}
-use Rattle.case_search.proofs.WordLemmas.{ended}
-use Rattle.case_search.proofs.order.is_before.Goals as goal
-
-pub returns : goal.returns
-returns c =
-    sym (c.loop-index.invariant ∙ ended c.args.left.now c.args.right.now c.loop-index.index (omega arith))

@@ -1,7 +1,0 @@
-use Rattle.std.proofs.Common.{◌≡◌, drop}
-use Rattle.case_search.specs.Parts.{has_label, case_passes}
-use Rattle.case_search.proofs.parts.case_has_label.Given as goal
-
-abbrev pub invariant-loop-bound : goal.invariant-loop-bound
-invariant-loop-bound l =
-    case_passes (has_label l.labels l.label) l.case ≡ case_passes (has_label l.labels l.label) (drop l.bound-index l.case)

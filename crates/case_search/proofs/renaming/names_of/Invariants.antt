@@ -1,9 +1,0 @@
-use Rattle.std.proofs.Common.{◌≡◌, ◌+◌, ◌-◌, ◌++◌}
-use Rattle.case_search.specs.Parts.{has_label}
-use Rattle.case_search.specs.Renaming.{passing}
-use Rattle.case_search.proofs.renaming.names_of.Given as goal
-
-abbrev pub invariant-loop-unknown : goal.invariant-loop-unknown
-invariant-loop-unknown l =
-    l.names.items ++ passing (has_label l.labels l.label) l.unknown (l.count + 1 - l.unknown)
-    ≡ passing (has_label l.labels l.label) 0 (l.count + 1)

@@ -1,9 +1,0 @@
-use Rattle.std.proofs.Common.{◌≡◌, ◌+◌, ◌-◌, ◌++◌}
-use Rattle.case_search.specs.Parts.{has_label}
-use Rattle.case_search.specs.Renaming.{spread}
-use Rattle.case_search.proofs.renaming.spread.Given as goal
-
-abbrev pub invariant-loop-unknown : goal.invariant-loop-unknown
-invariant-loop-unknown l =
-    l.found.items ++ spread (has_label l.labels l.label) l.names l.values l.unknown (l.count + 1 - l.unknown)
-    ≡ spread (has_label l.labels l.label) l.names l.values 0 (l.count + 1)

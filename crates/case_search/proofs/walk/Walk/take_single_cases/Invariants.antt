@@ -1,6 +1,0 @@
-use Rattle.case_search.specs.Choices.{lists_of}
-use Rattle.case_search.specs.Progress.{IsWalkAt}
-use Rattle.case_search.proofs.walk.Walk.take_single_cases.Given as goal
-
-abbrev pub invariant-loop-choice : goal.invariant-loop-choice
-invariant-loop-choice l = IsWalkAt l.count (lists_of l.choices) l.self

@@ -1,7 +1,0 @@
--- Where code runs, as the code keeps it.
-use Rattle.net_check.specs.Network.{network}
-use Rattle.sefl_meaning.specs.Carried.{Scene}
-use Rattle.code_scene.specs.declared.scene.Scene as code
-
-abbrev pub scene_of : code.Scene → Scene
-scene_of at = record { net = network at.net.now; node = at.node; turns = at.turns.now }

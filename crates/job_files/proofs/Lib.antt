@@ -1,3 +1,0 @@
-pub mod FillLemmas
-pub mod ReadLemmas
-pub mod OpenLemmas

@@ -1,8 +1,0 @@
-use Rattle.net_tables.proofs.Linked.{position_is_named, no_position_no_name}
-use Rattle.net_tables.proofs.laws.positions_have_names.Goals as goal
-
-pub returns-clause-some : goal.returns-clause-some
-returns-clause-some c = position_is_named
-
-pub returns-clause-none : goal.returns-clause-none
-returns-clause-none c = no_position_no_name

@@ -1,4 +1,0 @@
-pub mod Laws
-pub mod Lookups
-pub mod Places
-pub mod Tables

@@ -1,5 +1,0 @@
-pub mod Fitting
-pub mod Found
-pub mod Lists
-pub mod Places
-pub mod Ways

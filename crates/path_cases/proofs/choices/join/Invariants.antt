@@ -1,8 +1,0 @@
-use Rattle.std.proofs.Common.{◌≡◌, take}
-use Rattle.path_cases.specs.Bounds.{lists_of}
-use Rattle.path_cases.specs.Cases.{joined}
-use Rattle.path_cases.proofs.choices.join.Given as goal
-
--- the choices of the cases so far
-abbrev pub invariant-loop-first : goal.invariant-loop-first
-invariant-loop-first l = lists_of l.choices.items ≡ joined (lists_of (take l.first-index l.first-items)) (lists_of l.seconds.items)

@@ -1,9 +1,0 @@
-use Rattle.std.proofs.Common.{◌≡◌, ◌++◌, take}
-use Rattle.path_cases.specs.Bounds.{lists_of}
-use Rattle.path_cases.specs.Cases.{with_bounds}
-use Rattle.path_cases.proofs.choices.push_joined.Given as goal
-
--- the choices with the cases so far
-abbrev pub invariant-loop-second : goal.invariant-loop-second
-invariant-loop-second l =
-    lists_of l.choices.items ≡ lists_of l.initial.choices.items ++ with_bounds (lists_of (take l.second-index l.second-items)) l.first.items

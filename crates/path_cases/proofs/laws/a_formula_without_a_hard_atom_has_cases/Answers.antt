@@ -1,5 +1,0 @@
-use Rattle.path_cases.proofs.Narrow.{easy_splits}
-use Rattle.path_cases.proofs.laws.a_formula_without_a_hard_atom_has_cases.Goals as goal
-
-pub returns : goal.returns
-returns c = λ f widths easy typed. easy_splits widths f easy typed

@@ -1,5 +1,0 @@
-use Rattle.path_cases.proofs.Sets.{ranges_where-set}
-use Rattle.path_cases.proofs.laws.a_set_has_the_ranges_of_its_test.Goals as goal
-
-pub returns : goal.returns
-returns c = ranges_where-set

@@ -1,5 +1,0 @@
-use Rattle.path_cases.proofs.Narrow.{inside_splits}
-use Rattle.path_cases.proofs.laws.an_inside_formula_has_cases.Goals as goal
-
-pub returns : goal.returns
-returns c = inside_splits

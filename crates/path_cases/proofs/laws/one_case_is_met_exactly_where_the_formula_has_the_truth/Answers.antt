@@ -1,5 +1,0 @@
-use Rattle.path_cases.proofs.Meaning.{met_formula}
-use Rattle.path_cases.proofs.laws.one_case_is_met_exactly_where_the_formula_has_the_truth.Goals as goal
-
-pub returns : goal.returns
-returns c = λ f holds widths values split typed fit. met_formula widths values fit f holds split typed

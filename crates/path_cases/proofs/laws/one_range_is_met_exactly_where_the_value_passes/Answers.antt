@@ -1,5 +1,0 @@
-use Rattle.path_cases.proofs.Meaning.{met_single}
-use Rattle.path_cases.proofs.laws.one_range_is_met_exactly_where_the_value_passes.Goals as goal
-
-pub returns : goal.returns
-returns c = λ symbol width test values fits. met_single values symbol width test fits

@@ -1,5 +1,0 @@
-mod Commuting
-pub mod Growing
-mod Lists
-mod Typing
-mod Right

@@ -1,5 +1,0 @@
-use Rattle.question_meaning.proofs.Right.{kept_is_right}
-use Rattle.question_meaning.proofs.laws.kept_outcomes_are_right.Goals as goal
-
-pub returns : goal.returns
-returns c = λ net i hops. kept_is_right net i hops (c.below.ensures net i hops)

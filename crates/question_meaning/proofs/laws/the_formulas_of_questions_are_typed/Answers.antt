@@ -1,7 +1,0 @@
-use Rattle.question_meaning.specs.Formulas.{explored}
-use Rattle.question_meaning.proofs.Typing.{formulas_typed}
-use Rattle.question_meaning.proofs.laws.the_formulas_of_questions_are_typed.Goals as goal
-
-pub returns : goal.returns
-returns c = λ net i hops is q own ds way leads.
-    formulas_typed i (c.below.ensures net i hops).typing net hops (explored net i hops) is way q own ds leads

@@ -1,7 +1,0 @@
-use Rattle.std.proofs.Common.{drop}
-use Rattle.std.specs.List.{AllByRecursion}
-use Rattle.record_ranges.specs.Ranges.{CellInRange}
-use Rattle.record_ranges.proofs.fields.cells_fit.Given as goal
-
-abbrev pub invariant-loop-cell : goal.invariant-loop-cell
-invariant-loop-cell l = AllByRecursion CellInRange (drop l.cell-index l.cells) → AllByRecursion CellInRange l.cells

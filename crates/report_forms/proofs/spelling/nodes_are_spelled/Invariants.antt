@@ -1,0 +1,9 @@
+use Rattle.std.proofs.Common.{drop}
+use Rattle.std.specs.List.{AllByRecursion}
+use Rattle.net_check.specs.Network.{network}
+use Rattle.report_forms.specs.Spelled.{IsSpelled}
+use Rattle.report_forms.proofs.spelling.nodes_are_spelled.Given as goal
+
+-- where those that are left are spelled, all are
+abbrev pub invariant-loop-index : goal.invariant-loop-index
+invariant-loop-index l = AllByRecursion (λ d. IsSpelled d.name) (drop l.index (network l.net).own.nodes) → AllByRecursion (λ d. IsSpelled d.name) (network l.net).own.nodes
