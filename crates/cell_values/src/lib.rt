@@ -1,4 +1,4 @@
-//! Operations on the values of cells, of any kind, and numbers as such values; where code runs: the net, the box and the turns of Fors, and what names
+//! Operations on the values of cells, of any kind, and numbers as such values; where code runs: the net, the box and the iterations of Fors, and what names
 //! stand for there; and what comes behind a port: the hops that are left, its code, its link, and the end where its code failed.
 #![tactic(auto)]
 

@@ -6,17 +6,17 @@ ghost use Rattle.sefl_meaning.specs.Network.{name_id, tag_id};
 ghost use Rattle.net_check.specs.Network.{network};
 
 use net_check::Net;
-use sefl_meaning::Turn;
+use sefl_meaning::Iteration;
 use sefl_syntax::{Addr, Name, Scope};
 use sn_tree::Shared;
 use sn_width::{LayoutFault, NameId, NodeId, TagId};
 
-/// Where code runs: in a box of a net, in the turns of the Fors round it, the innermost on top.
+/// Where code runs: in a box of a net, in the iterations of the Fors round it, the innermost on top.
 #[derive(Clone, Copy)]
 pub struct Scene<'a> {
     pub net: &'a Net,
     pub node: NodeId,
-    pub turns: &'a Shared<Turn>,
+    pub iterations: &'a Shared<Iteration>,
 }
 
 impl<'a> Scene<'a> {
@@ -62,11 +62,11 @@ impl<'a> Scene<'a> {
 
     /// The metadata that the innermost For with the variable stands at.
     pub fn bound(&self, var: &Name) -> Result<(Option<NodeId>, NameId), LayoutFault>
-        ensures { result ≡ bound_key self.now.turns.now var.now }
+        ensures { result ≡ bound_key self.now.iterations.now var.now }
     {
-        for turn in self.turns.iter() {
-            if *var == turn.var {
-                return Ok((turn.owner, turn.name));
+        for iteration in self.iterations.iter() {
+            if *var == iteration.var {
+                return Ok((iteration.owner, iteration.name));
             }
         }
         Err(LayoutFault::NoMeta)

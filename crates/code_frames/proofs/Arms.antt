@@ -7,7 +7,7 @@ use Rattle.cell_stacks.specs.Outcome.{on_ok}
 use Rattle.sefl_syntax.specs.Trees.{InstrTree, CodeTree, allocate, deallocate, assign, assign_any, create_tag, set_tag, destroy_tag, constrain, fail, branch, each, forward, fork, block, no_op}
 use Rattle.metadata_scopes.specs.Snapshot.{snapshot}
 use Rattle.job_items.specs.AtomRules.{width_of}
-use Rattle.sefl_meaning.specs.declared.walk.Turn.{Turn}
+use Rattle.sefl_meaning.specs.declared.walk.Iteration.{Iteration}
 use Rattle.sefl_meaning.specs.declared.walk.Failure.TheVariants.{Layout}
 use Rattle.sefl_meaning.specs.Network.{Network, names_found}
 use Rattle.sefl_meaning.specs.Values.{Values}
@@ -16,7 +16,7 @@ use Rattle.sefl_meaning.specs.Steps.{allocated, deallocated, assigned, evaluated
 use Rattle.sefl_meaning.specs.Runs.{off, failed}
 use Rattle.sefl_meaning.specs.Courses.{Progress, Course, ends, unless_fault, course_in}
 use Rattle.code_frames.specs.Steps.{Held, done_by, is_plain, is_step, plain_by, with_choices}
-use Rattle.code_frames.specs.Frames.{of_turns, progress_at, scene_in}
+use Rattle.code_frames.specs.Frames.{of_iterations, progress_at, scene_in}
 
 module _ {V F : Type 0} (o : Values V F) (at : Scene) (site : ℕ) where
   -- an instruction that is one step leaves what it does
@@ -59,15 +59,15 @@ module _ {V F : Type 0} (o : Values V F) (at : Scene) (site : ℕ) where
       ∙ ap (λ r. unless_fault site r (progress_at s choices begun) (gone (progress_at s choices begun))) (sym h)
       ∙ sym (stepped i is (progress_at s choices begun))
 
--- the turns of a For
-pub turns_put : {V F : Type 0} (o : Values V F) (net : Network) (node : NodeId) (turns : List Turn) (site inner : ℕ) (var pattern : List ℕ) (body : CodeTree)
+-- the iterations of a For
+pub iterations_put : {V F : Type 0} (o : Values V F) (net : Network) (node : NodeId) (iterations : List Iteration) (site inner : ℕ) (var pattern : List ℕ) (body : CodeTree)
     (found : List NameId) (listed keys : List Key) (s : Carried V) (choices : List ℕ)
     → inner ≡ site + 1 → found ≡ names_found net pattern → listed ≡ snapshot node found s.scopes → keys ≡ listed
-    → (begun : ℕ) → of_turns o net node turns var inner body keys (progress_at s choices begun) ≡ course_in o (scene_in net node turns) site (each var pattern body) (progress_at s choices begun)
-turns_put o net node turns site inner var pattern body found listed keys s choices b finds are same begun =
+    → (begun : ℕ) → of_iterations o net node iterations var inner body keys (progress_at s choices begun) ≡ course_in o (scene_in net node iterations) site (each var pattern body) (progress_at s choices begun)
+iterations_put o net node iterations site inner var pattern body found listed keys s choices b finds are same begun =
     let e : inner ≡ suc site = omega arith in
     let all : keys ≡ snapshot node (names_found net pattern) s.scopes = same ∙ are ∙ ap (λ (names : List NameId). snapshot node names s.scopes) finds in
-    λ j. of_turns o net node turns var (e j) body (all j) (progress_at s choices begun)
+    λ j. of_iterations o net node iterations var (e j) body (all j) (progress_at s choices begun)
 
 -- a plain instruction is a step of what is carried alone
 pub plain_done : {V F : Type 0} (o : Values V F) (at : Scene) (i : InstrTree) (s : Carried V) (choices : List ℕ) → is_plain i ≡ true

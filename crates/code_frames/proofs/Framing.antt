@@ -7,7 +7,7 @@ use Rattle.sefl_syntax.specs.Trees.{CodeTree}
 use Rattle.sefl_syntax.specs.Views.{instr_tree, code_tree}
 use Rattle.sefl_syntax.specs.declared.instr.Instr.{Instr}
 use Rattle.net_check.specs.Places.{inner_size, instr_size}
-use Rattle.sefl_meaning.specs.declared.walk.Turn.{Turn}
+use Rattle.sefl_meaning.specs.declared.walk.Iteration.{Iteration}
 use Rattle.sefl_meaning.specs.Network.{Network}
 use Rattle.sefl_meaning.specs.Values.{Values}
 use Rattle.sefl_meaning.specs.Carried.{Carried, Scene, Key}
@@ -15,7 +15,7 @@ use Rattle.sefl_meaning.specs.Courses.{Progress, Course, after, begin, course_in
 use Rattle.code_frames.specs.declared.frame.Frame.{Frame}
 use Rattle.code_frames.specs.declared.frame.Move.{Move}
 use Rattle.code_frames.specs.Doing.{course_on}
-use Rattle.code_frames.specs.Frames.{GoesOn, Part, from, of_code, of_turns, of_frame, course_frames, scene_in}
+use Rattle.code_frames.specs.Frames.{GoesOn, Part, from, of_code, of_iterations, of_frame, course_frames, scene_in}
 use Rattle.code_frames.proofs.Going.{both}
 
 -- the law that courses associate
@@ -32,32 +32,32 @@ module _ {V F : Type 0} (o : Values V F) (net : Network) (node : NodeId) where
   put old new frame is p = ap (λ fs. course_frames o net node fs p) (ap reverse is ∙ reverse-append old (frame ∷ []))
 
   -- an instruction, and then the others of its code
-  pub code_taken : Associates V F → (turns kept : List Turn) (site behind : ℕ) (instr : Instr) (rest code : List Instr) (old new : List Frame) (p : Progress V)
-      → code ≡ instr ∷ rest → kept ≡ turns → behind ≡ site + instr_size (instr_tree instr)
+  pub code_taken : Associates V F → (iterations kept : List Iteration) (site behind : ℕ) (instr : Instr) (rest code : List Instr) (old new : List Frame) (p : Progress V)
+      → code ≡ instr ∷ rest → kept ≡ iterations → behind ≡ site + instr_size (instr_tree instr)
       → RunsBefore (of_code o net node kept behind (code_tree rest)) old new
-      → after (course_in o (scene_in net node turns) site (instr_tree instr) (begin p)) (course_frames o net node new)
-      ≡ after (of_code o net node turns site (code_tree code) p) (course_frames o net node old)
-  code_taken associate turns kept site behind instr rest code old new p is same b before =
-      let at : Scene = scene_in net node turns in
+      → after (course_in o (scene_in net node iterations) site (instr_tree instr) (begin p)) (course_frames o net node new)
+      ≡ after (of_code o net node iterations site (code_tree code) p) (course_frames o net node old)
+  code_taken associate iterations kept site behind instr rest code old new p is same b before =
+      let at : Scene = scene_in net node iterations in
       let first : Course V F = course_in o at site (instr_tree instr) (begin p) in
       let e : behind ≡ suc site + inner_size (instr_tree instr) = omega arith in
       (λ i. after first (λ q. before q i))
       ∙ (λ i. after first (λ q. after (of_code o net node (same i) (e i) (code_tree rest) q) (course_frames o net node old)))
       ∙ sym (associate first (course_code o at (suc site + inner_size (instr_tree instr)) (code_tree rest)) (course_frames o net node old))
-      ∙ ap (λ c. after (of_code o net node turns site (code_tree c) p) (course_frames o net node old)) (sym is)
+      ∙ ap (λ c. after (of_code o net node iterations site (code_tree c) p) (course_frames o net node old)) (sym is)
 
-  -- the next turn of a For, and then the others
-  pub turn_taken : Associates V F → (turns inner : List Turn) (var name : List ℕ) (site : ℕ) (body : CodeTree) (keys rest : List Key) (owner : Option NodeId) (meta : NameId) (old mid new : List Frame)
-      → keys ≡ (owner, meta) ∷ rest → inner ≡ record { var = name; owner = owner; name = meta } ∷ turns → name ≡ var
-      → RunsBefore (of_turns o net node turns var site body rest) old mid
+  -- the next iteration of a For, and then the others
+  pub iteration_taken : Associates V F → (iterations inner : List Iteration) (var name : List ℕ) (site : ℕ) (body : CodeTree) (keys rest : List Key) (owner : Option NodeId) (meta : NameId) (old mid new : List Frame)
+      → keys ≡ (owner, meta) ∷ rest → inner ≡ record { var = name; owner = owner; name = meta } ∷ iterations → name ≡ var
+      → RunsBefore (of_iterations o net node iterations var site body rest) old mid
       → RunsBefore (of_code o net node inner site body) mid new
-      → RunsBefore (of_turns o net node turns var site body keys) old new
-  turn_taken associate turns inner var name site body keys rest owner meta old mid new is on n below above p =
+      → RunsBefore (of_iterations o net node iterations var site body keys) old new
+  iteration_taken associate iterations inner var name site body keys rest owner meta old mid new is on n below above p =
       above p
       ∙ (λ i. after (of_code o net node (on i) site body p) (course_frames o net node mid))
-      ∙ (λ i. after (of_code o net node (record { var = n i; owner = owner; name = meta } ∷ turns) site body p) (λ q. below q i))
-      ∙ sym (associate (of_code o net node (record { var = var; owner = owner; name = meta } ∷ turns) site body p) (of_turns o net node turns var site body rest) (course_frames o net node old))
-      ∙ ap (λ l. after (of_turns o net node turns var site body l p) (course_frames o net node old)) (sym is)
+      ∙ (λ i. after (of_code o net node (record { var = n i; owner = owner; name = meta } ∷ iterations) site body p) (λ q. below q i))
+      ∙ sym (associate (of_code o net node (record { var = var; owner = owner; name = meta } ∷ iterations) site body p) (of_iterations o net node iterations var site body rest) (course_frames o net node old))
+      ∙ ap (λ l. after (of_iterations o net node iterations var site body l p) (course_frames o net node old)) (sym is)
 
 module _ {V F T : Type 0} (net : Network) (node : NodeId) (truth : T → F) where
   -- a step of the first frame, behind what has run

@@ -8,7 +8,7 @@ use Rattle.sn_width.specs.declared.ids.NameId.{NameId}
 use Rattle.metadata_scopes.specs.Scopes.{Metadata}
 use Rattle.metadata_scopes.specs.Snapshot.{is_allocated, present_of, snapshot}
 use Rattle.sefl_meaning.specs.Carried.{Key}
-use Rattle.code_frames.specs.Weights.{turns_weight}
+use Rattle.code_frames.specs.Weights.{iterations_weight}
 
 length-present : {V : Type 0} (owner : Option NodeId) (names : List NameId) (scopes : Metadata V) → length (present_of owner names scopes) ≤ length names
 length-present owner names scopes =
@@ -16,7 +16,7 @@ length-present owner names scopes =
     let key : NameId → Key = λ name. (owner, name) in
     omega (arith, length-map (filter p names) key, length-filter_both p (λ name. not (p name)) (λ name. refl) names)
 
--- a For has at most two turns for each name that its pattern finds
+-- a For has at most two iterations for each name that its pattern finds
 length-snapshot : {V : Type 0} (node : NodeId) (names : List NameId) (scopes : Metadata V) → length (snapshot node names scopes) ≤ 2 * length names
 length-snapshot node names scopes =
     omega (
@@ -26,21 +26,21 @@ length-snapshot node names scopes =
       length-present (Some node) names scopes,
     )
 
--- the turns of a For
-pub turns_weigh : {V : Type 0} (node : NodeId) (names found : List NameId) (scopes : Metadata V) (listed keys : List Key) (body : ℕ)
+-- the iterations of a For
+pub iterations_weigh : {V : Type 0} (node : NodeId) (names found : List NameId) (scopes : Metadata V) (listed keys : List Key) (body : ℕ)
     → found ≡ names → listed ≡ snapshot node found scopes → keys ≡ listed
-    → turns_weight (length keys) body < 1 + turns_weight (2 * length names) body
-turns_weigh node names found scopes listed keys body finds are same =
+    → iterations_weight (length keys) body < 1 + iterations_weight (2 * length names) body
+iterations_weigh node names found scopes listed keys body finds are same =
     let n : length keys ≡ length (snapshot node found scopes) = ap length same ∙ ap length are in
     let m : length found ≡ length names = ap length finds in
     let few : length keys ≤ 2 * length names = omega (arith, length-snapshot node found scopes) in
     let e : length keys * (1 + body) ≤ 2 * length names * (1 + body) = mul-le-mul_right (1 + body) few in
     omega arith
 
--- the next turn of a For, with those behind it
-pub turn_weighs : (turns behind body old mid new : ℕ) → turns ≡ suc behind → mid ≡ turns_weight behind body + old → new ≡ body + mid → new < turns_weight turns body + old
-turn_weighs turns behind body old mid new e m n =
-    let times : turns * (1 + body) ≡ (1 + body) + behind * (1 + body) = ap (λ k. k * (1 + body)) e ∙ one_more in
+-- the next iteration of a For, with those behind it
+pub iteration_weighs : (iterations behind body old mid new : ℕ) → iterations ≡ suc behind → mid ≡ iterations_weight behind body + old → new ≡ body + mid → new < iterations_weight iterations body + old
+iteration_weighs iterations behind body old mid new e m n =
+    let times : iterations * (1 + body) ≡ (1 + body) + behind * (1 + body) = ap (λ k. k * (1 + body)) e ∙ one_more in
     omega arith
   where
     one_more : suc behind * (1 + body) ≡ (1 + body) + behind * (1 + body)

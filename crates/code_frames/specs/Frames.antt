@@ -3,16 +3,16 @@ use Rattle.std.specs.Prelude.{◌≡◌, ◌+◌, ℕ, suc, Bool, true, false, L
 use Rattle.sn_width.specs.declared.ids.NodeId.{NodeId}
 use Rattle.sefl_syntax.specs.Trees.{CodeTree}
 use Rattle.sefl_syntax.specs.Views.{code_tree}
-use Rattle.sefl_meaning.specs.declared.walk.Turn.{Turn}
+use Rattle.sefl_meaning.specs.declared.walk.Iteration.{Iteration}
 use Rattle.sefl_meaning.specs.declared.walk.Failure.TheVariants.{Constraint}
 use Rattle.sefl_meaning.specs.Network.{Network, code_size}
 use Rattle.sefl_meaning.specs.Values.{Values}
 use Rattle.sefl_meaning.specs.Carried.{Carried, Scene, Key}
 use Rattle.sefl_meaning.specs.Runs as runs
-use Rattle.sefl_meaning.specs.Runs.{off, go, forked, failed, in_turn}
-use Rattle.sefl_meaning.specs.Courses.{Asking, at_if, at_constrain, Progress, Course, ends, asks, after, course_code, course_turns}
+use Rattle.sefl_meaning.specs.Runs.{off, go, forked, failed, in_iteration}
+use Rattle.sefl_meaning.specs.Courses.{Asking, at_if, at_constrain, Progress, Course, ends, asks, after, course_code, course_iterations}
 use Rattle.code_frames.specs.declared.frame.Frame.{Frame}
-use Rattle.code_frames.specs.declared.frame.Frame.TheVariants.{Code, Turns}
+use Rattle.code_frames.specs.declared.frame.Frame.TheVariants.{Code, Iterations}
 use Rattle.code_frames.specs.declared.frame.Exit.{Exit}
 use Rattle.code_frames.specs.declared.frame.Exit.TheVariants.{Off, Go, Forked, Failed}
 use Rattle.code_frames.specs.declared.frame.Question.{Question}
@@ -27,34 +27,34 @@ exit_of (Forked ports) = forked ports.now
 exit_of (Failed failure site) = failed failure site
 
 abbrev pub asking_of : Question → Asking
-asking_of (If turns site first other) = at_if
+asking_of (If iterations site first other) = at_if
 asking_of (Constrain site) = at_constrain
 
 -- what is carried, behind these choices and this many instructions
 abbrev pub progress_at : {V : Type 0} → Carried V → List ℕ → ℕ → Progress V
 progress_at s choices begun = record { state = s; choices = choices; begun = begun }
 
--- in these turns of Fors, the innermost first
-abbrev pub scene_in : Network → NodeId → List Turn → Scene
-scene_in net node turns = record { net = net; node = node; turns = turns }
+-- in these iterations of Fors, the innermost first
+abbrev pub scene_in : Network → NodeId → List Iteration → Scene
+scene_in net node iterations = record { net = net; node = node; iterations = iterations }
 
 -- what is still to run, whatever is carried
 abbrev pub Part : Type 0 → Type 0 → Type 0
 Part V F = Progress V → Course V F
 
 module _ {V F : Type 0} (o : Values V F) (net : Network) (node : NodeId) where
-  -- code in these turns; its first instruction has the site
-  abbrev pub of_code : List Turn → ℕ → CodeTree → Part V F
-  of_code turns site code p = course_code o (scene_in net node turns) site code p
+  -- code in these iterations; its first instruction has the site
+  abbrev pub of_code : List Iteration → ℕ → CodeTree → Part V F
+  of_code iterations site code p = course_code o (scene_in net node iterations) site code p
 
   -- the body of a For, once for each of these keys
-  abbrev pub of_turns : List Turn → List ℕ → ℕ → CodeTree → List Key → Part V F
-  of_turns turns var site body keys p =
-      course_turns (λ key q. course_code o (in_turn (scene_in net node turns) var key) site body q) keys p
+  abbrev pub of_iterations : List Iteration → List ℕ → ℕ → CodeTree → List Key → Part V F
+  of_iterations iterations var site body keys p =
+      course_iterations (λ key q. course_code o (in_iteration (scene_in net node iterations) var key) site body q) keys p
 
   abbrev pub of_frame : Frame → Part V F
-  of_frame (Code turns site code) = of_code turns site (code_tree code.now)
-  of_frame (Turns turns var site body keys) = of_turns turns var.now site (code_tree body.now) keys
+  of_frame (Code iterations site code) = of_code iterations site (code_tree code.now)
+  of_frame (Iterations iterations var site body keys) = of_iterations iterations var.now site (code_tree body.now) keys
 
   -- the first frame, and then the others
   abbrev pub course_frames : List Frame → Part V F
@@ -63,9 +63,9 @@ module _ {V F : Type 0} (o : Values V F) (net : Network) (node : NodeId) where
 
   -- what the asking instruction runs where its test has this truth
   abbrev pub branch_of : Question → Bool → Part V F
-  branch_of (If turns site first other) true p = of_code turns (suc site) (code_tree first.now) p
-  branch_of (If turns site first other) false p =
-      of_code turns (suc site + code_size (code_tree first.now)) (code_tree other.now) p
+  branch_of (If iterations site first other) true p = of_code iterations (suc site) (code_tree first.now) p
+  branch_of (If iterations site first other) false p =
+      of_code iterations (suc site + code_size (code_tree first.now)) (code_tree other.now) p
   branch_of (Constrain site) true p = ends p off
   branch_of (Constrain site) false p = ends p (failed Constraint site)
 

@@ -4,22 +4,22 @@ use Rattle.sefl_syntax.specs.Trees.{InstrTree, CodeTree, allocate, deallocate, a
 use Rattle.sefl_syntax.specs.Views.{code_tree}
 use Rattle.net_check.specs.Network.{Network, names_found}
 use Rattle.code_frames.specs.declared.frame.Frame.{Frame}
-use Rattle.code_frames.specs.declared.frame.Frame.TheVariants.{Code, Turns}
+use Rattle.code_frames.specs.declared.frame.Frame.TheVariants.{Code, Iterations}
 use Rattle.code_frames.specs.declared.frame.Question.{Question}
 use Rattle.code_frames.specs.declared.frame.Question.TheVariants.{If, Constrain}
 use Rattle.code_frames.specs.declared.frame.Move.{Move}
 use Rattle.code_frames.specs.declared.frame.Move.TheVariants.{Ended, Asked}
 
--- of this many turns, where the body has this weight
-abbrev pub turns_weight : ℕ → ℕ → ℕ
-turns_weight turns body = 1 + turns * (1 + body)
+-- of this many iterations, where the body has this weight
+abbrev pub iterations_weight : ℕ → ℕ → ℕ
+iterations_weight iterations body = 1 + iterations * (1 + body)
 
 module _ (net : Network) where
   abbrev mutual
-    -- a For has at most two turns for each name that its pattern finds: a global and a local
+    -- a For has at most two iterations for each name that its pattern finds: a global and a local
     pub instr_weight : InstrTree → ℕ
     instr_weight (branch test first other) = 1 + code_weight first + code_weight other
-    instr_weight (each var pattern body) = 1 + turns_weight (2 * length (names_found net pattern)) (code_weight body)
+    instr_weight (each var pattern body) = 1 + iterations_weight (2 * length (names_found net pattern)) (code_weight body)
     instr_weight (block body) = 1 + code_weight body
     instr_weight (allocate target) = 1
     instr_weight (deallocate target) = 1
@@ -39,8 +39,8 @@ module _ (net : Network) where
     code_weight (instr_and i is) = instr_weight i + code_weight is
 
   abbrev pub frame_weight : Frame → ℕ
-  frame_weight (Code turns site code) = code_weight (code_tree code.now)
-  frame_weight (Turns turns var site body keys) = turns_weight (length keys) (code_weight (code_tree body.now))
+  frame_weight (Code iterations site code) = code_weight (code_tree code.now)
+  frame_weight (Iterations iterations var site body keys) = iterations_weight (length keys) (code_weight (code_tree body.now))
 
   abbrev pub frames_weight : List Frame → ℕ
   frames_weight [] = 0
@@ -48,7 +48,7 @@ module _ (net : Network) where
 
   -- of what a question may put on the frames
   abbrev pub question_weight : Question → ℕ
-  question_weight (If turns site first other) = code_weight (code_tree first.now) + code_weight (code_tree other.now)
+  question_weight (If iterations site first other) = code_weight (code_tree first.now) + code_weight (code_tree other.now)
   question_weight (Constrain site) = 0
 
   -- where it asks, what is left and what the question may put on it are less than what was there

@@ -4,24 +4,24 @@ ghost use Rattle.std.specs.Prelude.{◌≡◌, IfOk};
 ghost use Rattle.sefl_meaning.specs.Taken.{decision_at};
 ghost use Rattle.code_frames.specs.Frames.{asking_of};
 
-use sefl_meaning::{Decision, Failure, Turn};
+use sefl_meaning::{Decision, Failure, Iteration};
 use sefl_syntax::{Instr, Name};
 use sn_tree::Shared;
 use sn_width::{NameId, NoMemory, NodeId};
 use std::alloc::Global;
 
-/// Code that is still to run, in the turns of the Fors round it.
+/// Code that is still to run, in the iterations of the Fors round it.
 #[derive(Drop)]
 pub enum Frame<'a> {
     /// Instructions; the first one has the site.
     Code {
-        turns: Shared<Turn>,
+        iterations: Shared<Iteration>,
         site: u32,
         code: &'a [Instr],
     },
     /// The body of a For, whose first instruction has the site, once for each of the keys.
-    Turns {
-        turns: Shared<Turn>,
+    Iterations {
+        iterations: Shared<Iteration>,
         var: &'a Name,
         site: u32,
         body: &'a [Instr],
@@ -43,7 +43,7 @@ pub enum Exit<'a> {
 pub enum Question<'a> {
     /// One block or the other.
     If {
-        turns: Shared<Turn>,
+        iterations: Shared<Iteration>,
         site: u32,
         first: &'a [Instr],
         other: &'a [Instr],
@@ -81,31 +81,35 @@ impl<'a> Frame<'a> {
         ensures { IfOk result (λ frame. frame ≡ self.now) }
     {
         match self {
-            Frame::Code { turns, site, code } => {
-                let Ok(turns) = turns.fork() else {
+            Frame::Code {
+                iterations,
+                site,
+                code,
+            } => {
+                let Ok(iterations) = iterations.fork() else {
                     return Err(NoMemory);
                 };
                 Ok(Frame::Code {
-                    turns,
+                    iterations,
                     site: *site,
                     code: *code,
                 })
             }
-            Frame::Turns {
-                turns,
+            Frame::Iterations {
+                iterations,
                 var,
                 site,
                 body,
                 keys,
             } => {
-                let Ok(turns) = turns.fork() else {
+                let Ok(iterations) = iterations.fork() else {
                     return Err(NoMemory);
                 };
                 let Ok(keys) = keys.fork() else {
                     return Err(NoMemory);
                 };
-                Ok(Frame::Turns {
-                    turns,
+                Ok(Frame::Iterations {
+                    iterations,
                     var: *var,
                     site: *site,
                     body: *body,

@@ -16,7 +16,7 @@ use crate::frame::{Frame, Question};
 use crate::machine::Machine;
 use instr_steps::Scene;
 use net_check::{Net, behind_item};
-use sefl_meaning::{Failure, Turn};
+use sefl_meaning::{Failure, Iteration};
 use sefl_syntax::{Cond, Instr, Name, Text};
 use sn_tree::Shared;
 use sn_width::{LayoutFault, NameId, NoMemory, NodeId, StepFault, Steps};
@@ -35,20 +35,20 @@ pub(crate) enum Done<'a, T: Drop> {
     Asked { question: Question<'a>, test: T },
 }
 
-/// Runs an instruction of a box, at a site, in these turns of Fors.
+/// Runs an instruction of a box, at a site, in these iterations of Fors.
 pub(crate) fn run_instr<'a, M: Machine, L: Ledger>(
     alloc: Global,
     machine: &mut M,
     net: &Net,
     node: NodeId,
-    turns: Shared<Turn>,
+    iterations: Shared<Iteration>,
     site: u32,
     instr: &'a Instr,
     steps: &mut Steps<L>,
 ) -> Result<Done<'a, M::Test>, NoMemory>
     ensures course { IfOk result (λ done. (begun : ℕ)
         → course_of (M.values machine.old) (network net.now) node M.truth done (progress_at (M.carried machine.new) (M.choices machine.new) begun)
-        ≡ course_in (M.values machine.old) (scene_in (network net.now) node turns) site (instr_tree instr.now)
+        ≡ course_in (M.values machine.old) (scene_in (network net.now) node iterations) site (instr_tree instr.now)
         (progress_at (M.carried machine.old) (M.choices machine.old) begun)) }
     ensures counted { OnOk result (steps.new ≡ steps.old + 1) }
     ensures kept { OnOk result (M.values machine.new ≡ M.values machine.old) }
@@ -57,12 +57,12 @@ pub(crate) fn run_instr<'a, M: Machine, L: Ledger>(
     ensures weight { IfOk result (λ done. done_weight (network net.now) done < instr_weight (network net.now) (instr_tree instr.now)) }
 {
     match instr {
-        Instr::Constrain(test) => ask(alloc, machine, net, node, turns, site, test, steps),
+        Instr::Constrain(test) => ask(alloc, machine, net, node, iterations, site, test, steps),
         Instr::If { test, first, other } => branch(
-            alloc, machine, net, node, turns, site, test, first, other, steps,
+            alloc, machine, net, node, iterations, site, test, first, other, steps,
         ),
         Instr::For { var, pattern, body } => each(
-            alloc, machine, net, node, turns, site, var, pattern, body, steps,
+            alloc, machine, net, node, iterations, site, var, pattern, body, steps,
         ),
         Instr::Fail(text) => {
             machine.pass(steps);
@@ -81,7 +81,7 @@ pub(crate) fn run_instr<'a, M: Machine, L: Ledger>(
         Instr::Block(body) => {
             machine.pass(steps);
             Ok(Done::Runs(Frame::Code {
-                turns,
+                iterations,
                 site: behind_item(site)?,
                 code: body,
             }))
@@ -90,13 +90,13 @@ pub(crate) fn run_instr<'a, M: Machine, L: Ledger>(
             machine.pass(steps);
             Ok(Done::On)
         }
-        Instr::Allocate(_) => take(alloc, machine, net, node, turns, site, instr, steps),
-        Instr::Deallocate(_) => take(alloc, machine, net, node, turns, site, instr, steps),
-        Instr::Assign { .. } => take(alloc, machine, net, node, turns, site, instr, steps),
-        Instr::AssignAny(_) => take(alloc, machine, net, node, turns, site, instr, steps),
-        Instr::CreateTag { .. } => take(alloc, machine, net, node, turns, site, instr, steps),
-        Instr::SetTag { .. } => take(alloc, machine, net, node, turns, site, instr, steps),
-        Instr::DestroyTag(_) => take(alloc, machine, net, node, turns, site, instr, steps),
+        Instr::Allocate(_) => take(alloc, machine, net, node, iterations, site, instr, steps),
+        Instr::Deallocate(_) => take(alloc, machine, net, node, iterations, site, instr, steps),
+        Instr::Assign { .. } => take(alloc, machine, net, node, iterations, site, instr, steps),
+        Instr::AssignAny(_) => take(alloc, machine, net, node, iterations, site, instr, steps),
+        Instr::CreateTag { .. } => take(alloc, machine, net, node, iterations, site, instr, steps),
+        Instr::SetTag { .. } => take(alloc, machine, net, node, iterations, site, instr, steps),
+        Instr::DestroyTag(_) => take(alloc, machine, net, node, iterations, site, instr, steps),
     }
 }
 
@@ -106,7 +106,7 @@ fn take<'a, M: Machine, L: Ledger>(
     machine: &mut M,
     net: &Net,
     node: NodeId,
-    turns: Shared<Turn>,
+    iterations: Shared<Iteration>,
     site: u32,
     instr: &Instr,
     steps: &mut Steps<L>,
@@ -114,7 +114,7 @@ fn take<'a, M: Machine, L: Ledger>(
     requires { is_step (instr_tree instr.now) ≡ true }
     ensures course { IfOk result (λ done. (begun : ℕ)
         → course_of (M.values machine.old) (network net.now) node M.truth done (progress_at (M.carried machine.new) (M.choices machine.new) begun)
-        ≡ course_in (M.values machine.old) (scene_in (network net.now) node turns) site (instr_tree instr.now)
+        ≡ course_in (M.values machine.old) (scene_in (network net.now) node iterations) site (instr_tree instr.now)
         (progress_at (M.carried machine.old) (M.choices machine.old) begun)) }
     ensures counted { steps.new ≡ steps.old + 1 }
     ensures kept { M.values machine.new ≡ M.values machine.old }
@@ -125,7 +125,7 @@ fn take<'a, M: Machine, L: Ledger>(
     let at = Scene {
         net,
         node,
-        turns: &turns,
+        iterations: &iterations,
     };
     match machine.step(alloc, &at, instr, steps) {
         Ok(()) => Ok(Done::On),
@@ -148,14 +148,14 @@ fn ask<'a, M: Machine, L: Ledger>(
     machine: &M,
     net: &Net,
     node: NodeId,
-    turns: Shared<Turn>,
+    iterations: Shared<Iteration>,
     site: u32,
     test: &Cond,
     steps: &mut Steps<L>,
 ) -> Result<Done<'a, M::Test>, NoMemory>
     ensures course { IfOk result (λ done. (begun : ℕ)
         → course_of (M.values machine.now) (network net.now) node M.truth done (progress_at (M.carried machine.now) (M.choices machine.now) begun)
-        ≡ course_in (M.values machine.now) (scene_in (network net.now) node turns) site (constrain (cond_tree test.now))
+        ≡ course_in (M.values machine.now) (scene_in (network net.now) node iterations) site (constrain (cond_tree test.now))
         (progress_at (M.carried machine.now) (M.choices machine.now) begun)) }
     ensures counted { steps.new ≡ steps.old + 1 }
     ensures fit { IfOk result (AsksFor (M.IsFit machine.now)) }
@@ -164,7 +164,7 @@ fn ask<'a, M: Machine, L: Ledger>(
     let at = Scene {
         net,
         node,
-        turns: &turns,
+        iterations: &iterations,
     };
     match machine.test(alloc, &at, test, steps) {
         Ok(test) => {
@@ -182,7 +182,7 @@ fn branch<'a, M: Machine, L: Ledger>(
     machine: &M,
     net: &Net,
     node: NodeId,
-    turns: Shared<Turn>,
+    iterations: Shared<Iteration>,
     site: u32,
     test: &Cond,
     first: &'a [Instr],
@@ -191,7 +191,7 @@ fn branch<'a, M: Machine, L: Ledger>(
 ) -> Result<Done<'a, M::Test>, NoMemory>
     ensures course { IfOk result (λ done. (begun : ℕ)
         → course_of (M.values machine.now) (network net.now) node M.truth done (progress_at (M.carried machine.now) (M.choices machine.now) begun)
-        ≡ course_in (M.values machine.now) (scene_in (network net.now) node turns) site (branch (cond_tree test.now) (code_tree first.now) (code_tree other.now))
+        ≡ course_in (M.values machine.now) (scene_in (network net.now) node iterations) site (branch (cond_tree test.now) (code_tree first.now) (code_tree other.now))
         (progress_at (M.carried machine.now) (M.choices machine.now) begun)) }
     ensures counted { steps.new ≡ steps.old + 1 }
     ensures fit { IfOk result (AsksFor (M.IsFit machine.now)) }
@@ -200,12 +200,12 @@ fn branch<'a, M: Machine, L: Ledger>(
     let at = Scene {
         net,
         node,
-        turns: &turns,
+        iterations: &iterations,
     };
     match machine.test(alloc, &at, test, steps) {
         Ok(test) => {
             let question = Question::If {
-                turns,
+                iterations,
                 site,
                 first,
                 other,
@@ -217,13 +217,13 @@ fn branch<'a, M: Machine, L: Ledger>(
     }
 }
 
-/// A For: a turn for each of the metadata that its pattern finds and that are allocated now.
+/// A For: an iteration for each of the metadata that its pattern finds and that are allocated now.
 fn each<'a, M: Machine, L: Ledger>(
     alloc: Global,
     machine: &M,
     net: &Net,
     node: NodeId,
-    turns: Shared<Turn>,
+    iterations: Shared<Iteration>,
     site: u32,
     var: &'a Name,
     pattern: &Text,
@@ -232,7 +232,7 @@ fn each<'a, M: Machine, L: Ledger>(
 ) -> Result<Done<'a, M::Test>, NoMemory>
     ensures course { IfOk result (λ done. (begun : ℕ)
         → course_of (M.values machine.now) (network net.now) node M.truth done (progress_at (M.carried machine.now) (M.choices machine.now) begun)
-        ≡ course_in (M.values machine.now) (scene_in (network net.now) node turns) site (each var.now pattern.now (code_tree body.now))
+        ≡ course_in (M.values machine.now) (scene_in (network net.now) node iterations) site (each var.now pattern.now (code_tree body.now))
         (progress_at (M.carried machine.now) (M.choices machine.now) begun)) }
     ensures counted { OnOk result (steps.new ≡ steps.old + 1) }
     ensures fit { IfOk result (AsksFor (M.IsFit machine.now)) }
@@ -241,10 +241,10 @@ fn each<'a, M: Machine, L: Ledger>(
 {
     let inner = behind_item(site)?;
     let found = net.found(pattern);
-    let keys = machine.turns(alloc, node, found, steps)?;
+    let keys = machine.iterations(alloc, node, found, steps)?;
     let keys = stacked(alloc, keys)?;
-    Ok(Done::Runs(Frame::Turns {
-        turns,
+    Ok(Done::Runs(Frame::Iterations {
+        iterations,
         var,
         site: inner,
         body,

@@ -77,7 +77,7 @@ pub trait Machine {
         ensures counted { steps.new ≡ steps.old + 1 };
 
     /// What a For goes over in a box: those of the names that are allocated now, with their owners.
-    fn turns<L: Ledger>(
+    fn iterations<L: Ledger>(
         &self,
         alloc: Global,
         node: NodeId,

@@ -8,15 +8,15 @@ ghost use Rattle.net_check.specs.Network.{Network, network};
 ghost use Rattle.sefl_meaning.specs.Courses.{Progress, after};
 ghost use Rattle.sefl_meaning.specs.Values.{Values};
 ghost use Rattle.code_frames.specs.Doing.{AsksFor, WaitsIfFor, course_of, course_on, done_weight, waiting_weight};
-ghost use Rattle.code_frames.specs.Frames.{GoesOn, WaitsFor, course_after, course_behind, course_frames, course_left, from, of_turns};
-ghost use Rattle.code_frames.specs.Weights.{IsBelow, code_weight, frames_weight, question_weight, turns_weight};
+ghost use Rattle.code_frames.specs.Frames.{GoesOn, WaitsFor, course_after, course_behind, course_frames, course_left, from, of_iterations};
+ghost use Rattle.code_frames.specs.Weights.{IsBelow, code_weight, frames_weight, question_weight, iterations_weight};
 
 use crate::frame::{Exit, Frame, Move, Question};
 use crate::instrs::{Done, run_instr};
 use crate::machine::Machine;
 use net_check::{Net, behind_code, behind_instr, behind_item};
 use sefl_meaning::laws::{Truths, sequences_associate};
-use sefl_meaning::{Failure, Turn};
+use sefl_meaning::{Failure, Iteration};
 use sefl_syntax::{Instr, Name};
 use sn_tree::Shared;
 use sn_width::{NameId, NoMemory, NodeId, Steps};
@@ -65,24 +65,24 @@ pub fn answer<'a, M: Machine>(
 {
     match question {
         Question::If {
-            turns,
+            iterations,
             site,
             first,
             other,
         } => {
-            let Ok(turns) = turns.fork() else {
+            let Ok(iterations) = iterations.fork() else {
                 return Err(NoMemory);
             };
             let inner = behind_item(*site)?;
             if holds {
                 frames.push(Frame::Code {
-                    turns,
+                    iterations,
                     site: inner,
                     code: *first,
                 })?;
             } else {
                 frames.push(Frame::Code {
-                    turns,
+                    iterations,
                     site: behind_code(inner, *first)?,
                     code: *other,
                 })?;
@@ -102,7 +102,7 @@ pub fn answer<'a, M: Machine>(
     }
 }
 
-/// Takes the next instruction, or the next turn, of a frame. None: the run goes on with the frames.
+/// Takes the next instruction, or the next iteration, of a frame. None: the run goes on with the frames.
 fn step_frame<'a, M: Machine, L: Ledger>(
     alloc: Global,
     machine: &mut M,
@@ -122,31 +122,35 @@ fn step_frame<'a, M: Machine, L: Ledger>(
         < frames_weight (network net.now) (frame.entry ∷ reverse frames.old.items)) }
 {
     match frame {
-        Frame::Code { turns, site, code } => {
+        Frame::Code {
+            iterations,
+            site,
+            code,
+        } => {
             let [instr, rest @ ..] = code else {
                 return Ok(None);
             };
             sequences_associate::<M::Value, TruthsOf<M>>();
             let behind = behind_instr(site, instr)?;
-            let Ok(kept) = turns.fork() else {
+            let Ok(kept) = iterations.fork() else {
                 return Err(NoMemory);
             };
             frames.push(Frame::Code {
-                turns: kept,
+                iterations: kept,
                 site: behind,
                 code: rest,
             })?;
-            let done = run_instr(alloc, machine, net, node, turns, site, instr, steps)?;
+            let done = run_instr(alloc, machine, net, node, iterations, site, instr, steps)?;
             put::<M>(done, frames)
         }
-        Frame::Turns {
-            turns,
+        Frame::Iterations {
+            iterations,
             var,
             site,
             body,
             keys,
         } => {
-            begin_turn::<M>(alloc, turns, var, site, body, keys, frames)?;
+            begin_iteration::<M>(alloc, iterations, var, site, body, keys, frames)?;
             Ok(None)
         }
     }
@@ -177,10 +181,10 @@ fn put<'a, M: Machine>(
     }
 }
 
-/// Puts the code of the next turn of a For on the frames, and under it the turns behind that.
-fn begin_turn<'a, M: Machine>(
+/// Puts the code of the next iteration of a For on the frames, and under it the iterations behind that.
+fn begin_iteration<'a, M: Machine>(
     alloc: Global,
-    turns: Shared<Turn>,
+    iterations: Shared<Iteration>,
     var: &'a Name,
     site: u32,
     body: &'a [Instr],
@@ -189,32 +193,32 @@ fn begin_turn<'a, M: Machine>(
 ) -> Result<(), NoMemory>
     ensures course { OnOk result ((o : Values M.Value M.Truth) (net : Network) (at : Box) (p : Progress M.Value)
         → course_frames o net at (reverse frames.new.items) p
-        ≡ after (of_turns o net at turns var.now site (code_tree body.now) keys p) (course_frames o net at (reverse frames.old.items))) }
+        ≡ after (of_iterations o net at iterations var.now site (code_tree body.now) keys p) (course_frames o net at (reverse frames.old.items))) }
     ensures weight { OnOk result ((net : Network) → frames_weight net (reverse frames.new.items)
-        < turns_weight (length keys) (code_weight net (code_tree body.now)) + frames_weight net (reverse frames.old.items)) }
+        < iterations_weight (length keys) (code_weight net (code_tree body.now)) + frames_weight net (reverse frames.old.items)) }
 {
     let Some((owner, name)) = first_key(&keys) else {
         return Ok(());
     };
     sequences_associate::<M::Value, TruthsOf<M>>();
     let behind = other_keys(&keys)?;
-    let turn = Turn {
+    let iteration = Iteration {
         var: var.clone()?,
         owner,
         name,
     };
-    let Ok(inner) = turns.push(alloc, turn) else {
+    let Ok(inner) = iterations.push(alloc, iteration) else {
         return Err(NoMemory);
     };
-    frames.push(Frame::Turns {
-        turns,
+    frames.push(Frame::Iterations {
+        iterations,
         var,
         site,
         body,
         keys: behind,
     })?;
     frames.push(Frame::Code {
-        turns: inner,
+        iterations: inner,
         site,
         code: body,
     })?;

@@ -15,7 +15,7 @@ use Rattle.sefl_meaning.specs.Network.{Network, code_of, code_size, inner_size, 
 use Rattle.sefl_meaning.specs.Carried.{Carried, Scene, Key, scene_at}
 use Rattle.sefl_meaning.specs.Terms.{truth_in}
 use Rattle.sefl_meaning.specs.Steps.{allocated, deallocated, assigned, evaluated, tag_created, tag_set, tag_destroyed}
-use Rattle.sefl_meaning.specs.Runs.{Exit, off, go, forked, failed, Progress, Ran, ran, noting, unless_fault, then_next, then_run, run_turns, in_turn, turns_of, run_instr, run_code}
+use Rattle.sefl_meaning.specs.Runs.{Exit, off, go, forked, failed, Progress, Ran, ran, noting, unless_fault, then_next, then_run, run_iterations, in_iteration, iterations_of, run_instr, run_code}
 use Rattle.sefl_meaning.specs.Walks.{Passage, Trail, shown, place_at, by_way_of, decided, run_port, crossed, leave, copies, passed, enter}
 use Rattle.code_frames.specs.Frames.{progress_at}
 use Rattle.concrete_run.specs.declared.pending.Stage.{Stage}
@@ -56,10 +56,10 @@ blind_then r q next same blind =
     ap (λ (x : Bare). bare (then_run (counted x r.progress.begun) next)) same
     ∙ blind_next q.exit (bare q) r.progress.begun q.progress.begun next blind
 
-blind_turns : (body : Key → Progress ℕ → Ran) → ((key : Key) → IsBlind (body key)) → (keys : List Key) → IsBlind (run_turns body keys)
-blind_turns body blind [] s k b c = refl
-blind_turns body blind (key ∷ keys) s k b c =
-    blind_then (body key (progress_at s k b)) (body key (progress_at s k c)) (run_turns body keys) (blind key s k b c) (blind_turns body blind keys)
+blind_iterations : (body : Key → Progress ℕ → Ran) → ((key : Key) → IsBlind (body key)) → (keys : List Key) → IsBlind (run_iterations body keys)
+blind_iterations body blind [] s k b c = refl
+blind_iterations body blind (key ∷ keys) s k b c =
+    blind_then (body key (progress_at s k b)) (body key (progress_at s k c)) (run_iterations body keys) (blind key s k b c) (blind_iterations body blind keys)
 
 blind_unless : {A : Type 0} (site : ℕ) (r : Result A LayoutFault) (s : Carried ℕ) (k : List ℕ) (b c : ℕ) (next : ℕ → A → Ran)
     → ((x : A) → bare (next b x) ≡ bare (next c x))
@@ -100,7 +100,7 @@ module _ (v : List ℕ) (u : ℕ) where
         (blind_if Then Else (λ n. run_code v u at (suc site) first (progress_at s k n)) (λ n. run_code v u at (suc site + code_size first) other (progress_at s k n)) b c
         (blind_code first at (suc site) s k b c) (blind_code other at (suc site + code_size first) s k b c))
     blind_instr (each var pattern body) at site s k b c =
-        blind_turns (λ key p. run_code v u (in_turn at var key) (suc site) body p) (λ key. blind_code body (in_turn at var key) (suc site)) (turns_of at pattern s) s k b c
+        blind_iterations (λ key p. run_code v u (in_iteration at var key) (suc site) body p) (λ key. blind_code body (in_iteration at var key) (suc site)) (iterations_of at pattern s) s k b c
     blind_instr (forward port) at site s k b c = refl
     blind_instr (fork ports) at site s k b c = refl
     blind_instr (block body) at site s k b c = blind_code body at (suc site) s k b c

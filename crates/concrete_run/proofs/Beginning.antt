@@ -20,7 +20,7 @@ use Rattle.sefl_meaning.specs.Carried.{Carried, Scene, scene_at}
 use Rattle.sefl_meaning.specs.Injected.{FitWidths, IsTrueIn, Starts, injected, unknown_count, unknown_widths}
 use Rattle.sefl_meaning.specs.Network.{Network}
 use Rattle.sefl_meaning.specs.Values.{Values, numbers}
-use Rattle.sefl_meaning.specs.declared.walk.Turn.{Turn}
+use Rattle.sefl_meaning.specs.declared.walk.Iteration.{Iteration}
 use Rattle.instr_steps.specs.Scenes.{GivesBy}
 use Rattle.concrete_run.specs.Starting.{Goes, IsFirstTooWide, IsFirstOther, StartsBut}
 
@@ -154,16 +154,16 @@ module _ (Holds : CondTree → Type 0) (tests : List Cond) where
 
 -- the code's names for the parts of a start are those of the definition
 module _ (net : Network) (p : EntryParts) (v : List ℕ) (raw : RawInjection) (fields : List RawField) (tests : List Cond)
-    (unknowns : ℕ) (node : NodeId) (turns : List Turn) (raw_is : raw ≡ p.raw) (fields_are : fields ≡ raw.fields.items)
-    (tests_are : tests ≡ raw.tests.items) (count : unknowns ≡ unknown_count (entry p)) (place : node ≡ p.node) (none : turns ≡ []) where
+    (unknowns : ℕ) (node : NodeId) (iterations : List Iteration) (raw_is : raw ≡ p.raw) (fields_are : fields ≡ raw.fields.items)
+    (tests_are : tests ≡ raw.tests.items) (count : unknowns ≡ unknown_count (entry p)) (place : node ≡ p.node) (none : iterations ≡ []) where
   abbrev At : Type 0
   At = Values ℕ Bool × Scene
 
   abbrev seen : At
-  seen = (numbers v unknowns, record { net = net; node = node; turns = turns })
+  seen = (numbers v unknowns, record { net = net; node = node; iterations = iterations })
 
   same_at : seen ≡ (numbers v (unknown_count (entry p)), scene_at net p.node)
-  same_at = λ j. (numbers v (count j), record { net = net; node = place j; turns = none j })
+  same_at = λ j. (numbers v (count j), record { net = net; node = place j; iterations = none j })
 
   fit : FitWidths (unknown_widths fields) v → FitWidths (unknown_widths p.raw.fields.items) v
   fit h = subst (λ l. FitWidths (unknown_widths l) v) (fields_are ∙ ap (λ r. r.fields.items) raw_is) h

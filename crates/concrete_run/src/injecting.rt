@@ -65,12 +65,12 @@ pub fn start(
         return Err(StartFault::ValueTooWide { field });
     }
     let (node, _) = injection.place();
-    let turns = Shared::empty();
+    let iterations = Shared::empty();
     let at = Origin {
         scene: Scene {
             net,
             node,
-            turns: &turns,
+            iterations: &iterations,
         },
         values: Numbers {
             numbers: values,

@@ -11,7 +11,7 @@ use Rattle.sefl_meaning.specs.Taken.{decision_at}
 use Rattle.sefl_meaning.specs.Routes.{Route, arriving, behind, copy_route, route, waiting}
 use Rattle.sefl_meaning.specs.Start.{progress_of, tests_on}
 use Rattle.exact_records.specs.Records.{Leads, SymRoute, SymStart, SymTree, condition_on}
-use Rattle.exact_records.specs.Spots.{Arrives, IsAt, Spot, arrivals_of, condition_at, copied, copy_at, first_spot, node_of, places_of, sided}
+use Rattle.exact_records.specs.Points.{Arrives, IsAt, Point, arrivals_of, condition_at, copied, copy_at, first_point, node_of, places_of, sided}
 use Rattle.exact_records.proofs.Lists.{append_nil, map_append}
 
 pub some_same : {A : Type 0} {a b : A} → Some a ≡ Some b → a ≡ b
@@ -76,10 +76,10 @@ module _ {V F : Type 0} where
   always_way (splits p branches) = tt
 
 module _ (s : SymStart) where
-  pub at_start : IsAt s (first_spot s)
+  pub at_start : IsAt s (first_point s)
   at_start = record { arrivals = []; places = refl; leads = λ ds. behind_nothing (route s.tree ds) }
 
-  pub at_next : (a b : Spot) → IsAt s a → Arrives s a b → IsAt s b
+  pub at_next : (a b : Point) → IsAt s a → Arrives s a b → IsAt s b
   at_next a b h n = record {
     arrivals = h.arrivals ++ arrivals_of a.tree;
     places = map_append (λ (at : Place × Progress LinearTerm). at.0) h.arrivals (arrivals_of a.tree) ∙ (ap (λ ps. ps ++ places_of a.tree) h.places ∙ sym n.places);
@@ -90,7 +90,7 @@ module _ (s : SymStart) where
         ∙ (λ i. option_map (behind (h.arrivals ++ arrivals_of a.tree) ((append_nil a.tests ∙ sym n.tests) i)) (route (sym n.tree i) ds)))));
   }
 
-  pub at_side : (a : Spot) (asking : Asking) (p : Progress LinearTerm) (test : FormulaTree) (held broken : SymTree) (truth : Bool)
+  pub at_side : (a : Point) (asking : Asking) (p : Progress LinearTerm) (test : FormulaTree) (held broken : SymTree) (truth : Bool)
       → a.tree ≡ tests asking p test held broken → IsAt s a → IsAt s (sided a asking test truth (if truth then held else broken))
   at_side a asking p test held broken truth e h = record {
     arrivals = h.arrivals;
@@ -104,7 +104,7 @@ module _ (s : SymStart) where
         ∙ ap (λ ps. option_map (behind ps (a.tests ++ (test, truth) ∷ [])) (route (if truth then held else broken) ds)) (append_nil h.arrivals)))));
   }
 
-  pub at_copy : (a : Spot) (p : Progress LinearTerm) (branches : Copies LinearTerm FormulaTree) (n : ℕ) (t : SymTree)
+  pub at_copy : (a : Point) (p : Progress LinearTerm) (branches : Copies LinearTerm FormulaTree) (n : ℕ) (t : SymTree)
       → a.tree ≡ splits p branches → copy_at branches n ≡ Some t → IsAt s a → IsAt s (copied a n t)
   at_copy a p branches n t e k h = record {
     arrivals = h.arrivals;
@@ -115,37 +115,37 @@ module _ (s : SymStart) where
         ∙ ap (option_map (behind h.arrivals a.tests)) (copy_route_at branches n t ds k)));
   }
 
-  -- ---- where a spot waits
+  -- ---- where a point waits
 
   -- it is a node, and the widths are those there
-  pub record IsWaiting (b : Spot) : Type 0 where
+  pub record IsWaiting (b : Point) : Type 0 where
     pub at : IsAt s b
     pub node : route b.tree [] ≡ Some (waiting b.tree)
     pub widths : b.widths ≡ s.unknowns ++ (progress_of b.tree).choices
 
-  abbrev pub way_at : (b : Spot) → IsWaiting b → SymRoute
+  abbrev pub way_at : (b : Point) → IsWaiting b → SymRoute
   way_at b w = record { arrivals = w.at.arrivals; tests = b.tests; left = b.tree }
 
-  pub led : (b : Spot) (w : IsWaiting b) → Leads s b.decisions (way_at b w)
+  pub led : (b : Point) (w : IsWaiting b) → Leads s b.decisions (way_at b w)
   led b w =
       ap (route s.tree) (sym (append_nil b.decisions))
       ∙ (w.at.leads [] ∙ (ap (option_map (behind w.at.arrivals b.tests)) w.node
       ∙ (λ i. Some (record { arrivals = append_nil w.at.arrivals i; tests = append_nil b.tests i; left = b.tree }))))
 
-  pub condition_there : (b : Spot) (w : IsWaiting b) → condition_on s (way_at b w) ≡ condition_at s b
+  pub condition_there : (b : Point) (w : IsWaiting b) → condition_on s (way_at b w) ≡ condition_at s b
   condition_there b w = λ i. record { widths = sym w.widths i; entries = tests_on s (way_at b w) }
 
   pub only_way : (ds : List Decision) (p q : SymRoute) → Leads s ds p → Leads s ds q → p ≡ q
   only_way ds p q h k = some_same (sym h ∙ k)
 
-  pub waits_next : (a b : Spot) → IsAt s a → Arrives s a b → IsWaiting b
+  pub waits_next : (a b : Point) → IsAt s a → Arrives s a b → IsWaiting b
   waits_next a b at n = record {
     at = at_next a b at n;
     node = subst (λ t. route t [] ≡ Some (waiting t)) (sym n.tree) (node_waits a.tree);
     widths = n.widths;
   }
 
-  pub waits_at_test : (b : Spot) (asking : Asking) (p : Progress LinearTerm) (test : FormulaTree) (held broken : SymTree)
+  pub waits_at_test : (b : Point) (asking : Asking) (p : Progress LinearTerm) (test : FormulaTree) (held broken : SymTree)
       → b.tree ≡ tests asking p test held broken → IsAt s b → b.widths ≡ s.unknowns ++ p.choices → IsWaiting b
   waits_at_test b asking p test held broken e at w = record {
     at = at;

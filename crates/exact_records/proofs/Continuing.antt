@@ -14,7 +14,7 @@ use Rattle.exact_records.specs.Below.{Facts}
 use Rattle.exact_records.specs.Records.{RecordTree, SymStart, Takes, decisions_of, pruned}
 use Rattle.exact_records.specs.Exact.{AreExact, AreExactUpTo, ExactlyOne, IsCutOff, IsGood, IsTried, IsUpTo, IsWhole, IsWithin, RecordsAscend, SomeOne}
 use Rattle.exact_records.specs.Shapes.{BeginsTried, Continues, CoverAll, CoverCopies, Covers, Joined, Piece, SideOf}
-use Rattle.exact_records.specs.Spots.{node_of}
+use Rattle.exact_records.specs.Points.{node_of}
 use Rattle.exact_records.proofs.Lists.{append_nil, all_first, all_weaker, one_of_first, some_first, some_later, some_either}
 use Rattle.exact_records.proofs.Begins.{parts_apart, parts_apart_back, parts_asym, parts_longer}
 use Rattle.exact_records.proofs.Ordered.{Behind, side_of_ascends, covers_once, side_once}

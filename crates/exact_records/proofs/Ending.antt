@@ -7,21 +7,21 @@ use Rattle.exact_records.specs.Below.{Facts}
 use Rattle.exact_records.specs.Records.{RecordTree, SymStart, decisions_of}
 use Rattle.exact_records.specs.Exact.{AreExact, AreExactSoFar, AreExactUpTo, IsTried, IsUnexplored}
 use Rattle.exact_records.specs.Shapes.{SideOf}
-use Rattle.exact_records.specs.Spots.{Stands, Task, piece_of, pieces_of}
+use Rattle.exact_records.specs.Points.{Stands, Obligation, piece_of, pieces_of}
 use Rattle.exact_records.specs.Laws.{StandingIsExact}
 use Rattle.exact_records.proofs.Lists.{append_nil, last_of}
 use Rattle.exact_records.proofs.Continuing.{exact_apart, exact_so_far, exact_whole}
 use Rattle.exact_records.proofs.Cutting.{exact_cut}
 
 module _ (facts : Facts) (s : SymStart) (copies : Splits s.tree) where
-  up_to : (limit : ℕ) (done : List RecordTree) (last : RecordTree) (tasks : List Task) → Stands s limit (done ++ last ∷ []) tasks → AreExactUpTo s limit done last
-  up_to limit done last tasks h = exact_so_far facts s limit done last (pieces_of tasks) copies h.continues h.good h.within
+  up_to : (limit : ℕ) (done : List RecordTree) (last : RecordTree) (obligations : List Obligation) → Stands s limit (done ++ last ∷ []) obligations → AreExactUpTo s limit done last
+  up_to limit done last obligations h = exact_so_far facts s limit done last (pieces_of obligations) copies h.continues h.good h.within
 
-  so_far : (limit : ℕ) (done : List RecordTree) (tasks : List Task) → Stands s limit done tasks → AreExactSoFar s limit done
-  so_far limit done tasks h = record {
+  so_far : (limit : ℕ) (done : List RecordTree) (obligations : List Obligation) → Stands s limit done obligations → AreExactSoFar s limit done
+  so_far limit done obligations h = record {
     is = elim (last_of done) [
       | inl e ↦ inl e
-      | inr k ↦ inr (k.0, k.1, k.2, up_to limit k.0 k.1 tasks (subst (λ rs. Stands s limit rs tasks) k.2 h))
+      | inr k ↦ inr (k.0, k.1, k.2, up_to limit k.0 k.1 obligations (subst (λ rs. Stands s limit rs obligations) k.2 h))
     ];
   }
 
@@ -35,9 +35,9 @@ module _ (facts : Facts) (s : SymStart) (copies : Splits s.tree) where
       exact_cut facts s limit done last left copies
       (subst (SideOf s.tree []) (append_nil ((done ++ last ∷ []) ++ left)) (h.continues.goes_on [] refl (λ b. tt))) h.good tried count untried some
 
-  apart : (limit : ℕ) (done : List RecordTree) (last : RecordTree) (task : Task) (tasks : List Task)
-      → Stands s limit (done ++ last ∷ []) (task ∷ tasks) → Parts (decisions_of last) task.0.decisions
-  apart limit done last task tasks h = exact_apart facts s limit done last (piece_of task.0) (pieces_of tasks) h.continues
+  apart : (limit : ℕ) (done : List RecordTree) (last : RecordTree) (obligation : Obligation) (obligations : List Obligation)
+      → Stands s limit (done ++ last ∷ []) (obligation ∷ obligations) → Parts (decisions_of last) obligation.0.decisions
+  apart limit done last obligation obligations h = exact_apart facts s limit done last (piece_of obligation.0) (pieces_of obligations) h.continues
 
   pub standing_is_exact : StandingIsExact s
   standing_is_exact = record { so_far = so_far; up_to = up_to; whole = whole; partial = partial; apart = apart }

@@ -12,7 +12,7 @@ use Rattle.refutation_check.specs.declared.outcome.Verdict.TheVariants.{Sat, Und
 use Rattle.sefl_meaning.specs.Injected.{FitWidths}
 use Rattle.exact_records.specs.Below.{Facts}
 use Rattle.exact_records.specs.Records.{IsVerdictOn, MayPrecede, Satisfy, SymCondition, SymStart, injection_tests}
-use Rattle.exact_records.specs.Spots.{Arrives, IsBefore, IsKnown, Spot, condition_at, filled, filled_cause, filled_verdict}
+use Rattle.exact_records.specs.Points.{Arrives, IsBefore, IsKnown, Point, condition_at, filled, filled_cause, filled_verdict}
 use Rattle.exact_records.proofs.Lists.{append_nil}
 
 -- values that fit the front of the widths
@@ -94,7 +94,7 @@ just_known c verdict typed h = record { first = c.widths; more = []; widths = sy
 
 module _ (s : SymStart) where
   -- it is still known at the next node
-  pub known_next : (a b : Spot) (verdict : Verdict) → Arrives s a b → IsKnown (condition_at s a) verdict → IsKnown (condition_at s b) verdict
+  pub known_next : (a b : Point) (verdict : Verdict) → Arrives s a b → IsKnown (condition_at s a) verdict → IsKnown (condition_at s b) verdict
   known_next a b verdict n h = record {
     first = h.first;
     more = h.more ++ n.more;
@@ -103,7 +103,7 @@ module _ (s : SymStart) where
     is = subst (λ us. IsVerdictOn (condition_of h.first (injection_tests s ++ us)) verdict) (sym n.tests) h.is;
   }
 
-  pub before_written : (facts : Facts) (a : Spot) (verdict : Verdict) → IsBefore s a (Some verdict) (Some (filled_verdict (length a.widths) verdict))
+  pub before_written : (facts : Facts) (a : Point) (verdict : Verdict) → IsBefore s a (Some verdict) (Some (filled_verdict (length a.widths) verdict))
   before_written facts a verdict = λ b.
-      subst (λ ws. IsVerdictOn (condition_at s b.parent) (filled_verdict (length ws) verdict)) (ap (λ (x : Spot). x.widths) (sym b.is))
+      subst (λ ws. IsVerdictOn (condition_at s b.parent) (filled_verdict (length ws) verdict)) (ap (λ (x : Point). x.widths) (sym b.is))
       (known_written facts (condition_at s b.parent) verdict b.known)

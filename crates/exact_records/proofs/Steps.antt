@@ -19,14 +19,14 @@ use Rattle.sefl_meaning.specs.Fields.{fields_of}
 use Rattle.exact_records.specs.Below.{Facts}
 use Rattle.exact_records.specs.Records.{EndsAtTest, IsFoundRefuted, IsRefutedBy, IsVerdictOn, Leads, MayBe, MayPrecede, SymRoute, SymStart, SymTree, condition_on, first_condition, injection_tests, path, pruned, unexplored, with_test}
 use Rattle.exact_records.specs.Exact.{IsGood, IsUnrefuted}
-use Rattle.exact_records.specs.Spots.{IsAt, IsBefore, IsBehindTest, IsFirst, IsKnown, IsPending, Spot, condition_at, copied, copy_at, decided, first_spot, sided, to_decide}
+use Rattle.exact_records.specs.Points.{IsAt, IsBefore, IsBehindTest, IsFirst, IsKnown, IsPending, Point, condition_at, copied, copy_at, decided, first_point, sided, to_decide}
 use Rattle.exact_records.proofs.Lists.{append_nil, snoc_same, split_last}
 use Rattle.exact_records.proofs.Arriving.{IsSomeWay, IsWaiting, always_way, at_copy, at_side, at_start, condition_there, led, only_way, waits_at_test, way_at}
 use Rattle.exact_records.proofs.Judging.{known_open, met_fits, met_satisfies, verdict_precedes}
 
 module _ (facts : Facts) (s : SymStart) where
   -- nothing is refuted until the next node, nor there
-  unrefuted_more : (b : Spot) (d : Decision) → IsWaiting s b → (IsRefuted itself (condition_at s b) → ⊥) → IsUnrefuted s b.decisions → IsUnrefuted s (b.decisions ++ d ∷ [])
+  unrefuted_more : (b : Point) (d : Decision) → IsWaiting s b → (IsRefuted itself (condition_at s b) → ⊥) → IsUnrefuted s b.decisions → IsUnrefuted s (b.decisions ++ d ∷ [])
   unrefuted_more b d w open_here h p e rest joined way leads refuted =
       elim (split_last b.decisions d e p rest joined) [
         | inl k ↦
@@ -37,7 +37,7 @@ module _ (facts : Facts) (s : SymStart) where
 
   -- ---- records
 
-  may_be : (b : Spot) (progress : Progress LinearTerm) (end' : End) (verdict : Verdict) (w : IsWaiting s b) → b.tree ≡ over progress end'
+  may_be : (b : Point) (progress : Progress LinearTerm) (end' : End) (verdict : Verdict) (w : IsWaiting s b) → b.tree ≡ over progress end'
       → IsVerdictOn (condition_at s b) verdict → MayBe s b.decisions (condition_on s (way_at s b w)) verdict
   may_be b progress end' (Sat values) w e is = record {
     fits = met_fits facts (condition_at s b) s.unknowns (progress_of b.tree).choices values w.widths is;
@@ -51,7 +51,7 @@ module _ (facts : Facts) (s : SymStart) where
   may_be b progress end' (Undecided cause) w e is =
       facts.verdicts.licensed (condition_on s (way_at s b w)) cause (subst (λ c. IsUndecidedBy itself c cause) (sym (condition_there s b w)) is)
 
-  pub path_is_good : (b : Spot) (progress : Progress LinearTerm) (end' : End) (verdict : Verdict) → IsWaiting s b → b.tree ≡ over progress end'
+  pub path_is_good : (b : Point) (progress : Progress LinearTerm) (end' : End) (verdict : Verdict) → IsWaiting s b → b.tree ≡ over progress end'
       → IsUnrefuted s b.decisions → IsVerdictOn (condition_at s b) verdict → IsGood s (path b.decisions b.places end' (fields_of progress.state) verdict)
   path_is_good b progress end' verdict w e unrefuted is = record {
     meaning = record {
@@ -68,7 +68,7 @@ module _ (facts : Facts) (s : SymStart) where
     unrefuted = unrefuted;
   }
 
-  abbrev parent_waits : (a : Spot) (before : Verdict) (b : IsBehindTest s a before) → IsWaiting s b.parent
+  abbrev parent_waits : (a : Point) (before : Verdict) (b : IsBehindTest s a before) → IsWaiting s b.parent
   parent_waits a before b = waits_at_test s b.parent b.asking b.progress b.test b.held b.broken b.waits b.at b.widths
 
   decision_taken : (asking : Asking) (truth : Bool) → truth_of asking (decision_at asking truth) ≡ Some truth
@@ -77,12 +77,12 @@ module _ (facts : Facts) (s : SymStart) where
   decision_taken at_constrain true = refl
   decision_taken at_constrain false = refl
 
-  -- the side of a test that a spot is behind
-  abbrev side_at : (a : Spot) (before : Verdict) (b : IsBehindTest s a before) → EndsAtTest s a.decisions
+  -- the side of a test that a point is behind
+  abbrev side_at : (a : Point) (before : Verdict) (b : IsBehindTest s a before) → EndsAtTest s a.decisions
   side_at a before b = record {
     parent = b.parent.decisions;
     last = decision_at b.asking b.truth;
-    joined = ap (λ (x : Spot). x.decisions) b.is;
+    joined = ap (λ (x : Point). x.decisions) b.is;
     way = way_at s b.parent (parent_waits a before b);
     leads = led s b.parent (parent_waits a before b);
     asking = b.asking;
@@ -96,7 +96,7 @@ module _ (facts : Facts) (s : SymStart) where
   }
 
   -- the condition of the refuted side
-  side_condition : (a : Spot) (before : Verdict) (b : IsBehindTest s a before)
+  side_condition : (a : Point) (before : Verdict) (b : IsBehindTest s a before)
       → condition_at s a ≡ with_test (condition_on s (way_at s b.parent (parent_waits a before b))) b.test b.truth
   side_condition a before b =
       ap (condition_at s) b.is
@@ -105,7 +105,7 @@ module _ (facts : Facts) (s : SymStart) where
         entries = sym (append_assoc (injection_tests s) b.parent.tests ((b.test, b.truth) ∷ [])) i;
       })
 
-  pruned_side_is_good : (a : Spot) (before written : Verdict) (refutation : List Refute) → (b : IsBehindTest s a before) → IsUnrefuted s a.decisions
+  pruned_side_is_good : (a : Point) (before written : Verdict) (refutation : List Refute) → (b : IsBehindTest s a before) → IsUnrefuted s a.decisions
       → IsFoundRefuted (condition_at s a) refutation → IsVerdictOn (condition_at s b.parent) written → IsGood s (pruned a.decisions (Some written) refutation)
   pruned_side_is_good a before written refutation b unrefuted found is =
       let w = parent_waits a before b in
@@ -126,7 +126,7 @@ module _ (facts : Facts) (s : SymStart) where
         unrefuted = unrefuted;
       }
 
-  first_is_good : (a : Spot) (refutation : List Refute) → IsFirst s a → IsUnrefuted s a.decisions → IsFoundRefuted (condition_at s a) refutation
+  first_is_good : (a : Point) (refutation : List Refute) → IsFirst s a → IsUnrefuted s a.decisions → IsFoundRefuted (condition_at s a) refutation
       → IsGood s (pruned a.decisions None refutation)
   first_is_good a refutation h unrefuted found =
       let first : condition_at s a ≡ first_condition s =
@@ -137,7 +137,7 @@ module _ (facts : Facts) (s : SymStart) where
         unrefuted = unrefuted;
       }
 
-  pub pruned_is_good : (a : Spot) (before written : Option Verdict) (refutation : List Refute) → IsPending s a (to_decide before) → IsBefore s a before written
+  pub pruned_is_good : (a : Point) (before written : Option Verdict) (refutation : List Refute) → IsPending s a (to_decide before) → IsBefore s a before written
       → IsFoundRefuted (condition_at s a) refutation → IsGood s (pruned a.decisions written refutation)
   pruned_is_good a None written refutation h is found =
       subst (λ w. IsGood s (pruned a.decisions w refutation)) (sym is) (first_is_good a refutation h.found h.unrefuted found)
@@ -145,18 +145,18 @@ module _ (facts : Facts) (s : SymStart) where
   pruned_is_good a (Some before) (Some verdict) refutation h is found =
       pruned_side_is_good a before verdict refutation h.found h.unrefuted found (is h.found)
 
-  open_at : (a : Spot) (at : IsAt s a) → (r : Option SymRoute) → route a.tree [] ≡ r → IsSomeWay r → IsOpen s.tree a.decisions
+  open_at : (a : Point) (at : IsAt s a) → (r : Option SymRoute) → route a.tree [] ≡ r → IsSomeWay r → IsOpen s.tree a.decisions
   open_at a at None e some = absurd some
   open_at a at (Some r) e some =
       (behind at.arrivals a.tests r, ap (route s.tree) (sym (append_nil a.decisions)) ∙ (at.leads [] ∙ ap (option_map (behind at.arrivals a.tests)) e))
 
-  pub unexplored_is_good : (a : Spot) → IsAt s a → IsUnrefuted s a.decisions → IsGood s (unexplored a.decisions)
+  pub unexplored_is_good : (a : Point) → IsAt s a → IsUnrefuted s a.decisions → IsGood s (unexplored a.decisions)
   unexplored_is_good a at unrefuted =
       record { meaning = open_at a at (route a.tree []) refl (always_way a.tree); verdict = tt; unrefuted = unrefuted }
 
   -- ---- what is left
 
-  pub side_pends : (b : Spot) (verdict : Verdict) (asking : Asking) (p : Progress LinearTerm) (test : FormulaTree) (held broken : SymTree) (truth : Bool)
+  pub side_pends : (b : Point) (verdict : Verdict) (asking : Asking) (p : Progress LinearTerm) (test : FormulaTree) (held broken : SymTree) (truth : Bool)
       → IsWaiting s b → b.tree ≡ tests asking p test held broken → IsUnrefuted s b.decisions → IsKnown (condition_at s b) verdict
       → IsPending s (sided b asking test truth (if truth then held else broken)) (to_decide (Some verdict))
   side_pends b verdict asking p test held broken truth w e unrefuted known = record {
@@ -178,7 +178,7 @@ module _ (facts : Facts) (s : SymStart) where
     };
   }
 
-  pub copy_pends : (b : Spot) (verdict : Verdict) (p : Progress LinearTerm) (branches : Copies LinearTerm FormulaTree) (n : ℕ) (t : SymTree) → IsWaiting s b
+  pub copy_pends : (b : Point) (verdict : Verdict) (p : Progress LinearTerm) (branches : Copies LinearTerm FormulaTree) (n : ℕ) (t : SymTree) → IsWaiting s b
       → b.tree ≡ splits p branches → copy_at branches n ≡ Some t → IsUnrefuted s b.decisions → IsKnown (condition_at s b) verdict
       → IsPending s (copied b n t) (decided verdict)
   copy_pends b verdict p branches n t w e k unrefuted known = record {
@@ -191,7 +191,7 @@ nothing_before : (p : List Decision) (d : Decision) (rest : List Decision) → [
 nothing_before [] d rest e = cc
 nothing_before (x ∷ p) d rest e = let bad : [] ≡ x ∷ (p ++ d ∷ rest) = e in cc
 
-pub start_pends : (s : SymStart) → IsPending s (first_spot s) (to_decide None)
+pub start_pends : (s : SymStart) → IsPending s (first_point s) (to_decide None)
 start_pends s = record {
   at = at_start s;
   unrefuted = λ p d rest e way leads refuted. nothing_before p d rest e;

@@ -19,57 +19,57 @@ use Rattle.sefl_meaning.specs.Order.{Has, Parts}
 use Rattle.exact_records.specs.Records.{HasMeaning, IsFoundRefuted, IsVerdictOn, RecordTree, SymCondition, SymStart, SymTree, Takes, decisions_of, path, pruned, unexplored}
 use Rattle.exact_records.specs.Exact.{AreExact, AreExactSoFar, AreExactUpTo, IsTried, IsUnexplored}
 use Rattle.exact_records.specs.Packets.{AreExactFor, AreExactSoFarFor, AreExactUpToFor, HasPacket, HasWalk, IsAlong, IsExplored, IsNotTaken}
-use Rattle.exact_records.specs.Spots.{Arrives, IsBefore, IsKnown, Known, Spot, Stands, Task, condition_at, copy_tasks, decided, filled_verdict, first_spot, side_tasks, to_decide}
+use Rattle.exact_records.specs.Points.{Arrives, IsBefore, IsKnown, Known, Point, Stands, Obligation, condition_at, copy_obligations, decided, filled_verdict, first_point, side_obligations, to_decide}
 
--- each step of an exploration keeps that the records and the tasks stand for the whole
+-- each step of an exploration keeps that the records and the obligations stand for the whole
 pub record StepsStand (s : SymStart) : Type 0 where
   -- nothing is done, and the whole is left
-  pub begins : (limit : ℕ) → Stands s limit [] ((first_spot s, to_decide None) ∷ [])
+  pub begins : (limit : ℕ) → Stands s limit [] ((first_point s, to_decide None) ∷ [])
   -- the condition was decided, and is not refuted
-  pub decides : (limit : ℕ) (done : List RecordTree) (a : Spot) (before : Option Verdict) (verdict : Verdict) (rest : List Task)
+  pub decides : (limit : ℕ) (done : List RecordTree) (a : Point) (before : Option Verdict) (verdict : Verdict) (rest : List Obligation)
       → AllTyped itself a.widths (condition_at s a).entries → IsVerdictOn (condition_at s a) verdict
       → Stands s limit done ((a, to_decide before) ∷ rest) → Stands s limit done ((a, decided verdict) ∷ rest)
   -- it is refuted
-  pub prunes : (limit : ℕ) (done : List RecordTree) (a : Spot) (before written : Option Verdict) (refutation : List Refute) (rest : List Task)
+  pub prunes : (limit : ℕ) (done : List RecordTree) (a : Point) (before written : Option Verdict) (refutation : List Refute) (rest : List Obligation)
       → length done < limit → IsBefore s a before written → IsFoundRefuted (condition_at s a) refutation
       → Stands s limit done ((a, to_decide before) ∷ rest) → Stands s limit (done ++ pruned a.decisions written refutation ∷ []) rest
   -- the run is over at its next node
-  pub ends : (limit : ℕ) (done : List RecordTree) (a b : Spot) (verdict written : Verdict) (p : Progress LinearTerm) (end' : End) (rest : List Task)
+  pub ends : (limit : ℕ) (done : List RecordTree) (a b : Point) (verdict written : Verdict) (p : Progress LinearTerm) (end' : End) (rest : List Obligation)
       → length done < limit → Arrives s a b → b.tree ≡ over p end' → IsVerdictOn (condition_at s b) written
       → Stands s limit done ((a, decided verdict) ∷ rest) → Stands s limit (done ++ path b.decisions b.places end' (fields_of p.state) written ∷ []) rest
   -- it asks a test there
-  pub asks : (limit : ℕ) (done : List RecordTree) (a b : Spot) (verdict : Verdict) (asking : Asking) (p : Progress LinearTerm) (test : FormulaTree)
-      (held broken : SymTree) (rest : List Task) → length done < limit → Arrives s a b → b.tree ≡ tests asking p test held broken
-      → Stands s limit done ((a, decided verdict) ∷ rest) → Stands s limit done (side_tasks b verdict asking test held broken ++ rest)
+  pub asks : (limit : ℕ) (done : List RecordTree) (a b : Point) (verdict : Verdict) (asking : Asking) (p : Progress LinearTerm) (test : FormulaTree)
+      (held broken : SymTree) (rest : List Obligation) → length done < limit → Arrives s a b → b.tree ≡ tests asking p test held broken
+      → Stands s limit done ((a, decided verdict) ∷ rest) → Stands s limit done (side_obligations b verdict asking test held broken ++ rest)
   -- it splits there
-  pub forks : (limit : ℕ) (done : List RecordTree) (a b : Spot) (verdict : Verdict) (p : Progress LinearTerm) (branches : Copies LinearTerm FormulaTree)
-      (rest : List Task) → length done < limit → Arrives s a b → b.tree ≡ splits p branches
-      → Stands s limit done ((a, decided verdict) ∷ rest) → Stands s limit done (copy_tasks b verdict 0 branches ++ rest)
-  -- at the limit, the task is left
-  pub leaves : (limit : ℕ) (done : List RecordTree) (a : Spot) (known : Known) (rest : List Task) → limit ≤ length done
+  pub forks : (limit : ℕ) (done : List RecordTree) (a b : Point) (verdict : Verdict) (p : Progress LinearTerm) (branches : Copies LinearTerm FormulaTree)
+      (rest : List Obligation) → length done < limit → Arrives s a b → b.tree ≡ splits p branches
+      → Stands s limit done ((a, decided verdict) ∷ rest) → Stands s limit done (copy_obligations b verdict 0 branches ++ rest)
+  -- at the limit, the obligation is left
+  pub leaves : (limit : ℕ) (done : List RecordTree) (a : Point) (known : Known) (rest : List Obligation) → limit ≤ length done
       → Stands s limit done ((a, known) ∷ rest) → Stands s limit (done ++ unexplored a.decisions ∷ []) rest
 
 -- what is known stays known, and can be written
 pub record VerdictsStay (s : SymStart) : Type 0 where
   -- at the next node
-  pub next : (a b : Spot) (verdict : Verdict) → Arrives s a b → IsKnown (condition_at s a) verdict → IsKnown (condition_at s b) verdict
+  pub next : (a b : Point) (verdict : Verdict) → Arrives s a b → IsKnown (condition_at s a) verdict → IsKnown (condition_at s b) verdict
   -- with zeros for the symbols that came since
   pub written : (c : SymCondition) (verdict : Verdict) → IsKnown c verdict → IsVerdictOn c (filled_verdict (length c.widths) verdict)
-  pub before : (a : Spot) (verdict : Verdict) → IsBefore s a (Some verdict) (Some (filled_verdict (length a.widths) verdict))
+  pub before : (a : Point) (verdict : Verdict) → IsBefore s a (Some verdict) (Some (filled_verdict (length a.widths) verdict))
 
 -- records that stand are exact: so far at each moment, and all in the end
 pub record StandingIsExact (s : SymStart) : Type 0 where
-  pub so_far : (limit : ℕ) (done : List RecordTree) (tasks : List Task) → Stands s limit done tasks → AreExactSoFar s limit done
-  pub up_to : (limit : ℕ) (done : List RecordTree) (last : RecordTree) (tasks : List Task) → Stands s limit (done ++ last ∷ []) tasks → AreExactUpTo s limit done last
+  pub so_far : (limit : ℕ) (done : List RecordTree) (obligations : List Obligation) → Stands s limit done obligations → AreExactSoFar s limit done
+  pub up_to : (limit : ℕ) (done : List RecordTree) (last : RecordTree) (obligations : List Obligation) → Stands s limit (done ++ last ∷ []) obligations → AreExactUpTo s limit done last
   -- nothing is left, and nothing was left out
   pub whole : (limit : ℕ) (done : List RecordTree) → Stands s limit done [] → AllByRecursion IsTried done → length done ≤ limit → AreExact s limit done
   -- nothing is left but what was left out, behind as many records as the limit allows
   pub partial : (limit : ℕ) (done : List RecordTree) (last : RecordTree) (left : List RecordTree) → Stands s limit ((done ++ last ∷ []) ++ left) []
       → AllByRecursion IsTried (done ++ last ∷ []) → length (done ++ last ∷ []) ≡ limit → AllByRecursion IsUnexplored left → (left ≡ [] → ⊥)
       → AreExact s limit ((done ++ last ∷ []) ++ left)
-  -- the last record comes before the next task
-  pub apart : (limit : ℕ) (done : List RecordTree) (last : RecordTree) (task : Task) (tasks : List Task)
-      → Stands s limit (done ++ last ∷ []) (task ∷ tasks) → Parts (decisions_of last) task.0.decisions
+  -- the last record comes before the next obligation
+  pub apart : (limit : ℕ) (done : List RecordTree) (last : RecordTree) (obligation : Obligation) (obligations : List Obligation)
+      → Stands s limit (done ++ last ∷ []) (obligation ∷ obligations) → Parts (decisions_of last) obligation.0.decisions
 
 -- what holds for the packets of the net, of what is explored there
 module _ (net : Network) (i : Entry) (hops : ℕ) where

@@ -3,7 +3,7 @@ pub mod Exact
 pub mod Work
 pub mod Packets
 pub mod Shapes
-pub mod Spots
+pub mod Points
 pub mod Laws
 pub mod Below
 pub mod Whole

@@ -9,7 +9,7 @@ ghost use Rattle.exact_records.specs.Laws.{ExactRecordsShowWalks, PacketsTakeRou
 
 use crate::below::{facts, meanings};
 
-/// Each step of an exploration keeps that the records made and the tasks left stand for the whole.
+/// Each step of an exploration keeps that the records made and the obligations left stand for the whole.
 pub fn steps_keep_what_stands()
     ensures { (s : SymStart) → StepsStand s }
 {

@@ -338,7 +338,7 @@ pub const FAULTS: &[Row] = &[
             r#"{"decisions":[],"end":{"fault":7,"site":9},"fields":{"heads":[],"metas":[["a","n",[[8,5,[]]]]],"tags":[]},"kind":"path","places":["in a.0","out a.0","in b.0"],"verdict":{"sat":[]}}"#,
         )],
     },
-    // Two turns of a For; the second finds nothing.
+    // Two iterations of a For; the second finds nothing.
     Row {
         job: r#"symnet 1; node a 1 -> 0 { in 0 { for o in "^opt" { deallocate global opt2:8; } } } inject a.0 { field global opt1:8; field global opt2:8; field global xopt:8; }"#,
         hops: 16,

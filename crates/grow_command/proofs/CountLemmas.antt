@@ -4,7 +4,7 @@ use Rattle.std.proofs.lemmas.List.{map-append}
 use Rattle.refutation_check.specs.declared.outcome.Verdict.{Verdict}
 use Rattle.refutation_check.specs.declared.outcome.Verdict.TheVariants.{Sat, Undecided}
 use Rattle.exact_records.specs.Records.{RecordTree, path, pruned, unexplored}
-use Rattle.exact_records.specs.Spots.{filled_verdict}
+use Rattle.exact_records.specs.Points.{filled_verdict}
 use Rattle.path_exec.specs.Handing.{Handed}
 use Rattle.symbolic_engine.specs.declared.found.Found.{Found}
 use Rattle.symbolic_engine.specs.Finds.{handed_tree}

@@ -69,11 +69,11 @@ module _ (c : SymCondition) (port : Place) (earlier : List Arrival) (end' : Arri
         by (inr s) = s.1
 
     module _ (at : now.0 ≡ port) (x : Symbolic) (rest : List Symbolic) (is : left ≡ x ∷ rest) where
-      record Here : Type 0 where
+      record Location : Type 0 where
         pub held : held_of x ≡ visit_of now.1
         pub others : AreSeen port (drop (k + 1) earlier) rest
 
-      here_seen : AreSeen port (now ∷ drop (k + 1) earlier) left → Here
+      here_seen : AreSeen port (now ∷ drop (k + 1) earlier) left → Location
       here_seen (inl s) = record {
         held = ap held_of (same_first (sym is ∙ s.is)) ∙ s.holds;
         others = subst (AreSeen port (drop (k + 1) earlier)) (sym (same_rest (sym is ∙ s.is))) s.others;

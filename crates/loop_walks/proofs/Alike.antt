@@ -11,7 +11,7 @@ use Rattle.sefl_meaning.specs.Network.{code_size, inner_size}
 use Rattle.sefl_meaning.specs.Carried.{Carried, Scene, Key}
 use Rattle.sefl_meaning.specs.Terms.{truth_in}
 use Rattle.sefl_meaning.specs.Steps.{allocated, deallocated, assigned, evaluated, tag_created, tag_set, tag_destroyed}
-use Rattle.sefl_meaning.specs.Runs.{Progress, Exit, off, go, forked, failed, Ran, ran, noting, unless_fault, step, then_next, then_run, run_turns, in_turn, turns_of, run_instr, run_code}
+use Rattle.sefl_meaning.specs.Runs.{Progress, Exit, off, go, forked, failed, Ran, ran, noting, unless_fault, step, then_next, then_run, run_iterations, in_iteration, iterations_of, run_instr, run_code}
 use Rattle.loop_walks.specs.Again.{IsLike}
 
 -- the same decisions and the same exit, and the same is carried then
@@ -56,10 +56,10 @@ then_alike : (r s : Ran) (next : Progress ℕ → Ran) → RanAlike r s → AllA
 then_alike r s next h k =
     subst (λ (exit : Exit). RanAlike (then_next r.exit r next) (then_next exit s next)) h.exit (next_alike r.exit r s next h k)
 
-turns_alike : (body : Key → Progress ℕ → Ran) → ((key : Key) → AllAlike (body key)) → (keys : List Key) → AllAlike (run_turns body keys)
-turns_alike body k [] p q h = ended_alike off p q h
-turns_alike body k (key ∷ keys) p q h =
-    then_alike (body key p) (body key q) (run_turns body keys) (k key p q h) (turns_alike body k keys)
+iterations_alike : (body : Key → Progress ℕ → Ran) → ((key : Key) → AllAlike (body key)) → (keys : List Key) → AllAlike (run_iterations body keys)
+iterations_alike body k [] p q h = ended_alike off p q h
+iterations_alike body k (key ∷ keys) p q h =
+    then_alike (body key p) (body key q) (run_iterations body keys) (k key p q h) (iterations_alike body k keys)
 
 either_alike : (holds : Bool) (r s r' s' : Ran) → RanAlike r s → RanAlike r' s'
     → RanAlike (if holds then r else r') (if holds then s else s')
@@ -121,9 +121,9 @@ module _ (v : List ℕ) (unknowns : ℕ) where
     instr_alike at site (each var pattern body) p q h =
         subst
         (λ s. RanAlike (run_instr v unknowns at site (each var pattern body) p)
-        (run_turns (λ key r. run_code v unknowns (in_turn at var key) (suc site) body r) (turns_of at pattern s) q)) h.state
-        (turns_alike (λ key r. run_code v unknowns (in_turn at var key) (suc site) body r)
-        (λ key. code_alike (in_turn at var key) (suc site) body) (turns_of at pattern p.state) p q h)
+        (run_iterations (λ key r. run_code v unknowns (in_iteration at var key) (suc site) body r) (iterations_of at pattern s) q)) h.state
+        (iterations_alike (λ key r. run_code v unknowns (in_iteration at var key) (suc site) body r)
+        (λ key. code_alike (in_iteration at var key) (suc site) body) (iterations_of at pattern p.state) p q h)
     instr_alike at site (forward port) p q h = ended_alike (go port) p q h
     instr_alike at site (fork ports) p q h = ended_alike (forked ports) p q h
     instr_alike at site (block body) p q h = code_alike at (suc site) body p q h

@@ -20,9 +20,9 @@ left_first : (All : List FormulaTree → Type 0) (start : List Formula) → Left
 left_first All start fs h = (fs, h, refl)
 
 -- one more adds these before what the rest adds
-left_next : (Here Rest Next All : List FormulaTree → Type 0) → ((gs fs : List FormulaTree) → Here gs → Next fs → Rest (gs ++ fs))
-    → (start before after : List Formula) → Adds Here before after → Left Rest All start before → Left Next All start after
-left_next Here Rest Next All more start before after h leads fs k =
+left_next : (Location Rest Next All : List FormulaTree → Type 0) → ((gs fs : List FormulaTree) → Location gs → Next fs → Rest (gs ++ fs))
+    → (start before after : List Formula) → Adds Location before after → Left Rest All start before → Left Next All start after
+left_next Location Rest Next All more start before after h leads fs k =
     let all = leads (h.0 ++ fs) (more h.0 fs h.1 k) in
     (all.0, all.1, all.2 ∙ (sym (append_assoc (map view before) h.0 fs) ∙ ap (λ z. z ++ fs) (sym h.2)))
 

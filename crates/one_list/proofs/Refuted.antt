@@ -11,7 +11,7 @@ use Rattle.sefl_meaning.specs.Trees.{Tree, over, arrives, tests, splits, Copies,
 use Rattle.sefl_meaning.specs.Routes.{Route, arriving, behind, by_truth, copy_route, route, taking, truth_of, waiting}
 use Rattle.sefl_meaning.specs.Start.{progress_of}
 use Rattle.exact_records.specs.Records.{EndsAtTest, IsPruned, IsPrunedSide, IsRefutedAt, Leads, SymCondition, SymRoute, SymStart, SymTree, condition_on, first_condition, injection_tests, with_test}
-use Rattle.exact_records.specs.Spots.{arrivals_of, node_of}
+use Rattle.exact_records.specs.Points.{arrivals_of, node_of}
 use Rattle.exact_records.proofs.Lists.{append_nil, cancel, same_first, snoc_same}
 use Rattle.exact_records.proofs.Arriving.{node_waits, only_way, route_node, some_same}
 use Rattle.exact_records.proofs.Ordered.{copy_taken, mapped_some, side_taken}

@@ -125,7 +125,7 @@ impl<'a> Machine for Packet<'a> {
         truth_of(alloc, &self.numbers, at, &self.state, test)
     }
 
-    fn turns<L: Ledger>(
+    fn iterations<L: Ledger>(
         &self,
         alloc: Global,
         node: NodeId,
@@ -181,8 +181,12 @@ pub fn run_code<'a, L: Ledger>(
 {
     runs_are_ways();
     let mut frames = Vec::new(alloc);
-    let turns = Shared::empty();
-    frames.push(Frame::Code { turns, site, code })?;
+    let iterations = Shared::empty();
+    frames.push(Frame::Code {
+        iterations,
+        site,
+        code,
+    })?;
     loop {
         match next(alloc, packet, net, node, &mut frames, steps)? {
             Move::Ended(exit) => return Ok(exit),

@@ -3,20 +3,20 @@ use Rattle.std.proofs.Common.{◌≡◌, ℕ, suc, ◌+◌, ◌<◌, ◌≤◌, 
 use Rattle.std.specs.List.{AllByRecursion}
 use Rattle.exact_records.specs.Records.{RecordTree}
 use Rattle.exact_records.specs.Exact.{IsTried}
-use Rattle.exact_records.specs.Spots.{IsPending, Stands, Task, first_spot, to_decide}
+use Rattle.exact_records.specs.Points.{IsPending, Stands, Obligation, first_point, to_decide}
 use Rattle.exact_records.specs.Work.{work_of}
 use Rattle.exact_records.specs.Laws.{StandingIsExact, StepsStand}
 use Rattle.exact_records.proofs.Lists.{all_append, all_first, append_nil}
-use Rattle.path_exec.specs.declared.opening.Work.{Work}
+use Rattle.path_exec.specs.declared.opening.OpenNode.{OpenNode}
 use Rattle.path_exec.specs.Views.{Views}
-use Rattle.path_exec.specs.Works.{AreWorks, all_tasks, tasks_of}
+use Rattle.path_exec.specs.OpenNodes.{AreOpenNodes, all_obligations, obligations_of}
 use Rattle.path_exec.specs.Paying.{Holds}
 use Rattle.path_exec.specs.Receiving.{IsSame, Receiving, TakesOwn}
 use Rattle.path_exec.specs.Keeping.{IsOwnOrNone, Keeps, Runs, made_of}
 use Rattle.path_exec.specs.declared.exploration.Ended.{Ended}
 use Rattle.path_exec.specs.declared.exploration.Ended.TheVariants.{Whole, Partial, Stopped}
 use Rattle.path_exec.specs.Ending.{EndsEarly, EndsStopped, EndsWhole, Explored, LeftAs}
-use Rattle.path_exec.proofs.Taking.{popped_tasks}
+use Rattle.path_exec.proofs.Taking.{popped_obligations}
 use Rattle.path_exec.proofs.Counting.{holds_first}
 
 module _ {A B : Type 0} (f : A → B) where
@@ -33,8 +33,8 @@ module _ {P O N D T : Type 0} (x : Views P O N D T) (exact : StandingIsExact x.s
   Records items = map x.record_of items
 
   -- a step made no record
-  pub runs_on : (limit count : ℕ) (m : Receiving T) (now : List Task) (old new : List (Work N D)) (made : Option T) (first mid after : ℕ) → made ≡ None → count < limit
-      → Runs x limit count m (now ++ all_tasks x old) first mid → Keeps x now old new made mid after → Runs x limit count m (all_tasks x new) first after
+  pub runs_on : (limit count : ℕ) (m : Receiving T) (now : List Obligation) (old new : List (OpenNode N D)) (made : Option T) (first mid after : ℕ) → made ≡ None → count < limit
+      → Runs x limit count m (now ++ all_obligations x old) first mid → Keeps x now old new made mid after → Runs x limit count m (all_obligations x new) first after
   runs_on limit count m now old new made first mid after none less h k =
       let below : length (Records h.items) < limit = let l = length_mapped x.record_of h.items in let c = h.counted in omega (arith, l, c, less) in
       record {
@@ -42,7 +42,7 @@ module _ {P O N D T : Type 0} (x : Views P O N D T) (exact : StandingIsExact x.s
         stands = h.stands;
         raised = h.raised + k.raised;
         risen = let r = h.risen in let c = k.counted in omega (arith, r, c);
-        holds = subst (λ (rs : List RecordTree). Holds x.start limit rs (all_tasks x new) (h.raised + k.raised))
+        holds = subst (λ (rs : List RecordTree). Holds x.start limit rs (all_obligations x new) (h.raised + k.raised))
             (ap (λ (o : Option T). Records h.items ++ made_of x o) none ∙ append_nil (Records h.items)) (k.holds limit (Records h.items) h.raised below h.holds);
         spent = λ past. absurd (omega (arith, past, less));
         tried = h.tried;
@@ -50,27 +50,27 @@ module _ {P O N D T : Type 0} (x : Views P O N D T) (exact : StandingIsExact x.s
       }
 
   -- what a step left, where it made a record
-  pub record IsMadeStep (limit : ℕ) (items : List T) (item : T) (left : List Task) (raised : ℕ) : Type 0 where
+  pub record IsMadeStep (limit : ℕ) (items : List T) (item : T) (left : List Obligation) (raised : ℕ) : Type 0 where
     pub holds : Holds x.start limit (Records (items ++ item ∷ [])) left raised
     pub spent : raised ≤ work_of x.start (Records (items ++ item ∷ []))
     pub tried : AllByRecursion IsTried (Records (items ++ item ∷ []))
 
-  made_step : (limit count : ℕ) (m : Receiving T) (now : List Task) (old new : List (Work N D)) (made : Option T) (item : T) (first mid after : ℕ) → made ≡ Some item → count < limit
-      → (h : Runs x limit count m (now ++ all_tasks x old) first mid) → (k : Keeps x now old new made mid after) → IsMadeStep limit h.items item (all_tasks x new) (h.raised + k.raised)
+  made_step : (limit count : ℕ) (m : Receiving T) (now : List Obligation) (old new : List (OpenNode N D)) (made : Option T) (item : T) (first mid after : ℕ) → made ≡ Some item → count < limit
+      → (h : Runs x limit count m (now ++ all_obligations x old) first mid) → (k : Keeps x now old new made mid after) → IsMadeStep limit h.items item (all_obligations x new) (h.raised + k.raised)
   made_step limit count m now old new made item first mid after is less h k =
       let below : length (Records h.items) < limit = let l = length_mapped x.record_of h.items in let c = h.counted in omega (arith, l, c, less) in
       let same : Records h.items ++ made_of x made ≡ Records (h.items ++ item ∷ []) =
       ap (λ (o : Option T). Records h.items ++ made_of x o) is ∙ sym (map_snoc x.record_of h.items item) in
       record {
-        holds = subst (λ (rs : List RecordTree). Holds x.start limit rs (all_tasks x new) (h.raised + k.raised)) same (k.holds limit (Records h.items) h.raised below h.holds);
+        holds = subst (λ (rs : List RecordTree). Holds x.start limit rs (all_obligations x new) (h.raised + k.raised)) same (k.holds limit (Records h.items) h.raised below h.holds);
         spent = subst (λ (rs : List RecordTree). h.raised + k.raised ≤ work_of x.start rs) same (k.spent limit (Records h.items) h.raised below h.holds item is);
         tried = subst (λ (rs : List RecordTree). AllByRecursion IsTried rs) same (all_append IsTried (Records h.items) (made_of x made) h.tried k.tried);
       }
 
   -- the record was taken
-  pub runs_made : (limit count more : ℕ) (m n : Receiving T) (now : List Task) (old new : List (Work N D)) (made : Option T) (item : T) (first mid after : ℕ) → made ≡ Some item
-      → count < limit → Runs x limit count m (now ++ all_tasks x old) first mid → Keeps x now old new made mid after
-      → ((items : List T) → m.StandsFor items → n.StandsFor (items ++ item ∷ [])) → more ≡ count + 1 → Runs x limit more n (all_tasks x new) first after
+  pub runs_made : (limit count more : ℕ) (m n : Receiving T) (now : List Obligation) (old new : List (OpenNode N D)) (made : Option T) (item : T) (first mid after : ℕ) → made ≡ Some item
+      → count < limit → Runs x limit count m (now ++ all_obligations x old) first mid → Keeps x now old new made mid after
+      → ((items : List T) → m.StandsFor items → n.StandsFor (items ++ item ∷ [])) → more ≡ count + 1 → Runs x limit more n (all_obligations x new) first after
   runs_made limit count more m n now old new made item first mid after is less h k took e =
       let s = made_step limit count m now old new made item first mid after is less h k in
       record {
@@ -85,8 +85,8 @@ module _ {P O N D T : Type 0} (x : Views P O N D T) (exact : StandingIsExact x.s
       }
 
   -- the receiver stopped
-  pub runs_stopped : (limit count stops : ℕ) (m n : Receiving T) (now : List Task) (old new : List (Work N D)) (made : Option T) (item : T) (first mid after : ℕ) → made ≡ Some item
-      → count < limit → Runs x limit count m (now ++ all_tasks x old) first mid → Keeps x now old new made mid after
+  pub runs_stopped : (limit count stops : ℕ) (m n : Receiving T) (now : List Obligation) (old new : List (OpenNode N D)) (made : Option T) (item : T) (first mid after : ℕ) → made ≡ Some item
+      → count < limit → Runs x limit count m (now ++ all_obligations x old) first mid → Keeps x now old new made mid after
       → ((items : List T) → m.StandsFor items → n.StoppedIn (items ++ item ∷ [])) → stops < n.stops → EndsStopped x limit stops n first after
   runs_stopped limit count stops m n now old new made item first mid after is less h k took cause =
       let s = made_step limit count m now old new made item first mid after is less h k in
@@ -94,23 +94,23 @@ module _ {P O N D T : Type 0} (x : Views P O N D T) (exact : StandingIsExact x.s
         items = h.items;
         last = item;
         stopped = took h.items h.stands;
-        exact = exact.up_to limit (Records h.items) (x.record_of item) (all_tasks x new)
-            (subst (λ (rs : List RecordTree). Stands x.start limit rs (all_tasks x new)) (map_snoc x.record_of h.items item) s.holds.stands);
+        exact = exact.up_to limit (Records h.items) (x.record_of item) (all_obligations x new)
+            (subst (λ (rs : List RecordTree). Stands x.start limit rs (all_obligations x new)) (map_snoc x.record_of h.items item) s.holds.stands);
         cause = cause;
         spent = let r = h.risen in let c = k.counted in let p = s.spent in omega (arith, r, c, p);
       }
 
   -- want of memory
-  pub runs_early : (limit count : ℕ) (m n : Receiving T) (left : List Task) (first after : ℕ) → Runs x limit count m left first after
+  pub runs_early : (limit count : ℕ) (m n : Receiving T) (left : List Obligation) (first after : ℕ) → Runs x limit count m left first after
       → ((items : List T) → m.StandsFor items → n.StandsFor items) → EndsEarly x limit n
   runs_early limit count m n left first after h same =
       record { items = h.items; stands = same h.items h.stands; exact = exact.so_far limit (Records h.items) left h.holds.stands }
 
   -- nothing is left
-  pub runs_whole : (limit count : ℕ) (m : Receiving T) (left : List Task) (first after : ℕ) → count ≤ limit → left ≡ [] → Runs x limit count m left first after
+  pub runs_whole : (limit count : ℕ) (m : Receiving T) (left : List Obligation) (first after : ℕ) → count ≤ limit → left ≡ [] → Runs x limit count m left first after
       → EndsWhole x limit m first after
   runs_whole limit count m left first after within none h =
-      let all : Holds x.start limit (Records h.items) [] h.raised = subst (λ (ts : List Task). Holds x.start limit (Records h.items) ts h.raised) none h.holds in
+      let all : Holds x.start limit (Records h.items) [] h.raised = subst (λ (ts : List Obligation). Holds x.start limit (Records h.items) ts h.raised) none h.holds in
       let many : length (Records h.items) ≤ limit = let l = length_mapped x.record_of h.items in let c = h.counted in omega (arith, l, c, within) in
       record {
         items = h.items;
@@ -139,17 +139,17 @@ module _ {P O N D T : Type 0} (x : Views P O N D T) where
   made_own made item h e = subst (IsOwnOrNone x) e h
 
   -- what is on top is taken
-  pub runs_popped : (limit count : ℕ) (m : Receiving T) (old rest : List (Work N D)) (w : Work N D) (first mid : ℕ) → old ≡ rest ++ w ∷ []
-      → Runs x limit count m (all_tasks x old) first mid → Runs x limit count m (tasks_of x w ++ all_tasks x rest) first mid
-  runs_popped limit count m old rest w first mid e h = subst (λ (ts : List Task). Runs x limit count m ts first mid) (popped_tasks x old rest w e) h
+  pub runs_popped : (limit count : ℕ) (m : Receiving T) (old rest : List (OpenNode N D)) (w : OpenNode N D) (first mid : ℕ) → old ≡ rest ++ w ∷ []
+      → Runs x limit count m (all_obligations x old) first mid → Runs x limit count m (obligations_of x w ++ all_obligations x rest) first mid
+  runs_popped limit count m old rest w first mid e h = subst (λ (ts : List Obligation). Runs x limit count m ts first mid) (popped_obligations x old rest w e) h
 
-  pub runs_pend : (limit count : ℕ) (m : Receiving T) (w : Work N D) (rest : List (Work N D)) (first mid : ℕ) → Runs x limit count m (tasks_of x w ++ all_tasks x rest) first mid
-      → AllByRecursion (λ (task : Task). IsPending x.start task.0 task.1) (tasks_of x w)
-  runs_pend limit count m w rest first mid h = all_first _ (tasks_of x w) (all_tasks x rest) h.holds.stands.pending
+  pub runs_pend : (limit count : ℕ) (m : Receiving T) (w : OpenNode N D) (rest : List (OpenNode N D)) (first mid : ℕ) → Runs x limit count m (obligations_of x w ++ all_obligations x rest) first mid
+      → AllByRecursion (λ (obligation : Obligation). IsPending x.start obligation.0 obligation.1) (obligations_of x w)
+  runs_pend limit count m w rest first mid h = all_first _ (obligations_of x w) (all_obligations x rest) h.holds.stands.pending
 
 -- nothing was handed over yet
 pub runs_first : {P O N D T : Type 0} (x : Views P O N D T) (below : StepsStand x.start) (limit : ℕ) (m : Receiving T) (before : ℕ) → 0 < limit → m.StandsFor []
-    → Runs x limit 0 m ((first_spot x.start, to_decide None) ∷ []) before before
+    → Runs x limit 0 m ((first_point x.start, to_decide None) ∷ []) before before
 runs_first x below limit m before some h = record {
   items = [];
   stands = h;
@@ -163,13 +163,13 @@ runs_first x below limit m before some h = record {
 
 module _ {P O N D T : Type 0} (x : Views P O N D T) where
   -- before the first step
-  pub begun_runs : (below : StepsStand x.start) (limit : ℕ) (m : Receiving T) (works : List (Work N D)) (before : ℕ) → 0 < limit → works ≡ [] → m.StandsFor []
-      → Runs x limit 0 m (((first_spot x.start, to_decide None) ∷ []) ++ all_tasks x works) before before
-  begun_runs below limit m works before some none h =
-      subst (λ (ws : List (Work N D)). Runs x limit 0 m (((first_spot x.start, to_decide None) ∷ []) ++ all_tasks x ws) before before) (sym none) (runs_first x below limit m before some h)
+  pub begun_runs : (below : StepsStand x.start) (limit : ℕ) (m : Receiving T) (open_nodes : List (OpenNode N D)) (before : ℕ) → 0 < limit → open_nodes ≡ [] → m.StandsFor []
+      → Runs x limit 0 m (((first_point x.start, to_decide None) ∷ []) ++ all_obligations x open_nodes) before before
+  begun_runs below limit m open_nodes before some none h =
+      subst (λ (ws : List (OpenNode N D)). Runs x limit 0 m (((first_point x.start, to_decide None) ∷ []) ++ all_obligations x ws) before before) (sym none) (runs_first x below limit m before some h)
 
-  pub begun_works : (works : List (Work N D)) → works ≡ [] → AreWorks x works
-  begun_works works none = subst (AreWorks x) (sym none) tt
+  pub begun_open_nodes : (open_nodes : List (OpenNode N D)) → open_nodes ≡ [] → AreOpenNodes x open_nodes
+  begun_open_nodes open_nodes none = subst (AreOpenNodes x) (sym none) tt
 
   -- as often as it had stopped before an earlier call
   pub stopped_since : (limit first stops : ℕ) (m : Receiving T) (before after : ℕ) → first ≤ stops → EndsStopped x limit stops m before after

@@ -9,16 +9,16 @@ use Rattle.sefl_meaning.specs.Trees.{over, arrives, tests, splits}
 use Rattle.sefl_meaning.specs.Taken.{decision_at}
 use Rattle.sefl_meaning.specs.Routes.{Has, IsOpen, offers, route, truth_of}
 use Rattle.exact_records.specs.Records.{SymRoute, SymTree}
-use Rattle.exact_records.specs.Spots.{Spot, sided}
+use Rattle.exact_records.specs.Points.{Point, sided}
 use Rattle.exact_records.specs.Work.{begun_at}
 use Rattle.exact_records.proofs.Arriving.{some_same}
 use Rattle.path_exec.specs.declared.engine.Next.{Next}
 use Rattle.path_exec.specs.declared.engine.Next.TheVariants.{AtEnd, AtNode}
 use Rattle.path_exec.specs.declared.engine.Offer.{Offer}
 use Rattle.path_exec.specs.declared.engine.Offer.TheVariants.{If, Constrain, Fork}
-use Rattle.path_exec.specs.Following.{Turns, here_of}
-use Rattle.path_exec.specs.Here.{spot_at, waiting_at}
-use Rattle.path_exec.specs.Offers.{IsAsking, IsNode, IsOver, is_offered, next_by, next_spot}
+use Rattle.path_exec.specs.Following.{Turns, location_of}
+use Rattle.path_exec.specs.Location.{point_at, waiting_at}
+use Rattle.path_exec.specs.Offers.{IsAsking, IsNode, IsOver, is_offered, next_by, next_point}
 use Rattle.path_exec.specs.Stepping.{IsLedThere, IsSideBehind, SideBehind, is_side}
 use Rattle.path_exec.specs.Views.{Views}
 
@@ -107,9 +107,9 @@ module _ {P O N D T : Type 0} (x : Views P O N D T) where
   -- what is not offered where decisions lead is not open behind them
   pub closed_there : (next : Next O N) (d : Decision) → IsLedThere x next → Turns x next d None
       → ((t : SymTree) (ds : List Decision) (e : Decision) (r : SymRoute) → route t ds ≡ Some r → (IsOpen t (ds ++ e ∷ []) ↔ Has (offers r.left) e))
-      → IsOpen x.start.tree ((here_of x next).decisions ++ d ∷ []) → ⊥
+      → IsOpen x.start.tree ((location_of x next).decisions ++ d ∷ []) → ⊥
   closed_there next d l none more h =
-      none (subst (λ (t : SymTree). Has (offers t) d) l.led.left ((more x.start.tree (here_of x next).decisions d l.led.way l.led.leads).0 h))
+      none (subst (λ (t : SymTree). Has (offers t) d) l.led.left ((more x.start.tree (location_of x next).decisions d l.led.way l.led.leads).0 h))
 
   pub no_side_at_end : (o : O) (d : Decision) → IsOver (waiting_at x.start (x.over_at o)).tree → SideBehind x (AtEnd o) d None
   no_side_at_end o d h = λ asking p test held broken truth is k. subst IsAtTest (sym is ∙ h.is) tt
@@ -118,13 +118,13 @@ module _ {P O N D T : Type 0} (x : Views P O N D T) where
   no_side_at_node node offer d h e = no_side offer (waiting_at x.start (x.node_at node)).tree d h e
 
   module _ (node : N) (d : Decision) (place : P)
-      (f : (begun : ℕ) (c : Spot) → next_spot (spot_at begun (x.node_at node)) d ≡ Some c → spot_at begun (x.place_at place) ≡ c) where
+      (f : (begun : ℕ) (c : Point) → next_point (point_at begun (x.node_at node)) d ≡ Some c → point_at begun (x.place_at place) ≡ c) where
     asked : (offer : Offer) (asking : Asking) → IsAsking asking (waiting_at x.start (x.node_at node)).tree → (truth : Bool) → truth_of asking d ≡ Some truth
         → IsSideBehind x (AtNode node offer) d place
     asked offer asking h truth e =
         let here = waiting_at x.start (x.node_at node) in
         let side = if truth then h.held else h.broken in
-        let next : next_spot here d ≡ Some (sided here asking h.test truth side) =
+        let next : next_point here d ≡ Some (sided here asking h.test truth side) =
         ap (λ (t : SymTree). next_by t here d) h.is
         ∙ ap (option_map (λ (b : Bool). sided here asking h.test b (if b then h.held else h.broken))) e in
         let is = f (begun_at x.start.tree (x.node_at node).decisions) (sided here asking h.test truth side) next in
@@ -137,9 +137,9 @@ module _ {P O N D T : Type 0} (x : Views P O N D T) where
           truth = truth;
           waits = h.is;
           offered = e;
-          decisions = ap (λ (a : Spot). a.decisions) is ∙ ap (λ (c : Decision). (x.node_at node).decisions ++ c ∷ []) (truth_decides asking d truth e);
-          tests_are = ap (λ (a : Spot). a.tests) is;
-          widths = ap (λ (a : Spot). a.widths) is;
+          decisions = ap (λ (a : Point). a.decisions) is ∙ ap (λ (c : Decision). (x.node_at node).decisions ++ c ∷ []) (truth_decides asking d truth e);
+          tests_are = ap (λ (a : Point). a.tests) is;
+          widths = ap (λ (a : Point). a.widths) is;
         }
 
     pub side_there : (offer : Offer) → IsNode offer (waiting_at x.start (x.node_at node)).tree → is_side offer d ≡ true → SideBehind x (AtNode node offer) d (Some place)

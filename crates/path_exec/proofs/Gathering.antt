@@ -6,7 +6,7 @@ use Rattle.sefl_meaning.specs.declared.walk.Place.{Place}
 use Rattle.sefl_meaning.specs.Carried.{Carried}
 use Rattle.sefl_meaning.specs.Routes.{route}
 use Rattle.exact_records.specs.Records.{SymRoute, SymTree}
-use Rattle.exact_records.specs.Spots.{Spot, arrivals_of, first_spot}
+use Rattle.exact_records.specs.Points.{Point, arrivals_of, first_point}
 use Rattle.exact_records.specs.Work.{at_last, begun_at, without_last}
 use Rattle.exact_records.proofs.Arriving.{some_same}
 use Rattle.exact_records.proofs.Lists.{append_nil, map_append}
@@ -14,7 +14,7 @@ use Rattle.path_exec.specs.declared.engine.Moved.{Moved}
 use Rattle.path_exec.specs.declared.engine.Moved.TheVariants.{Arrived, Stopped}
 use Rattle.path_exec.specs.declared.engine.Next.{Next}
 use Rattle.path_exec.specs.declared.engine.Next.TheVariants.{AtEnd, AtNode}
-use Rattle.path_exec.specs.Here.{Here, behind_last, spot_at}
+use Rattle.path_exec.specs.Location.{Location, behind_last, point_at}
 use Rattle.path_exec.specs.Views.{Views}
 use Rattle.path_exec.specs.Moves.{IsMove, IsStop, Moves, Reaches}
 use Rattle.path_exec.specs.Following.{IsTurned, StandsWith}
@@ -97,19 +97,19 @@ one_sooner t ds es d way e k = λ parent last other is leads.
 
 module _ {P O N D T : Type 0} (x : Views P O N D T) (port : Place) where
   -- the arrivals that were passed, and the copies that were kept of them
-  pub record HasPassed (first : Here) (begun : ℕ) (now : Here) (mid : ℕ) (more : List P) : Type 0 where
+  pub record HasPassed (first : Location) (begun : ℕ) (now : Location) (mid : ℕ) (more : List P) : Type 0 where
     pub passed : List Arrival
     pub is : arrivals_of (first.tree begun) ≡ passed ++ arrivals_of (now.tree mid)
     pub places : now.places ≡ first.places ++ ports_of passed
     pub visits : AreVisits x.carried_at (PassesAt x first) port [] passed more
 
-  pub record IsGathering (first now : Here) (before after : ℕ) (old found : List P) : Type 0 where
+  pub record IsGathering (first now : Location) (before after : ℕ) (old found : List P) : Type 0 where
     pub way : IsUnderWay x first now before after
     pub more : List P
     pub is : found ≡ old ++ more
     pub passed : (begun : ℕ) → HasPassed first begun now (begun + way.raised) more
 
-  pub gathers_first : (first : Here) (before : ℕ) (old : List P) → IsGathering first first before before old old
+  pub gathers_first : (first : Location) (before : ℕ) (old : List P) → IsGathering first first before before old old
   unfolding starts_way
   gathers_first first before old = record {
     way = starts_way x first before;
@@ -123,8 +123,8 @@ module _ {P O N D T : Type 0} (x : Views P O N D T) (port : Place) where
     };
   }
 
-  module _ (first now : Here) (begun mid count : ℕ) (place : P) (more : List P) (w : HasPassed first begun now mid more)
-      (h : Reaches x.start (spot_at mid now) (spot_at count (x.place_at place)) (x.carried_at place)) where
+  module _ (first now : Location) (begun mid count : ℕ) (place : P) (more : List P) (w : HasPassed first begun now mid more)
+      (h : Reaches x.start (point_at mid now) (point_at count (x.place_at place)) (x.carried_at place)) where
     placed_on : (x.place_at place).places ≡ first.places ++ ports_of (w.passed ++ (h.port, h.progress) ∷ [])
     placed_on =
         h.places
@@ -143,16 +143,16 @@ module _ {P O N D T : Type 0} (x : Views P O N D T) (port : Place) where
     }
 
     -- a copy of the place stands there
-    passes_at : (copy : P) → x.place_at copy ≡ x.place_at place → IsOnWay (spot_at begun first) (spot_at mid now) → PassesAt x first w.passed (h.port, h.progress) copy
+    passes_at : (copy : P) → x.place_at copy ≡ x.place_at place → IsOnWay (point_at begun first) (point_at mid now) → PassesAt x first w.passed (h.port, h.progress) copy
     passes_at copy same on = record {
-      decisions = ap (λ (c : Here). c.decisions) same ∙ (h.goes.decisions ∙ on.decisions);
-      tests = ap (λ (c : Here). c.tests) same ∙ (h.goes.tests ∙ on.tests);
-      places = ap (λ (c : Here). c.places) same ∙ placed_on;
-      widths = ap (λ (c : Here). c.widths) same ∙ h.widths;
+      decisions = ap (λ (c : Location). c.decisions) same ∙ (h.goes.decisions ∙ on.decisions);
+      tests = ap (λ (c : Location). c.tests) same ∙ (h.goes.tests ∙ on.tests);
+      places = ap (λ (c : Location). c.places) same ∙ placed_on;
+      widths = ap (λ (c : Location). c.widths) same ∙ h.widths;
     }
 
   -- a port was arrived at, and noted
-  pub gathers_on : (first now : Here) (before mid after : ℕ) (moved : Moved P O N) (place : P) (old found new : List P) → IsGathering first now before mid old found → Moves x now mid after moved
+  pub gathers_on : (first now : Location) (before mid after : ℕ) (moved : Moved P O N) (place : P) (old found new : List P) → IsGathering first now before mid old found → Moves x now mid after moved
       → moved ≡ Arrived place → IsNoted x port place found new → IsGathering first (x.place_at place) before after old new
   unfolding goes_way
   gathers_on first now before mid after moved place old found new w h is (inl n) = record {
@@ -161,7 +161,7 @@ module _ {P O N D T : Type 0} (x : Views P O N D T) (port : Place) where
     is = n.1.3 ∙ (ap (λ (ps : List P). ps ++ n.1.0 ∷ []) w.is ∙ append_assoc old w.more (n.1.0 ∷ []));
     passed = λ begun.
         let same : (begun + w.way.raised) + h.raised ≡ begun + (w.way.raised + h.raised) = omega arith in
-        let reached = subst (IsMove x (spot_at (begun + w.way.raised) now) ((begun + w.way.raised) + h.raised)) is (h.goes (begun + w.way.raised)) in
+        let reached = subst (IsMove x (point_at (begun + w.way.raised) now) ((begun + w.way.raised) + h.raised)) is (h.goes (begun + w.way.raised)) in
         let there : reached.port ≡ port = last_same now.places n.0.0 reached.port port (sym reached.places ∙ n.0.1) in
         let stands = passes_at first now begun (begun + w.way.raised) ((begun + w.way.raised) + h.raised) place w.more (w.passed begun) reached n.1.0 n.1.1 (w.way.way begun) in
         subst (λ (m : ℕ). HasPassed first begun (x.place_at place) m (w.more ++ n.1.0 ∷ [])) same
@@ -174,7 +174,7 @@ module _ {P O N D T : Type 0} (x : Views P O N D T) (port : Place) where
     is = n.1 ∙ w.is;
     passed = λ begun.
         let same : (begun + w.way.raised) + h.raised ≡ begun + (w.way.raised + h.raised) = omega arith in
-        let reached = subst (IsMove x (spot_at (begun + w.way.raised) now) ((begun + w.way.raised) + h.raised)) is (h.goes (begun + w.way.raised)) in
+        let reached = subst (IsMove x (point_at (begun + w.way.raised) now) ((begun + w.way.raised) + h.raised)) is (h.goes (begun + w.way.raised)) in
         let away : reached.port ≡ port → ⊥ = λ e. n.0 (now.places, reached.places ∙ ap (λ (p : Place). now.places ++ p ∷ []) e) in
         subst (λ (m : ℕ). HasPassed first begun (x.place_at place) m w.more) same
         (subst (HasPassed first begun (x.place_at place) ((begun + w.way.raised) + h.raised)) (append_nil w.more)
@@ -182,13 +182,13 @@ module _ {P O N D T : Type 0} (x : Views P O N D T) (port : Place) where
         (no_visit x.carried_at (PassesAt x first) port (w.passed begun).passed (reached.port, reached.progress) away)));
   }
 
-  stop_passes : (a : Spot) (count : ℕ) (next : Next O N) → IsStop x a count next → arrivals_of a.tree ≡ []
+  stop_passes : (a : Point) (count : ℕ) (next : Next O N) → IsStop x a count next → arrivals_of a.tree ≡ []
   stop_passes a count (AtEnd o) h =
       nothing_arrived (arrivals_of a.tree) (ap (λ (t : SymTree). ports_of (arrivals_of t)) (sym h.0.tree) ∙ (over_still ((x.over_at o).tree count) h.1).places)
   stop_passes a count (AtNode node offer) h =
       nothing_arrived (arrivals_of a.tree) (ap (λ (t : SymTree). ports_of (arrivals_of t)) (sym h.0.tree) ∙ (node_still offer ((x.node_at node).tree count) h.1).places)
 
-  pub gathers_done : (first now : Here) (before mid after : ℕ) (moved : Moved P O N) (next : Next O N) (old found : List P) → IsGathering first now before mid old found
+  pub gathers_done : (first now : Location) (before mid after : ℕ) (moved : Moved P O N) (next : Next O N) (old found : List P) → IsGathering first now before mid old found
       → Moves x now mid after moved → moved ≡ Stopped next → Visits x port first before after old found next
   gathers_done first now before mid after moved next old found w h is = record {
     advances = ends_way x first now before mid after moved next w.way h is;
@@ -196,8 +196,8 @@ module _ {P O N D T : Type 0} (x : Views P O N D T) (port : Place) where
     is = w.is;
     visits = λ begun.
         let p = w.passed begun in
-        let none = stop_passes (spot_at (begun + w.way.raised) now) ((begun + w.way.raised) + h.raised) next
-        (subst (IsMove x (spot_at (begun + w.way.raised) now) ((begun + w.way.raised) + h.raised)) is (h.goes (begun + w.way.raised))) in
+        let none = stop_passes (point_at (begun + w.way.raised) now) ((begun + w.way.raised) + h.raised) next
+        (subst (IsMove x (point_at (begun + w.way.raised) now) ((begun + w.way.raised) + h.raised)) is (h.goes (begun + w.way.raised))) in
         let all : p.passed ≡ arrivals_of (first.tree begun) = sym (p.is ∙ (ap (λ (us : List Arrival). p.passed ++ us) none ∙ append_nil p.passed)) in
         subst (λ (us : List Arrival). AreVisits x.carried_at (PassesAt x first) port [] us w.more) all p.visits;
   }
@@ -205,7 +205,7 @@ module _ {P O N D T : Type 0} (x : Views P O N D T) (port : Place) where
   -- ---- along all decisions
 
   -- what is passed behind these decisions is arrived at on their way
-  module _ (h : Here) (way : SymRoute) (arrivals all : List Arrival) (led : route x.start.tree h.decisions ≡ Some way) (are : way.arrivals ≡ arrivals ++ all)
+  module _ (h : Location) (way : SymRoute) (arrivals all : List Arrival) (led : route x.start.tree h.decisions ≡ Some way) (are : way.arrivals ≡ arrivals ++ all)
       (taken : way.tests ≡ h.tests) (placed : ports_of arrivals ≡ h.places) (few : MakesAtMost x.start.tree (length arrivals) h.decisions) where
     arrives_there : (before later : List Arrival) (a : Arrival) (p : P) → all ≡ before ++ a ∷ later → PassesAt x h before a p → ArrivesAt x h.decisions (arrivals ++ before) a p
     arrives_there before later a p is k = record {
@@ -226,7 +226,7 @@ module _ {P O N D T : Type 0} (x : Views P O N D T) (port : Place) where
       widths = k.widths;
     }
 
-  pub leads_by : (h : Here) (before after : ℕ) (old new : List P) (next : Next O N) (arrivals : List Arrival) → StandsWith x.start arrivals (behind_last x.start h)
+  pub leads_by : (h : Location) (before after : ℕ) (old new : List P) (next : Next O N) (arrivals : List Arrival) → StandsWith x.start arrivals (behind_last x.start h)
       → MakesAtMost x.start.tree (length arrivals) h.decisions → AreVisits x.carried_at (ArrivesAt x h.decisions) port [] arrivals old → Visits x port h before after old new next
       → LeadsBy x port h.decisions next new
   leads_by h before after old new next arrivals stands few v k =
@@ -245,10 +245,10 @@ module _ {P O N D T : Type 0} (x : Views P O N D T) (port : Place) where
             (subst (λ (us : List Arrival). AreVisits x.carried_at (ArrivesAt x h.decisions) port us passed k.more) (append_nil arrivals) on)));
       }
 
-  pub leads_first : (place : P) (before after : ℕ) (old new : List P) (next : Next O N) → spot_at 0 (x.place_at place) ≡ first_spot x.start → old ≡ []
+  pub leads_first : (place : P) (before after : ℕ) (old new : List P) (next : Next O N) → point_at 0 (x.place_at place) ≡ first_point x.start → old ≡ []
       → Visits x port (x.place_at place) before after old new next → LeadsBy x port [] next new
   leads_first place before after old new next e empty k =
-      let none : (x.place_at place).decisions ≡ [] = ap (λ (a : Spot). a.decisions) e in
+      let none : (x.place_at place).decisions ≡ [] = ap (λ (a : Point). a.decisions) e in
       subst (λ (ds : List Decision). LeadsBy x port ds next new) none
       (leads_by (x.place_at place) before after old new next [] (subst (StandsWith x.start []) (sym (first_placed x place e)) (start_stands x.start))
       (none_sooner x.start.tree 0 (x.place_at place).decisions none) empty k)

@@ -11,7 +11,7 @@ use Rattle.sefl_meaning.specs.Trees.{Tree, tests, splits, Copies, no_copies, cop
 use Rattle.sefl_meaning.specs.Taken.{decision_at}
 use Rattle.sefl_meaning.specs.Routes.{Has, IsFirstClosed, behind, copy_route, offered_copies, offers, route, waiting}
 use Rattle.exact_records.specs.Records.{Leads, SymStart, SymTree}
-use Rattle.exact_records.specs.Spots.{Arrives, IsAt, Spot, arrivals_of, copied, copy_at, first_spot, node_of, places_of, sided}
+use Rattle.exact_records.specs.Points.{Arrives, IsAt, Point, arrivals_of, copied, copy_at, first_point, node_of, places_of, sided}
 use Rattle.exact_records.specs.Work.{at_last, begun_at}
 use Rattle.exact_records.proofs.Lists.{append_nil, map_append}
 use Rattle.exact_records.proofs.Arriving.{IsWaiting, at_start, behind_more, behind_nothing, led, node_waits, route_node, some_same}
@@ -19,9 +19,9 @@ use Rattle.path_exec.specs.declared.engine.Offer.{Offer}
 use Rattle.path_exec.specs.declared.engine.Offer.TheVariants.{If, Constrain, Fork}
 use Rattle.path_exec.specs.declared.engine.Next.{Next}
 use Rattle.path_exec.specs.declared.engine.Next.TheVariants.{AtEnd, AtNode}
-use Rattle.path_exec.specs.Here.{Here, behind_last, spot_at, waiting_at}
+use Rattle.path_exec.specs.Location.{Location, behind_last, point_at, waiting_at}
 use Rattle.path_exec.specs.Views.{Views}
-use Rattle.path_exec.specs.Offers.{IsNode, IsOffered, IsOver, copy_count, is_offered, next_by, next_spot}
+use Rattle.path_exec.specs.Offers.{IsNode, IsOffered, IsOver, copy_count, is_offered, next_by, next_point}
 use Rattle.path_exec.specs.Moves.{Advances, ComesTo}
 use Rattle.path_exec.specs.Following.{IsLed, LeadsTo, StandsWith, Turns}
 use Rattle.path_exec.proofs.Ways.{begun_next, first_placed, placed}
@@ -45,10 +45,10 @@ module _ {V F : Type 0} where
   copy_route_at (copy_and u branches) (suc n) t ds e = copy_route_at branches n t ds e
 
 module _ (s : SymStart) where
-  pub start_stands : StandsWith s [] (first_spot s)
+  pub start_stands : StandsWith s [] (first_point s)
   start_stands = record { at = record { arrivals = []; places = refl; leads = λ ds. behind_nothing (route s.tree ds) }; same = refl }
 
-  next_stands : (a b : Spot) (h : IsAt s a) → Arrives s a b → StandsWith s (h.arrivals ++ arrivals_of a.tree) b
+  next_stands : (a b : Point) (h : IsAt s a) → Arrives s a b → StandsWith s (h.arrivals ++ arrivals_of a.tree) b
   next_stands a b h n = record {
     at = record {
       arrivals = h.arrivals ++ arrivals_of a.tree;
@@ -62,7 +62,7 @@ module _ (s : SymStart) where
     same = refl;
   }
 
-  side_stands : (a : Spot) (asking : Asking) (p : Progress LinearTerm) (test : FormulaTree) (held broken : SymTree) (truth : Bool) (h : IsAt s a) → a.tree ≡ tests asking p test held broken
+  side_stands : (a : Point) (asking : Asking) (p : Progress LinearTerm) (test : FormulaTree) (held broken : SymTree) (truth : Bool) (h : IsAt s a) → a.tree ≡ tests asking p test held broken
       → StandsWith s h.arrivals (sided a asking test truth (if truth then held else broken))
   side_stands a asking p test held broken truth h e = record {
     at = record {
@@ -79,7 +79,7 @@ module _ (s : SymStart) where
     same = refl;
   }
 
-  copy_stands : (a : Spot) (p : Progress LinearTerm) (branches : Copies LinearTerm FormulaTree) (n : ℕ) (t : SymTree) → copy_at branches n ≡ Some t → (h : IsAt s a) → a.tree ≡ splits p branches
+  copy_stands : (a : Point) (p : Progress LinearTerm) (branches : Copies LinearTerm FormulaTree) (n : ℕ) (t : SymTree) → copy_at branches n ≡ Some t → (h : IsAt s a) → a.tree ≡ splits p branches
       → StandsWith s h.arrivals (copied a n t)
   copy_stands a p branches n t k h e = record {
     at = record {
@@ -130,19 +130,19 @@ has_offered (Fork count) t d h k = copy_offered count h.branches d h.counted (su
 
 -- ---- what comes behind one that is offered
 
--- the spot behind the decision
-pub record IsBehind (s : SymStart) (b : Spot) (d : Decision) (t : SymTree) : Type 0 where
-  pub spot : Spot
-  pub next : next_by t b d ≡ Some spot
-  pub decisions : spot.decisions ≡ b.decisions ++ d ∷ []
-  pub at : (h : IsAt s b) → b.tree ≡ t → StandsWith s h.arrivals spot
+-- the point behind the decision
+pub record IsBehind (s : SymStart) (b : Point) (d : Decision) (t : SymTree) : Type 0 where
+  pub point : Point
+  pub next : next_by t b d ≡ Some point
+  pub decisions : point.decisions ≡ b.decisions ++ d ∷ []
+  pub at : (h : IsAt s b) → b.tree ≡ t → StandsWith s h.arrivals point
 
-module _ (s : SymStart) (b : Spot) where
+module _ (s : SymStart) (b : Point) where
   if_behind : (p : Progress LinearTerm) (test : FormulaTree) (held broken : SymTree) (d : Decision) → is_offered If d ≡ true → IsBehind s b d (tests at_if p test held broken)
   if_behind p test held broken Then h =
-      record { spot = sided b at_if test true held; next = refl; decisions = refl; at = side_stands s b at_if p test held broken true }
+      record { point = sided b at_if test true held; next = refl; decisions = refl; at = side_stands s b at_if p test held broken true }
   if_behind p test held broken Else h =
-      record { spot = sided b at_if test false broken; next = refl; decisions = refl; at = side_stands s b at_if p test held broken false }
+      record { point = sided b at_if test false broken; next = refl; decisions = refl; at = side_stands s b at_if p test held broken false }
   if_behind p test held broken Pass h = let bad : false ≡ true = h in cc
   if_behind p test held broken Broken h = let bad : false ≡ true = h in cc
   if_behind p test held broken (Copy n) h = let bad : false ≡ true = h in cc
@@ -150,9 +150,9 @@ module _ (s : SymStart) (b : Spot) where
   constrain_behind : (p : Progress LinearTerm) (test : FormulaTree) (held broken : SymTree) (d : Decision) → is_offered Constrain d ≡ true
       → IsBehind s b d (tests at_constrain p test held broken)
   constrain_behind p test held broken Pass h =
-      record { spot = sided b at_constrain test true held; next = refl; decisions = refl; at = side_stands s b at_constrain p test held broken true }
+      record { point = sided b at_constrain test true held; next = refl; decisions = refl; at = side_stands s b at_constrain p test held broken true }
   constrain_behind p test held broken Broken h =
-      record { spot = sided b at_constrain test false broken; next = refl; decisions = refl; at = side_stands s b at_constrain p test held broken false }
+      record { point = sided b at_constrain test false broken; next = refl; decisions = refl; at = side_stands s b at_constrain p test held broken false }
   constrain_behind p test held broken Then h = let bad : false ≡ true = h in cc
   constrain_behind p test held broken Else h = let bad : false ≡ true = h in cc
   constrain_behind p test held broken (Copy n) h = let bad : false ≡ true = h in cc
@@ -165,7 +165,7 @@ module _ (s : SymStart) (b : Spot) where
   number_behind : (p : Progress LinearTerm) (branches : Copies LinearTerm FormulaTree) (n : ℕ) → n < copy_count branches → IsBehind s b (Copy n) (splits p branches)
   number_behind p branches n h =
       let k = a_copy branches n h in
-      record { spot = copied b n k.0; next = ap (option_map (copied b n)) k.1; decisions = refl; at = copy_stands s b p branches n k.0 k.1 }
+      record { point = copied b n k.0; next = ap (option_map (copied b n)) k.1; decisions = refl; at = copy_stands s b p branches n k.0 k.1 }
 
   copy_behind : (count : ℕ) (p : Progress LinearTerm) (branches : Copies LinearTerm FormulaTree) (d : Decision) → count ≡ copy_count branches → is_offered (Fork count) d ≡ true
       → IsBehind s b d (splits p branches)
@@ -195,37 +195,37 @@ module _ {P O N D T : Type 0} (x : Views P O N D T) where
   closed_at_node node offer d h e = λ k. false_true (is_offered offer d) e (has_offered offer (waiting_at x.start (x.node_at node)).tree d h k)
 
   pub turned : (node : N) (offer : Offer) (d : Decision) (place : P) (h : IsNode offer (waiting_at x.start (x.node_at node)).tree) (e : is_offered offer d ≡ true)
-      → spot_at (begun_at x.start.tree (x.node_at node).decisions) (x.place_at place) ≡ (offered_behind x.start (waiting_at x.start (x.node_at node)) offer d h e).spot
+      → point_at (begun_at x.start.tree (x.node_at node).decisions) (x.place_at place) ≡ (offered_behind x.start (waiting_at x.start (x.node_at node)) offer d h e).point
       → Turns x (AtNode node offer) d (Some place)
   turned node offer d place h e is =
       let k = offered_behind x.start (waiting_at x.start (x.node_at node)) offer d h e in
       record {
-        decisions = ap (λ (a : Spot). a.decisions) is ∙ k.decisions;
-        stands = λ at. subst (StandsWith x.start at.arrivals) (sym (placed x node d place k.spot is k.decisions)) (k.at at refl);
+        decisions = ap (λ (a : Point). a.decisions) is ∙ k.decisions;
+        stands = λ at. subst (StandsWith x.start at.arrivals) (sym (placed x node d place k.point is k.decisions)) (k.at at refl);
       }
 
-  -- it is offered, and the place behind it is that of its spot
+  -- it is offered, and the place behind it is that of its point
   pub offered_there : (node : N) (offer : Offer) (d : Decision) → IsNode offer (waiting_at x.start (x.node_at node)).tree → is_offered offer d ≡ true → IsOffered (x.node_at node) d
   offered_there node offer d h e =
       let k = offered_behind x.start (waiting_at x.start (x.node_at node)) offer d h e in
-      (begun_at x.start.tree (x.node_at node).decisions, k.spot, k.next)
+      (begun_at x.start.tree (x.node_at node).decisions, k.point, k.next)
 
   pub turned_there : (node : N) (offer : Offer) (d : Decision) (place : P) (h : IsNode offer (waiting_at x.start (x.node_at node)).tree) → is_offered offer d ≡ true
-      → ((begun : ℕ) (c : Spot) → next_spot (spot_at begun (x.node_at node)) d ≡ Some c → spot_at begun (x.place_at place) ≡ c) → Turns x (AtNode node offer) d (Some place)
+      → ((begun : ℕ) (c : Point) → next_point (point_at begun (x.node_at node)) d ≡ Some c → point_at begun (x.place_at place) ≡ c) → Turns x (AtNode node offer) d (Some place)
   turned_there node offer d place h e f =
       let k = offered_behind x.start (waiting_at x.start (x.node_at node)) offer d h e in
-      turned node offer d place h e (f (begun_at x.start.tree (x.node_at node).decisions) k.spot k.next)
+      turned node offer d place h e (f (begun_at x.start.tree (x.node_at node).decisions) k.point k.next)
 
-  pub starts_at : (place : P) → spot_at 0 (x.place_at place) ≡ first_spot x.start → IsAt x.start (behind_last x.start (x.place_at place))
+  pub starts_at : (place : P) → point_at 0 (x.place_at place) ≡ first_point x.start → IsAt x.start (behind_last x.start (x.place_at place))
   starts_at place e = subst (IsAt x.start) (sym (first_placed x place e)) (at_start x.start)
 
   -- with the arrivals and the tests on the way
-  pub record IsLedBy (arrivals : List (Place × Progress LinearTerm)) (taken : List (FormulaTree × Bool)) (ds : List Decision) (b : Spot) : Type 0 where
+  pub record IsLedBy (arrivals : List (Place × Progress LinearTerm)) (taken : List (FormulaTree × Bool)) (ds : List Decision) (b : Point) : Type 0 where
     pub led : IsLed x.start ds b
     pub arrivals_are : led.way.arrivals ≡ arrivals
     pub tests_are : led.way.tests ≡ taken
 
-  pub led_to : (a b : Spot) (count : ℕ) (at : IsAt x.start a) → ComesTo x.start count a b → IsLedBy (at.arrivals ++ arrivals_of a.tree) a.tests a.decisions b
+  pub led_to : (a b : Point) (count : ℕ) (at : IsAt x.start a) → ComesTo x.start count a b → IsLedBy (at.arrivals ++ arrivals_of a.tree) a.tests a.decisions b
   led_to a b count at n =
       let st = next_stands x.start a b at n.arrives in
       let w : IsWaiting x.start b = record { at = st.at; node = subst (λ (t : SymTree). route t [] ≡ Some (waiting t)) (sym n.arrives.tree) (node_waits a.tree); widths = n.arrives.widths } in
@@ -245,24 +245,24 @@ module _ {P O N D T : Type 0} (x : Views P O N D T) where
         };
       }
 
-  -- the same spot, by how many have begun there
-  come_there : (h c : Here) (count raised : ℕ) → IsAt x.start (behind_last x.start h) → count ≡ at_last (begun_at x.start.tree) h.decisions + raised
-      → ComesTo x.start count (behind_last x.start h) (spot_at count c) → count ≡ begun_at x.start.tree c.decisions
-  come_there h c count raised at e n = sym (begun_next x.start (behind_last x.start h) (spot_at count c) count at n)
+  -- the same point, by how many have begun there
+  come_there : (h c : Location) (count raised : ℕ) → IsAt x.start (behind_last x.start h) → count ≡ at_last (begun_at x.start.tree) h.decisions + raised
+      → ComesTo x.start count (behind_last x.start h) (point_at count c) → count ≡ begun_at x.start.tree c.decisions
+  come_there h c count raised at e n = sym (begun_next x.start (behind_last x.start h) (point_at count c) count at n)
 
   pub record ArrivesBy (arrivals : List (Place × Progress LinearTerm)) (taken : List (FormulaTree × Bool)) (ds : List Decision) (next : Next O N) : Type 0 where
     pub leads : LeadsTo x ds next
     pub arrivals_are : leads.led.way.arrivals ≡ arrivals
     pub tests_are : leads.led.way.tests ≡ taken
 
-  pub arrived_by : (h : Here) (before after : ℕ) (next : Next O N) (at : IsAt x.start (behind_last x.start h)) → Advances x h before after next
+  pub arrived_by : (h : Location) (before after : ℕ) (next : Next O N) (at : IsAt x.start (behind_last x.start h)) → Advances x h before after next
       → ArrivesBy (at.arrivals ++ arrivals_of (behind_last x.start h).tree) h.tests h.decisions next
   arrived_by h before after (AtEnd o) at adv =
       let b0 = at_last (begun_at x.start.tree) h.decisions in
       let n = adv.goes b0 in
       let same = come_there h (x.over_at o) (b0 + adv.raised) adv.raised at refl n.0 in
       let l = led_to (behind_last x.start h) (waiting_at x.start (x.over_at o)) (b0 + adv.raised) at
-      (subst (λ (m : ℕ). ComesTo x.start (b0 + adv.raised) (behind_last x.start h) (spot_at m (x.over_at o))) same n.0) in
+      (subst (λ (m : ℕ). ComesTo x.start (b0 + adv.raised) (behind_last x.start h) (point_at m (x.over_at o))) same n.0) in
       record {
         leads = record { led = l.led; kind = subst (λ (m : ℕ). IsOver ((x.over_at o).tree m)) same n.1 };
         arrivals_are = l.arrivals_are;
@@ -273,14 +273,14 @@ module _ {P O N D T : Type 0} (x : Views P O N D T) where
       let n = adv.goes b0 in
       let same = come_there h (x.node_at node) (b0 + adv.raised) adv.raised at refl n.0 in
       let l = led_to (behind_last x.start h) (waiting_at x.start (x.node_at node)) (b0 + adv.raised) at
-      (subst (λ (m : ℕ). ComesTo x.start (b0 + adv.raised) (behind_last x.start h) (spot_at m (x.node_at node))) same n.0) in
+      (subst (λ (m : ℕ). ComesTo x.start (b0 + adv.raised) (behind_last x.start h) (point_at m (x.node_at node))) same n.0) in
       record {
         leads = record { led = l.led; kind = subst (λ (m : ℕ). IsNode offer ((x.node_at node).tree m)) same n.1 };
         arrivals_are = l.arrivals_are;
         tests_are = l.tests_are;
       }
 
-  pub arrived : (h : Here) (before after : ℕ) (next : Next O N) → IsAt x.start (behind_last x.start h) → Advances x h before after next → LeadsTo x h.decisions next
+  pub arrived : (h : Location) (before after : ℕ) (next : Next O N) → IsAt x.start (behind_last x.start h) → Advances x h before after next → LeadsTo x h.decisions next
   arrived h before after next at adv = (arrived_by h before after next at adv).leads
 
   -- a decision that is not offered is the first one

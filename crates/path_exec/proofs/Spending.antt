@@ -77,7 +77,7 @@ module _ (at : List Decision → ℕ) where
   pub paid_first : Paid at [] [] 0 0
   paid_first = record { none_done = λ e. omega arith; some_done = λ front last e. absurd (not_snoc front last (sym e)) }
 
-  -- a node was opened: the first task behind it comes next
+  -- a node was opened: the first obligation behind it comes next
   pub paid_opened : (done : List RecordTree) (next rest : List Decision) (before begun steps raised : ℕ)
       → ((front : List RecordTree) (last : RecordTree) → done ≡ front ++ last ∷ [] → Parts (decisions_of last) next)
       → steps + before ≡ begun → Paid at done next before raised → Paid at done (next ++ rest) begun (raised + steps)
@@ -108,7 +108,7 @@ module _ (at : List Decision → ℕ) where
             omega (arith, e, k, c, w, d, f)
       ]
 
-  -- so it is before the next task, where no more had begun anywhere on the way to it than before it
+  -- so it is before the next obligation, where no more had begun anywhere on the way to it than before it
   pub paid_next : (done : List RecordTree) (x : RecordTree) (next : List Decision) (before raised : ℕ) → Parts (decisions_of x) next
       → ((p : List Decision) (d : Decision) (rest : List Decision) → next ≡ p ++ d ∷ rest → at p ≤ before) → raised ≤ work_by at (done ++ x ∷ []) → Paid at (done ++ x ∷ []) next before raised
   paid_next done x next before raised apart grown h = record {

@@ -6,7 +6,7 @@ use Rattle.sefl_meaning.specs.Courses.{Progress}
 use Rattle.sefl_meaning.specs.Trees.{Tree, over, arrives, tests, splits, Copies, no_copies, copy_and}
 use Rattle.sefl_meaning.specs.Routes.{EachSplits, Route, Splits, arriving, behind, by_number, by_truth, copy_route, number_of, route, taking, truth_of}
 use Rattle.exact_records.specs.Records.{SymStart}
-use Rattle.exact_records.specs.Spots.{IsAt, Spot, node_of}
+use Rattle.exact_records.specs.Points.{IsAt, Point, node_of}
 
 module _ {V F : Type 0} where
   -- what is left of a route, if there is one, has the property
@@ -61,8 +61,8 @@ module _ {V F : Type 0} where
   so_node (tests asking p test held broken) h = h
   so_node (splits p branches) h = h
 
--- at the next node of a spot too
-pub splits_there : (s : SymStart) (a : Spot) → Splits s.tree → IsAt s a → Splits (node_of a.tree)
+-- at the next node of a point too
+pub splits_there : (s : SymStart) (a : Point) → Splits s.tree → IsAt s a → Splits (node_of a.tree)
 splits_there s a h at =
     so_node a.tree (so_behind at.arrivals a.tests (route a.tree [])
     (subst IsLeftSo (at.leads []) (splits_along s.tree (a.decisions ++ []) h)))

@@ -7,9 +7,9 @@ use Rattle.path_exec.specs.declared.exploration.Ended.{Ended}
 use Rattle.path_exec.specs.declared.exploration.Ended.TheVariants.{Whole, Partial, Stopped}
 use Rattle.path_exec.specs.declared.exploration.Ran.{Ran}
 use Rattle.path_exec.specs.declared.exploration.Ran.TheVariants.{Over, Met, Interrupted}
-use Rattle.path_exec.specs.declared.opening.Work.{Work}
+use Rattle.path_exec.specs.declared.opening.OpenNode.{OpenNode}
 use Rattle.path_exec.specs.Views.{Views}
-use Rattle.path_exec.specs.Works.{AreWorks, all_tasks}
+use Rattle.path_exec.specs.OpenNodes.{AreOpenNodes, all_obligations}
 use Rattle.path_exec.specs.Receiving.{Receiving}
 use Rattle.path_exec.specs.Keeping.{Runs}
 
@@ -53,18 +53,18 @@ module _ {P O N D T : Type 0} (x : Views P O N D T) where
   Explored limit stops m before after (Err e) = EndsEarly limit m
 
   -- how its first step ends: this many records were handed over, or the receiver stopped
-  abbrev pub BegunAs : {E : Type 0} → ℕ → ℕ → Receiving T → List (Work N D) → ℕ → ℕ → Result (Option ℕ) E → Type 0
-  BegunAs limit stops m works before after (Ok (Some count)) =
-      (count ≤ limit) × Runs x limit count m (all_tasks x works) before after × AreWorks x works
-  BegunAs limit stops m works before after (Ok None) = EndsStopped limit stops m before after
-  BegunAs limit stops m works before after (Err e) = EndsEarly limit m
+  abbrev pub BegunAs : {E : Type 0} → ℕ → ℕ → Receiving T → List (OpenNode N D) → ℕ → ℕ → Result (Option ℕ) E → Type 0
+  BegunAs limit stops m open_nodes before after (Ok (Some count)) =
+      (count ≤ limit) × Runs x limit count m (all_obligations x open_nodes) before after × AreOpenNodes x open_nodes
+  BegunAs limit stops m open_nodes before after (Ok None) = EndsStopped limit stops m before after
+  BegunAs limit stops m open_nodes before after (Err e) = EndsEarly limit m
 
   -- how the run below the limit ends
-  abbrev pub RanAs : {E : Type 0} → ℕ → ℕ → Receiving T → List (Work N D) → ℕ → ℕ → Result Ran E → Type 0
-  RanAs limit stops m works before after (Ok Over) = EndsWhole limit m before after
-  RanAs limit stops m works before after (Ok Met) = Runs x limit limit m (all_tasks x works) before after × AreWorks x works
-  RanAs limit stops m works before after (Ok Interrupted) = EndsStopped limit stops m before after
-  RanAs limit stops m works before after (Err e) = EndsEarly limit m
+  abbrev pub RanAs : {E : Type 0} → ℕ → ℕ → Receiving T → List (OpenNode N D) → ℕ → ℕ → Result Ran E → Type 0
+  RanAs limit stops m open_nodes before after (Ok Over) = EndsWhole limit m before after
+  RanAs limit stops m open_nodes before after (Ok Met) = Runs x limit limit m (all_obligations x open_nodes) before after × AreOpenNodes x open_nodes
+  RanAs limit stops m open_nodes before after (Ok Interrupted) = EndsStopped limit stops m before after
+  RanAs limit stops m open_nodes before after (Err e) = EndsEarly limit m
 
   -- how what is left is named
   abbrev pub LeftAs : {E : Type 0} → ℕ → ℕ → Receiving T → ℕ → ℕ → Result Ended E → Type 0

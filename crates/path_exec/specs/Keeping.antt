@@ -4,11 +4,11 @@ use Rattle.std.specs.List.{AllByRecursion}
 use Rattle.sefl_meaning.specs.Trees.{Tree, over, arrives, tests, splits, Copies, no_copies, copy_and}
 use Rattle.exact_records.specs.Records.{RecordTree}
 use Rattle.exact_records.specs.Exact.{IsTried, IsUnexplored}
-use Rattle.exact_records.specs.Spots.{Stands, Task}
+use Rattle.exact_records.specs.Points.{Stands, Obligation}
 use Rattle.exact_records.specs.Work.{work_of}
-use Rattle.path_exec.specs.declared.opening.Work.{Work}
+use Rattle.path_exec.specs.declared.opening.OpenNode.{OpenNode}
 use Rattle.path_exec.specs.Views.{Views}
-use Rattle.path_exec.specs.Works.{AreWorks, all_tasks}
+use Rattle.path_exec.specs.OpenNodes.{AreOpenNodes, all_obligations}
 use Rattle.path_exec.specs.Paying.{Holds}
 use Rattle.path_exec.specs.Receiving.{Receiving}
 
@@ -25,9 +25,9 @@ module _ {V F : Type 0} where
     weight_of no_copies = 0
     weight_of (copy_and t branches) = weight t + weight_of branches
 
-abbrev pub weights : List Task → ℕ
+abbrev pub weights : List Obligation → ℕ
 weights [] = 0
-weights (task ∷ tasks) = weight task.0.tree + weights tasks
+weights (obligation ∷ obligations) = weight obligation.0.tree + weights obligations
 
 module _ {P O N D T : Type 0} (x : Views P O N D T) where
   abbrev pub made_of : Option T → List RecordTree
@@ -38,21 +38,21 @@ module _ {P O N D T : Type 0} (x : Views P O N D T) where
   IsOwnOrNone None = Unit {0}
   IsOwnOrNone (Some made) = x.IsOwn made
 
-  -- below the limit, what comes of the first tasks: a record or none, and other nodes on top of the stack
-  pub record Keeps (now : List Task) (old new : List (Work N D)) (made : Option T) (before after : ℕ) : Type 0 where
+  -- below the limit, what comes of the first obligations: a record or none, and other nodes on top of the stack
+  pub record Keeps (now : List Obligation) (old new : List (OpenNode N D)) (made : Option T) (before after : ℕ) : Type 0 where
     pub raised : ℕ
     pub counted : after ≡ before + raised
-    pub holds : (limit : ℕ) (done : List RecordTree) (count : ℕ) → length done < limit → Holds x.start limit done (now ++ all_tasks x old) count
-        → Holds x.start limit (done ++ made_of made) (all_tasks x new) (count + raised)
-    pub spent : (limit : ℕ) (done : List RecordTree) (count : ℕ) → length done < limit → Holds x.start limit done (now ++ all_tasks x old) count
+    pub holds : (limit : ℕ) (done : List RecordTree) (count : ℕ) → length done < limit → Holds x.start limit done (now ++ all_obligations x old) count
+        → Holds x.start limit (done ++ made_of made) (all_obligations x new) (count + raised)
+    pub spent : (limit : ℕ) (done : List RecordTree) (count : ℕ) → length done < limit → Holds x.start limit done (now ++ all_obligations x old) count
         → (y : T) → made ≡ Some y → count + raised ≤ work_of x.start (done ++ made_of made)
-    pub works : AreWorks x old → AreWorks x new
+    pub open_nodes : AreOpenNodes x old → AreOpenNodes x new
     pub tried : AllByRecursion IsTried (made_of made)
     pub own : IsOwnOrNone made
-    pub falls : weights (all_tasks x new) < weights (now ++ all_tasks x old)
+    pub falls : weights (all_obligations x new) < weights (now ++ all_obligations x old)
 
-  -- the records that a receiver stands for, and the tasks that are left
-  pub record Runs (limit count : ℕ) (m : Receiving T) (left : List Task) (before after : ℕ) : Type 0 where
+  -- the records that a receiver stands for, and the obligations that are left
+  pub record Runs (limit count : ℕ) (m : Receiving T) (left : List Obligation) (before after : ℕ) : Type 0 where
     pub items : List T
     pub stands : m.StandsFor items
     pub raised : ℕ
@@ -63,7 +63,7 @@ module _ {P O N D T : Type 0} (x : Views P O N D T) where
     pub counted : count ≡ length items
 
   -- the limit was met, and what is left is named: some of it, or more is left
-  pub record Leaves (limit : ℕ) (m : Receiving T) (left : List Task) (before after : ℕ) : Type 0 where
+  pub record Leaves (limit : ℕ) (m : Receiving T) (left : List Obligation) (before after : ℕ) : Type 0 where
     pub items : List T
     pub stands : m.StandsFor items
     pub done : List RecordTree

@@ -1,10 +1,10 @@
 pub mod Handing
-pub mod Here
+pub mod Location
 pub mod Views
 pub mod Offers
 pub mod Moves
 pub mod Trials
-pub mod Works
+pub mod OpenNodes
 pub mod Coursing
 pub mod Paying
 pub mod Keeping

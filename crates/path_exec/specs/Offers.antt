@@ -10,10 +10,10 @@ use Rattle.sefl_meaning.specs.Courses.{Asking, at_if, at_constrain, Progress}
 use Rattle.sefl_meaning.specs.Trees.{over, arrives, tests, splits, Copies, no_copies, copy_and}
 use Rattle.sefl_meaning.specs.Routes.{number_of, truth_of}
 use Rattle.exact_records.specs.Records.{SymTree}
-use Rattle.exact_records.specs.Spots.{Known, decided, to_decide, Spot, Task, copied, copy_at, copy_tasks, side_tasks, sided}
+use Rattle.exact_records.specs.Points.{Known, decided, to_decide, Point, Obligation, copied, copy_at, copy_obligations, side_obligations, sided}
 use Rattle.path_exec.specs.declared.engine.Offer.{Offer}
 use Rattle.path_exec.specs.declared.engine.Offer.TheVariants.{If, Constrain, Fork}
-use Rattle.path_exec.specs.Here.{Here, spot_at}
+use Rattle.path_exec.specs.Location.{Location, point_at}
 
 abbrev pub copy_count : {V F : Type 0} → Copies V F → ℕ
 copy_count no_copies = 0
@@ -59,24 +59,24 @@ offer_at Constrain zero = Pass
 offer_at Constrain (suc n) = Broken
 offer_at (Fork copies) n = Copy n
 
-abbrev pub copied_by : Spot → Copies LinearTerm FormulaTree → Option ℕ → Option Spot
+abbrev pub copied_by : Point → Copies LinearTerm FormulaTree → Option ℕ → Option Point
 copied_by a branches None = None
 copied_by a branches (Some n) = option_map (copied a n) (copy_at branches n)
 
-abbrev pub next_by : SymTree → Spot → Decision → Option Spot
+abbrev pub next_by : SymTree → Point → Decision → Option Point
 next_by (over p end') a d = None
 next_by (arrives place p t) a d = None
 next_by (tests asking p test held broken) a d =
     option_map (λ truth. sided a asking test truth (if truth then held else broken)) (truth_of asking d)
 next_by (splits p branches) a d = copied_by a branches (number_of d)
 
--- the spot behind a decision, where it is offered
-abbrev pub next_spot : Spot → Decision → Option Spot
-next_spot a d = next_by a.tree a d
+-- the point behind a decision, where it is offered
+abbrev pub next_point : Point → Decision → Option Point
+next_point a d = next_by a.tree a d
 
 -- the decision is offered there
-abbrev pub IsOffered : Here → Decision → Type 0
-IsOffered h d = (begun : ℕ) × (c : Spot) × (next_spot (spot_at begun h) d ≡ Some c)
+abbrev pub IsOffered : Location → Decision → Type 0
+IsOffered h d = (begun : ℕ) × (c : Point) × (next_point (point_at begun h) d ≡ Some c)
 
 -- what is known behind a decision, where this is the verdict before it
 abbrev pub known_behind : Offer → Verdict → Known
@@ -84,11 +84,11 @@ known_behind If verdict = to_decide (Some verdict)
 known_behind Constrain verdict = to_decide (Some verdict)
 known_behind (Fork copies) verdict = decided verdict
 
-abbrev pub tasks_by : SymTree → Spot → Verdict → List Task
-tasks_by (over p end') b verdict = []
-tasks_by (arrives place p t) b verdict = []
-tasks_by (tests asking p test held broken) b verdict = side_tasks b verdict asking test held broken
-tasks_by (splits p branches) b verdict = copy_tasks b verdict 0 branches
+abbrev pub obligations_by : SymTree → Point → Verdict → List Obligation
+obligations_by (over p end') b verdict = []
+obligations_by (arrives place p t) b verdict = []
+obligations_by (tests asking p test held broken) b verdict = side_obligations b verdict asking test held broken
+obligations_by (splits p branches) b verdict = copy_obligations b verdict 0 branches
 
 -- all but the first ones
 abbrev pub skip : {A : Type 0} → ℕ → List A → List A
@@ -96,9 +96,9 @@ skip zero xs = xs
 skip (suc n) [] = []
 skip (suc n) (x ∷ xs) = skip n xs
 
--- a task for each decision of a node with this verdict, except the first `taken`, which were taken
-abbrev pub tasks_left : Spot → Verdict → ℕ → List Task
-tasks_left b verdict taken = skip taken (tasks_by b.tree b verdict)
+-- an obligation for each decision of a node with this verdict, except the first `taken`, which were taken
+abbrev pub obligations_left : Point → Verdict → ℕ → List Obligation
+obligations_left b verdict taken = skip taken (obligations_by b.tree b verdict)
 
 -- whether the decision is one of them
 abbrev pub is_offered : Offer → Decision → Bool

@@ -12,7 +12,7 @@ use Rattle.path_exec.specs.declared.engine.Next.{Next}
 use Rattle.path_exec.specs.declared.engine.Offer.{Offer}
 use Rattle.path_exec.specs.declared.engine.Offer.TheVariants.{If, Constrain, Fork}
 use Rattle.path_exec.specs.Views.{Views}
-use Rattle.path_exec.specs.Following.{LeadsTo, here_of, spot_of}
+use Rattle.path_exec.specs.Following.{LeadsTo, location_of, point_of}
 
 -- whether the decision is one of an If or of a Constrain that offers it
 abbrev pub is_side : Offer → Decision → Bool
@@ -36,7 +36,7 @@ module _ {P O N D T : Type 0} (x : Views P O N D T) where
 
   -- the decisions that were taken lead there
   abbrev pub IsLedThere : Next O N → Type 0
-  IsLedThere next = LeadsTo x (here_of x next).decisions next
+  IsLedThere next = LeadsTo x (location_of x next).decisions next
 
   -- a test waits there that offers the decision, and the place is behind it, before the run goes on
   pub record IsSideBehind (next : Next O N) (d : Decision) (place : P) : Type 0 where
@@ -46,14 +46,14 @@ module _ {P O N D T : Type 0} (x : Views P O N D T) where
     pub held : SymTree
     pub broken : SymTree
     pub truth : Bool
-    pub waits : (spot_of x next).tree ≡ tests asking progress test held broken
+    pub waits : (point_of x next).tree ≡ tests asking progress test held broken
     pub offered : truth_of asking d ≡ Some truth
-    pub decisions : (x.place_at place).decisions ≡ (here_of x next).decisions ++ d ∷ []
-    pub tests_are : (x.place_at place).tests ≡ (here_of x next).tests ++ (test, truth) ∷ []
-    pub widths : (x.place_at place).widths ≡ (here_of x next).widths
+    pub decisions : (x.place_at place).decisions ≡ (location_of x next).decisions ++ d ∷ []
+    pub tests_are : (x.place_at place).tests ≡ (location_of x next).tests ++ (test, truth) ∷ []
+    pub widths : (x.place_at place).widths ≡ (location_of x next).widths
 
   -- this is the place, or no test waits there that offers the decision
   abbrev pub SideBehind : Next O N → Decision → Option P → Type 0
   SideBehind next d (Some place) = IsSideBehind next d place
   SideBehind next d None = (asking : Asking) (p : Progress LinearTerm) (test : FormulaTree) (held broken : SymTree) (truth : Bool)
-      → (spot_of x next).tree ≡ tests asking p test held broken → truth_of asking d ≡ Some truth → ⊥
+      → (point_of x next).tree ≡ tests asking p test held broken → truth_of asking d ≡ Some truth → ⊥

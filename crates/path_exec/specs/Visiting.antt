@@ -9,11 +9,11 @@ use Rattle.sefl_meaning.specs.Courses.{Progress}
 use Rattle.sefl_meaning.specs.Order.{BeginsWith}
 use Rattle.sefl_meaning.specs.Routes.{IsFirstClosed, route}
 use Rattle.exact_records.specs.Records.{SymRoute, SymTree}
-use Rattle.exact_records.specs.Spots.{arrivals_of}
+use Rattle.exact_records.specs.Points.{arrivals_of}
 use Rattle.path_exec.specs.declared.engine.Next.{Next}
 use Rattle.path_exec.specs.declared.guided.FollowFault.{FollowFault}
 use Rattle.path_exec.specs.declared.guided.FollowFault.TheVariants.{Impossible, NoMemory}
-use Rattle.path_exec.specs.Here.{EndsWith, Here}
+use Rattle.path_exec.specs.Location.{EndsWith, Location}
 use Rattle.path_exec.specs.Views.{Views}
 use Rattle.path_exec.specs.Moves.{Advances}
 use Rattle.path_exec.specs.Following.{LeadsTo}
@@ -66,7 +66,7 @@ module _ {P O N D T : Type 0} (x : Views P O N D T) where
     pub widths : (x.place_at place).widths ≡ x.start.unknowns ++ arrival.1.choices
 
   -- the place stands at the arrival behind those before it, on the way from the first place, with no decision between
-  pub record PassesAt (first : Here) (before : List Arrival) (arrival : Arrival) (place : P) : Type 0 where
+  pub record PassesAt (first : Location) (before : List Arrival) (arrival : Arrival) (place : P) : Type 0 where
     pub decisions : (x.place_at place).decisions ≡ first.decisions
     pub tests : (x.place_at place).tests ≡ first.tests
     pub places : (x.place_at place).places ≡ first.places ++ map (λ (at : Arrival). at.0) (before ++ arrival ∷ [])
@@ -81,7 +81,7 @@ module _ {P O N D T : Type 0} (x : Views P O N D T) (port : Place) where
       ⊎ ((EndsWith (x.place_at place).places port → ⊥) × (new ≡ old))
 
   -- the run went on to its next decision, and its arrivals at the port were added
-  pub record Visits (h : Here) (before after : ℕ) (old new : List P) (next : Next O N) : Type 0 where
+  pub record Visits (h : Location) (before after : ℕ) (old new : List P) (next : Next O N) : Type 0 where
     pub advances : Advances x h before after next
     pub more : List P
     pub is : new ≡ old ++ more

@@ -3,12 +3,12 @@
 ghost use Rattle.std.specs.Prelude.{◌≡◌, ◌↔◌, [], ℕ, List, Some, None, IfOk, IsTrue, length};
 ghost use Rattle.sefl_meaning.specs.declared.walk.Decision.{Decision as ADecision};
 ghost use Rattle.exact_records.specs.Records.{pruned, unexplored};
-ghost use Rattle.exact_records.specs.Spots.{Spot, condition_at, filled_verdict, first_spot, IsKnown};
+ghost use Rattle.exact_records.specs.Points.{Point, condition_at, filled_verdict, first_point, IsKnown};
 ghost use Rattle.path_exec.specs.Following.{IsLed};
 ghost use Rattle.path_exec.specs.Handing.{Handed, IsListed, handed};
-ghost use Rattle.path_exec.specs.Here.{EndsWith, spot_at};
+ghost use Rattle.path_exec.specs.Location.{EndsWith, point_at};
 ghost use Rattle.path_exec.specs.Views.{Views, IsMade};
-ghost use Rattle.path_exec.specs.Offers.{IsOffered, next_spot};
+ghost use Rattle.path_exec.specs.Offers.{IsOffered, next_point};
 ghost use Rattle.path_exec.specs.Moves.{Moves};
 ghost use Rattle.path_exec.specs.Trials.{IsPathOf, IsTrial};
 
@@ -75,11 +75,11 @@ pub trait Engine {
 
     /// The place before the injection's port.
     fn begin(&self, alloc: Global) -> Result<Self::Place, NoMemory>
-        ensures { IfOk result (λ place. spot_at 0 ((views self.now).place_at place) ≡ first_spot (views self.now).start) };
+        ensures { IfOk result (λ place. point_at 0 ((views self.now).place_at place) ≡ first_point (views self.now).start) };
 
     /// The same, with the decision of the injection's condition.
     fn try_begin(&self, alloc: Global) -> Result<Tried<Self::Place, Self::Finding>, NoMemory>
-        ensures { IfOk result (IsTrial (views self.now) 0 (first_spot (views self.now).start)) };
+        ensures { IfOk result (IsTrial (views self.now) 0 (first_point (views self.now).start)) };
 
     /// The same place.
     fn fork(&self, place: &Self::Place) -> Result<Self::Place, NoMemory>
@@ -107,9 +107,9 @@ pub trait Engine {
         decision: Decision,
     ) -> Result<Self::Place, NoMemory>
         requires { IsOffered ((views self.now).node_at node.now) decision }
-        ensures { IfOk result (λ place. (begun : ℕ) (c : Spot)
-            → next_spot (spot_at begun ((views self.now).node_at node.now)) decision ≡ Some c
-            → spot_at begun ((views self.now).place_at place) ≡ c) };
+        ensures { IfOk result (λ place. (begun : ℕ) (c : Point)
+            → next_point (point_at begun ((views self.now).node_at node.now)) decision ≡ Some c
+            → point_at begun ((views self.now).place_at place) ≡ c) };
 
     /// The same, with the decision of the condition there. Before the decision this was found, of the condition without its last
     /// formula.
@@ -121,17 +121,17 @@ pub trait Engine {
         before: &Self::Finding,
     ) -> Result<Tried<Self::Place, Self::Finding>, NoMemory>
         requires offered { IsOffered ((views self.now).node_at node.now) decision }
-        requires known { IsKnown (condition_at (views self.now).start (spot_at 0 ((views self.now).node_at node.now)))
+        requires known { IsKnown (condition_at (views self.now).start (point_at 0 ((views self.now).node_at node.now)))
             ((views self.now).verdict_of before.now) }
-        ensures { IfOk result (λ tried. (begun : ℕ) (c : Spot)
-            → next_spot (spot_at begun ((views self.now).node_at node.now)) decision ≡ Some c
+        ensures { IfOk result (λ tried. (begun : ℕ) (c : Point)
+            → next_point (point_at begun ((views self.now).node_at node.now)) decision ≡ Some c
             → IsTrial (views self.now) begun c tried) };
 
     /// A path that is over where its decisions lead, and this was found of its condition.
     fn path(&self, over: Self::Over, finding: Rc<Self::Finding>) -> Self::Found
         ensures { IsListed ((views self.now).over_at over).decisions → (begun : ℕ)
-            → IsLed (views self.now).start ((views self.now).over_at over).decisions (spot_at begun ((views self.now).over_at over))
-            → IsPathOf (views self.now) (spot_at begun ((views self.now).over_at over)) ((views self.now).verdict_of finding.value)
+            → IsLed (views self.now).start ((views self.now).over_at over).decisions (point_at begun ((views self.now).over_at over))
+            → IsPathOf (views self.now) (point_at begun ((views self.now).over_at over)) ((views self.now).verdict_of finding.value)
             (handed ((views self.now).over_at over).decisions result) };
 
     /// A refuted injection.

@@ -2,8 +2,8 @@
 
 ghost use Rattle.std.specs.Prelude.{◌≡◌, ◌<◌, ◌≤◌, ◌∷◌, [], ℕ, None, IfOk};
 ghost use Rattle.sefl_meaning.specs.Routes.{Splits};
-ghost use Rattle.exact_records.specs.Spots.{first_spot, to_decide};
-ghost use Rattle.path_exec.specs.Works.{all_tasks, AreWorks};
+ghost use Rattle.exact_records.specs.Points.{first_point, to_decide};
+ghost use Rattle.path_exec.specs.OpenNodes.{all_obligations, AreOpenNodes};
 ghost use Rattle.path_exec.specs.Coursing.{AreOnCourse, MetOnCourse, StaysOnCourse};
 ghost use Rattle.path_exec.specs.Handing.{handed_if};
 ghost use Rattle.path_exec.specs.Receiving.{IsSame, TakesOwn};
@@ -13,7 +13,7 @@ ghost use Rattle.path_exec.specs.Ending.{BegunAs, Explored, LeftAs, RanAs};
 use crate::course::turn_to;
 use crate::engine::{Engine, Tried};
 use crate::observer::Observer;
-use crate::opening::{Work, go_on, offer_at, put_back, take_next};
+use crate::opening::{OpenNode, go_on, offer_at, put_back, take_next};
 use crate::receiver::Took;
 use exact_records::laws::{records_that_stand_are_exact, steps_keep_what_stands, verdicts_stay};
 use sefl_meaning::Decision;
@@ -47,13 +47,13 @@ pub(crate) enum Ran {
 fn begin<E: Engine, L: Ledger>(
     alloc: Global,
     engine: &E,
-    works: &mut Vec<Work<E::Node, E::Finding>>,
+    open_nodes: &mut Vec<OpenNode<E::Node, E::Finding>>,
     steps: &mut Steps<L>,
 ) -> Result<Option<E::Found>, NoMemory>
     requires splits { Splits (E.views engine.now).start.tree }
-    ensures keeps { IfOk result (λ made. Keeps (E.views engine.now) ((first_spot (E.views engine.now).start, to_decide None) ∷ [])
-        works.old.items works.new.items (handed_if [] made) steps.old steps.new) }
-    ensures course { IfOk result (λ made. StaysOnCourse (E.views engine.now) [] works.old.items [] works.new.items) }
+    ensures keeps { IfOk result (λ made. Keeps (E.views engine.now) ((first_point (E.views engine.now).start, to_decide None) ∷ [])
+        open_nodes.old.items open_nodes.new.items (handed_if [] made) steps.old steps.new) }
+    ensures course { IfOk result (λ made. StaysOnCourse (E.views engine.now) [] open_nodes.old.items [] open_nodes.new.items) }
 {
     steps_keep_what_stands();
     verdicts_stay();
@@ -63,7 +63,7 @@ fn begin<E: Engine, L: Ledger>(
         Tried::Refuted { refutation } => Ok(Some(engine.refuted(refutation))),
         Tried::Open { place, finding } => {
             let finding = Rc::new(alloc, finding)?;
-            go_on(alloc, engine, place, finding, &[], works, steps)
+            go_on(alloc, engine, place, finding, &[], open_nodes, steps)
         }
     }
 }
@@ -73,22 +73,22 @@ fn start<E: Engine, K: Observer<Found = E::Found>, L: Ledger>(
     alloc: Global,
     engine: &E,
     limit: u32,
-    works: &mut Vec<Work<E::Node, E::Finding>>,
+    open_nodes: &mut Vec<OpenNode<E::Node, E::Finding>>,
     out: &mut K,
     steps: &mut Steps<L>,
 ) -> Result<Option<u32>, NoMemory>
     requires some { 0 < limit }
     requires splits { Splits (E.views engine.now).start.tree }
-    requires empty { works.old.items ≡ [] }
+    requires empty { open_nodes.old.items ≡ [] }
     requires stands { (K.seen out.old).StandsFor [] }
     requires takes { TakesOwn (E.views engine.now) (K.seen out.old) }
     ensures same { IsSame (K.seen out.old) (K.seen out.new) }
-    ensures begun { BegunAs (E.views engine.now) limit (K.seen out.old).stops (K.seen out.new) works.new.items steps.old steps.new result }
-    ensures course { IfOk result (λ count. AreOnCourse (E.views engine.now) [] works.new.items) }
+    ensures begun { BegunAs (E.views engine.now) limit (K.seen out.old).stops (K.seen out.new) open_nodes.new.items steps.old steps.new result }
+    ensures course { IfOk result (λ count. AreOnCourse (E.views engine.now) [] open_nodes.new.items) }
 {
     steps_keep_what_stands();
     records_that_stand_are_exact();
-    let Some(found) = begin(alloc, engine, works, steps)? else {
+    let Some(found) = begin(alloc, engine, open_nodes, steps)? else {
         return Ok(Some(0));
     };
     match out.see(found, &[]) {
@@ -105,30 +105,30 @@ fn run<E: Engine, K: Observer<Found = E::Found>, L: Ledger>(
     limit: u32,
     first: u32,
     course: &mut Vec<Decision>,
-    works: &mut Vec<Work<E::Node, E::Finding>>,
+    open_nodes: &mut Vec<OpenNode<E::Node, E::Finding>>,
     out: &mut K,
     steps: &mut Steps<L>,
 ) -> Result<Ran, NoMemory>
     requires splits { Splits (E.views engine.now).start.tree }
     requires within { first ≤ limit }
-    requires works { AreWorks (E.views engine.now) works.old.items }
-    requires course { AreOnCourse (E.views engine.now) course.old.items works.old.items }
+    requires open_nodes { AreOpenNodes (E.views engine.now) open_nodes.old.items }
+    requires course { AreOnCourse (E.views engine.now) course.old.items open_nodes.old.items }
     requires takes { TakesOwn (E.views engine.now) (K.seen out.old) }
     requires runs { (before : ℕ) × Runs (E.views engine.now) limit first (K.seen out.old)
-        (all_tasks (E.views engine.now) works.old.items) before steps.old }
+        (all_obligations (E.views engine.now) open_nodes.old.items) before steps.old }
     ensures same { IsSame (K.seen out.old) (K.seen out.new) }
     ensures ran { (before : ℕ) → Runs (E.views engine.now) limit first (K.seen out.old)
-        (all_tasks (E.views engine.now) works.old.items) before steps.old
-        → RanAs (E.views engine.now) limit (K.seen out.old).stops (K.seen out.new) works.new.items before steps.new result }
-    ensures course { MetOnCourse (E.views engine.now) course.new.items works.new.items result }
+        (all_obligations (E.views engine.now) open_nodes.old.items) before steps.old
+        → RanAs (E.views engine.now) limit (K.seen out.old).stops (K.seen out.new) open_nodes.new.items before steps.new result }
+    ensures course { MetOnCourse (E.views engine.now) course.new.items open_nodes.new.items result }
 {
     records_that_stand_are_exact();
     let mut count = first;
     while count < limit {
-        let Some(next) = works.pop() else {
+        let Some(next) = open_nodes.pop() else {
             return Ok(Ran::Over);
         };
-        let Some(found) = take_next(alloc, engine, next, course, works, steps)? else {
+        let Some(found) = take_next(alloc, engine, next, course, open_nodes, steps)? else {
             continue;
         };
         match out.see(found, course) {
@@ -145,24 +145,24 @@ fn leave<E: Engine, K: Observer<Found = E::Found>>(
     engine: &E,
     limit: u32,
     course: &mut Vec<Decision>,
-    works: &mut Vec<Work<E::Node, E::Finding>>,
+    open_nodes: &mut Vec<OpenNode<E::Node, E::Finding>>,
     out: &mut K,
 ) -> Result<Ended, NoMemory>
     requires splits { Splits (E.views engine.now).start.tree }
-    requires works { AreWorks (E.views engine.now) works.old.items }
-    requires course { AreOnCourse (E.views engine.now) course.old.items works.old.items }
+    requires open_nodes { AreOpenNodes (E.views engine.now) open_nodes.old.items }
+    requires course { AreOnCourse (E.views engine.now) course.old.items open_nodes.old.items }
     requires takes { TakesOwn (E.views engine.now) (K.seen out.old) }
     ensures same { IsSame (K.seen out.old) (K.seen out.new) }
     ensures left { (before after : ℕ) → Leaves (E.views engine.now) limit (K.seen out.old)
-        (all_tasks (E.views engine.now) works.old.items) before after
+        (all_obligations (E.views engine.now) open_nodes.old.items) before after
         → LeftAs (E.views engine.now) limit (K.seen out.old).stops (K.seen out.new) before after result }
 {
     steps_keep_what_stands();
     records_that_stand_are_exact();
-    while let Some(next) = works.pop() {
+    while let Some(next) = open_nodes.pop() {
         let decision = offer_at(next.offer, next.taken);
         turn_to(course, next.depth, decision)?;
-        put_back(next, works)?;
+        put_back(next, open_nodes)?;
         let found = engine.unexplored();
         match out.see(found, course) {
             Took::More => {}
@@ -193,9 +193,9 @@ pub fn explore_into<E: Engine, K: Observer<Found = E::Found>, L: Ledger>(
 {
     steps_keep_what_stands();
     records_that_stand_are_exact();
-    let mut works = Vec::new(alloc);
+    let mut open_nodes = Vec::new(alloc);
     let mut course = Vec::new(alloc);
-    let Some(count) = start(alloc, engine, limit, &mut works, out, steps)? else {
+    let Some(count) = start(alloc, engine, limit, &mut open_nodes, out, steps)? else {
         return Ok(Ended::Stopped);
     };
     let ran = run(
@@ -204,7 +204,7 @@ pub fn explore_into<E: Engine, K: Observer<Found = E::Found>, L: Ledger>(
         limit,
         count,
         &mut course,
-        &mut works,
+        &mut open_nodes,
         out,
         steps,
     )?;
@@ -212,10 +212,10 @@ pub fn explore_into<E: Engine, K: Observer<Found = E::Found>, L: Ledger>(
         Ran::Over => Ok(Ended::Whole),
         Ran::Interrupted => Ok(Ended::Stopped),
         Ran::Met => {
-            if works.is_empty() {
+            if open_nodes.is_empty() {
                 return Ok(Ended::Whole);
             }
-            leave(engine, limit, &mut course, &mut works, out)
+            leave(engine, limit, &mut course, &mut open_nodes, out)
         }
     }
 }

@@ -1,8 +1,8 @@
 //! The run that decisions guide.
 
 ghost use Rattle.std.specs.Prelude.{◌≡◌, IfOk};
-ghost use Rattle.exact_records.specs.Spots.{IsAt};
-ghost use Rattle.path_exec.specs.Here.{behind_last};
+ghost use Rattle.exact_records.specs.Points.{IsAt};
+ghost use Rattle.path_exec.specs.Location.{behind_last};
 ghost use Rattle.path_exec.specs.Offers.{is_offered};
 ghost use Rattle.path_exec.specs.Following.{Followed, IsKind, LeadsTo, Turns};
 

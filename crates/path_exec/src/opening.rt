@@ -3,12 +3,12 @@
 ghost use Rattle.std.specs.Prelude.{◌≡◌, ◌<◌, ◌∷◌, [], suc, IfOk, OnOk};
 ghost use Rattle.std.specs.List.{AllByRecursion};
 ghost use Rattle.sefl_meaning.specs.Routes.{Splits};
-ghost use Rattle.exact_records.specs.Spots.{condition_at, decided, IsAt, IsKnown, IsPending};
+ghost use Rattle.exact_records.specs.Points.{condition_at, decided, IsAt, IsKnown, IsPending};
 ghost use Rattle.path_exec.specs.Coursing.{IsOnCourse, StaysOnCourse};
 ghost use Rattle.path_exec.specs.Handing.{IsListed, IsNumbered, handed_if};
-ghost use Rattle.path_exec.specs.Here.{behind_last};
+ghost use Rattle.path_exec.specs.Location.{behind_last};
 ghost use Rattle.path_exec.specs.Offers.{offer_at, offer_count};
-ghost use Rattle.path_exec.specs.Works.{tasks_of, IsFork, IsPut, IsWork};
+ghost use Rattle.path_exec.specs.OpenNodes.{obligations_of, IsFork, IsPut, IsOpenNode};
 ghost use Rattle.path_exec.specs.Keeping.{Keeps};
 
 use crate::course::turn_to;
@@ -23,7 +23,7 @@ use std::sync::ledger::Ledger;
 
 /// A node, how many decisions led to it, how many of its own were taken, and what was found of its condition.
 #[derive(Drop)]
-pub(crate) struct Work<N: Drop, D: Drop> {
+pub(crate) struct OpenNode<N: Drop, D: Drop> {
     pub(crate) node: N,
     pub(crate) depth: usize,
     pub(crate) offer: Offer,
@@ -66,39 +66,42 @@ pub(crate) fn offer_at(offer: Offer, number: u32) -> Decision
 }
 
 /// Puts a node onto the stack, where it has a decision left.
-fn put<N: Drop, D: Drop>(work: Work<N, D>, works: &mut Vec<Work<N, D>>) -> Result<(), NoMemory>
-    ensures { OnOk result (IsPut work works.old.items works.new.items) }
+fn put<N: Drop, D: Drop>(
+    open_node: OpenNode<N, D>,
+    open_nodes: &mut Vec<OpenNode<N, D>>,
+) -> Result<(), NoMemory>
+    ensures { OnOk result (IsPut open_node open_nodes.old.items open_nodes.new.items) }
 {
-    if work.taken >= offer_count(work.offer) {
+    if open_node.taken >= offer_count(open_node.offer) {
         return Ok(());
     }
-    works.push(work)?;
+    open_nodes.push(open_node)?;
     Ok(())
 }
 
 /// The same, after its next decision.
 pub(crate) fn put_back<N: Drop, D: Drop>(
-    work: Work<N, D>,
-    works: &mut Vec<Work<N, D>>,
+    open_node: OpenNode<N, D>,
+    open_nodes: &mut Vec<OpenNode<N, D>>,
 ) -> Result<(), NoMemory>
-    requires { work.taken < offer_count work.offer }
-    ensures { OnOk result (IsPut (record work { taken = suc work.taken }) works.old.items works.new.items) }
+    requires { open_node.taken < offer_count open_node.offer }
+    ensures { OnOk result (IsPut (record open_node { taken = suc open_node.taken }) open_nodes.old.items open_nodes.new.items) }
 {
-    let Work {
+    let OpenNode {
         node,
         depth,
         offer,
         taken,
         finding,
-    } = work;
-    let next = Work {
+    } = open_node;
+    let next = OpenNode {
         node,
         depth,
         offer,
         taken: taken + 1,
         finding,
     };
-    put(next, works)
+    put(next, open_nodes)
 }
 
 /// Goes on from a place, with what was found of its condition, behind these decisions: to the end of its path, or to the next node.
@@ -108,7 +111,7 @@ pub(crate) fn go_on<E: Engine, L: Ledger>(
     place: E::Place,
     finding: Rc<E::Finding>,
     course: &[Decision],
-    works: &mut Vec<Work<E::Node, E::Finding>>,
+    open_nodes: &mut Vec<OpenNode<E::Node, E::Finding>>,
     steps: &mut Steps<L>,
 ) -> Result<Option<E::Found>, NoMemory>
     requires splits { Splits (E.views engine.now).start.tree }
@@ -123,8 +126,8 @@ pub(crate) fn go_on<E: Engine, L: Ledger>(
           behind_last (E.views engine.now).start ((E.views engine.now).place_at place),
           decided ((E.views engine.now).verdict_of finding.value),
         ) ∷ [])
-        works.old.items works.new.items (handed_if course.now made) steps.old steps.new) }
-    ensures course { IfOk result (λ made. StaysOnCourse (E.views engine.now) course.now works.old.items course.now works.new.items) }
+        open_nodes.old.items open_nodes.new.items (handed_if course.now made) steps.old steps.new) }
+    ensures course { IfOk result (λ made. StaysOnCourse (E.views engine.now) course.now open_nodes.old.items course.now open_nodes.new.items) }
 {
     steps_keep_what_stands();
     verdicts_stay();
@@ -133,14 +136,14 @@ pub(crate) fn go_on<E: Engine, L: Ledger>(
     match next {
         Next::AtEnd { over } => Ok(Some(engine.path(over, finding))),
         Next::AtNode { node, offer } => {
-            let work = Work {
+            let open_node = OpenNode {
                 node,
                 depth: course.len(),
                 offer,
                 taken: 0,
                 finding,
             };
-            put(work, works)?;
+            put(open_node, open_nodes)?;
             Ok(None)
         }
     }
@@ -150,70 +153,70 @@ pub(crate) fn go_on<E: Engine, L: Ledger>(
 fn take_copy<E: Engine, L: Ledger>(
     alloc: Global,
     engine: &E,
-    work: Work<E::Node, E::Finding>,
+    open_node: OpenNode<E::Node, E::Finding>,
     course: &mut Vec<Decision>,
-    works: &mut Vec<Work<E::Node, E::Finding>>,
+    open_nodes: &mut Vec<OpenNode<E::Node, E::Finding>>,
     steps: &mut Steps<L>,
 ) -> Result<Option<E::Found>, NoMemory>
     requires splits { Splits (E.views engine.now).start.tree }
-    requires fork { IsFork work.offer }
-    requires work { IsWork (E.views engine.now) work }
-    requires pending { AllByRecursion (λ task. IsPending (E.views engine.now).start task.0 task.1) (tasks_of (E.views engine.now) work) }
-    requires on_course { IsOnCourse (E.views engine.now) course.old.items work }
+    requires fork { IsFork open_node.offer }
+    requires open_node { IsOpenNode (E.views engine.now) open_node }
+    requires pending { AllByRecursion (λ obligation. IsPending (E.views engine.now).start obligation.0 obligation.1) (obligations_of (E.views engine.now) open_node) }
+    requires on_course { IsOnCourse (E.views engine.now) course.old.items open_node }
     requires numbered { AllByRecursion IsNumbered course.old.items }
-    ensures keeps { IfOk result (λ made. Keeps (E.views engine.now) (tasks_of (E.views engine.now) work) works.old.items works.new.items
+    ensures keeps { IfOk result (λ made. Keeps (E.views engine.now) (obligations_of (E.views engine.now) open_node) open_nodes.old.items open_nodes.new.items
         (handed_if course.new.items made) steps.old steps.new) }
-    ensures course { IfOk result (λ made. StaysOnCourse (E.views engine.now) ((E.views engine.now).node_at work.node).decisions
-        works.old.items course.new.items works.new.items) }
+    ensures course { IfOk result (λ made. StaysOnCourse (E.views engine.now) ((E.views engine.now).node_at open_node.node).decisions
+        open_nodes.old.items course.new.items open_nodes.new.items) }
 {
     steps_keep_what_stands();
     verdicts_stay();
     records_that_stand_are_exact();
-    let decision = offer_at(work.offer, work.taken);
-    let place = engine.take(alloc, &work.node, decision)?;
-    let finding = Rc::clone(&work.finding)?;
-    turn_to(course, work.depth, decision)?;
-    put_back(work, works)?;
-    go_on(alloc, engine, place, finding, course, works, steps)
+    let decision = offer_at(open_node.offer, open_node.taken);
+    let place = engine.take(alloc, &open_node.node, decision)?;
+    let finding = Rc::clone(&open_node.finding)?;
+    turn_to(course, open_node.depth, decision)?;
+    put_back(open_node, open_nodes)?;
+    go_on(alloc, engine, place, finding, course, open_nodes, steps)
 }
 
 /// Tries the next side of a test: a refuted one, or what comes of it.
 fn try_side<E: Engine, L: Ledger>(
     alloc: Global,
     engine: &E,
-    work: Work<E::Node, E::Finding>,
+    open_node: OpenNode<E::Node, E::Finding>,
     course: &mut Vec<Decision>,
-    works: &mut Vec<Work<E::Node, E::Finding>>,
+    open_nodes: &mut Vec<OpenNode<E::Node, E::Finding>>,
     steps: &mut Steps<L>,
 ) -> Result<Option<E::Found>, NoMemory>
     requires splits { Splits (E.views engine.now).start.tree }
-    requires test { IsFork work.offer → ⊥ }
-    requires work { IsWork (E.views engine.now) work }
-    requires pending { AllByRecursion (λ task. IsPending (E.views engine.now).start task.0 task.1) (tasks_of (E.views engine.now) work) }
-    requires on_course { IsOnCourse (E.views engine.now) course.old.items work }
+    requires test { IsFork open_node.offer → ⊥ }
+    requires open_node { IsOpenNode (E.views engine.now) open_node }
+    requires pending { AllByRecursion (λ obligation. IsPending (E.views engine.now).start obligation.0 obligation.1) (obligations_of (E.views engine.now) open_node) }
+    requires on_course { IsOnCourse (E.views engine.now) course.old.items open_node }
     requires numbered { AllByRecursion IsNumbered course.old.items }
-    ensures keeps { IfOk result (λ made. Keeps (E.views engine.now) (tasks_of (E.views engine.now) work) works.old.items works.new.items
+    ensures keeps { IfOk result (λ made. Keeps (E.views engine.now) (obligations_of (E.views engine.now) open_node) open_nodes.old.items open_nodes.new.items
         (handed_if course.new.items made) steps.old steps.new) }
-    ensures course { IfOk result (λ made. StaysOnCourse (E.views engine.now) ((E.views engine.now).node_at work.node).decisions
-        works.old.items course.new.items works.new.items) }
+    ensures course { IfOk result (λ made. StaysOnCourse (E.views engine.now) ((E.views engine.now).node_at open_node.node).decisions
+        open_nodes.old.items course.new.items open_nodes.new.items) }
 {
     steps_keep_what_stands();
     verdicts_stay();
     records_that_stand_are_exact();
-    let decision = offer_at(work.offer, work.taken);
-    let tried = engine.try_take(alloc, &work.node, decision, &work.finding)?;
-    turn_to(course, work.depth, decision)?;
+    let decision = offer_at(open_node.offer, open_node.taken);
+    let tried = engine.try_take(alloc, &open_node.node, decision, &open_node.finding)?;
+    turn_to(course, open_node.depth, decision)?;
     match tried {
         Tried::Refuted { refutation } => {
-            let before = Rc::clone(&work.finding)?;
-            let found = engine.pruned(&work.node, before, refutation);
-            put_back(work, works)?;
+            let before = Rc::clone(&open_node.finding)?;
+            let found = engine.pruned(&open_node.node, before, refutation);
+            put_back(open_node, open_nodes)?;
             Ok(Some(found))
         }
         Tried::Open { place, finding } => {
             let finding = Rc::new(alloc, finding)?;
-            put_back(work, works)?;
-            go_on(alloc, engine, place, finding, course, works, steps)
+            put_back(open_node, open_nodes)?;
+            go_on(alloc, engine, place, finding, course, open_nodes, steps)
         }
     }
 }
@@ -222,24 +225,24 @@ fn try_side<E: Engine, L: Ledger>(
 pub(crate) fn take_next<E: Engine, L: Ledger>(
     alloc: Global,
     engine: &E,
-    work: Work<E::Node, E::Finding>,
+    open_node: OpenNode<E::Node, E::Finding>,
     course: &mut Vec<Decision>,
-    works: &mut Vec<Work<E::Node, E::Finding>>,
+    open_nodes: &mut Vec<OpenNode<E::Node, E::Finding>>,
     steps: &mut Steps<L>,
 ) -> Result<Option<E::Found>, NoMemory>
     requires splits { Splits (E.views engine.now).start.tree }
-    requires work { IsWork (E.views engine.now) work }
-    requires pending { AllByRecursion (λ task. IsPending (E.views engine.now).start task.0 task.1) (tasks_of (E.views engine.now) work) }
-    requires on_course { IsOnCourse (E.views engine.now) course.old.items work }
+    requires open_node { IsOpenNode (E.views engine.now) open_node }
+    requires pending { AllByRecursion (λ obligation. IsPending (E.views engine.now).start obligation.0 obligation.1) (obligations_of (E.views engine.now) open_node) }
+    requires on_course { IsOnCourse (E.views engine.now) course.old.items open_node }
     requires numbered { AllByRecursion IsNumbered course.old.items }
-    ensures keeps { IfOk result (λ made. Keeps (E.views engine.now) (tasks_of (E.views engine.now) work) works.old.items works.new.items
+    ensures keeps { IfOk result (λ made. Keeps (E.views engine.now) (obligations_of (E.views engine.now) open_node) open_nodes.old.items open_nodes.new.items
         (handed_if course.new.items made) steps.old steps.new) }
-    ensures course { IfOk result (λ made. StaysOnCourse (E.views engine.now) ((E.views engine.now).node_at work.node).decisions
-        works.old.items course.new.items works.new.items) }
+    ensures course { IfOk result (λ made. StaysOnCourse (E.views engine.now) ((E.views engine.now).node_at open_node.node).decisions
+        open_nodes.old.items course.new.items open_nodes.new.items) }
 {
-    match work.offer {
-        Offer::If => try_side(alloc, engine, work, course, works, steps),
-        Offer::Constrain => try_side(alloc, engine, work, course, works, steps),
-        Offer::Fork { copies: _ } => take_copy(alloc, engine, work, course, works, steps),
+    match open_node.offer {
+        Offer::If => try_side(alloc, engine, open_node, course, open_nodes, steps),
+        Offer::Constrain => try_side(alloc, engine, open_node, course, open_nodes, steps),
+        Offer::Fork { copies: _ } => take_copy(alloc, engine, open_node, course, open_nodes, steps),
     }
 }

@@ -1,7 +1,7 @@
 //! Guided runs that go on by one decision, from where they wait.
 
 ghost use Rattle.std.specs.Prelude.{◌≡◌, ◌++◌, ◌∷◌, [], IfOk};
-ghost use Rattle.path_exec.specs.Following.{IsKind, LeadsTo, here_of};
+ghost use Rattle.path_exec.specs.Following.{IsKind, LeadsTo, location_of};
 ghost use Rattle.path_exec.specs.Stepping.{IsLedThere, LeadsOn, SideBehind, is_side};
 
 use crate::engine::{Engine, Next, Offer};
@@ -35,7 +35,7 @@ pub fn next_behind<E: Engine, L: Ledger>(
     steps: &mut Steps<L>,
 ) -> Result<Option<Next<E::Over, E::Node>>, NoMemory>
     requires { IsLedThere (E.views engine.now) next.now }
-    ensures { IfOk result (LeadsOn (E.views engine.now) ((here_of (E.views engine.now) next.now).decisions ++ decision ∷ [])) }
+    ensures { IfOk result (LeadsOn (E.views engine.now) ((location_of (E.views engine.now) next.now).decisions ++ decision ∷ [])) }
 {
     routes_compose::<Term, Formulas>();
     let Some(place) = turn(alloc, engine, next, decision)? else {

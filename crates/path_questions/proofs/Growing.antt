@@ -16,8 +16,8 @@ use Rattle.sefl_meaning.specs.Network.{Network, code_of, link_of, code_size, inn
 use Rattle.sefl_meaning.specs.Carried.{Carried, Scene, Key, scene_at}
 use Rattle.sefl_meaning.specs.Terms.{truth_in}
 use Rattle.sefl_meaning.specs.Steps.{allocated, deallocated, assigned, evaluated, tag_created, tag_set, tag_destroyed}
-use Rattle.sefl_meaning.specs.Runs.{Exit, off, go, forked, failed, in_turn, turns_of}
-use Rattle.sefl_meaning.specs.Courses.{at_if, at_constrain, Progress, begin, chosen, with_state, Course, ends, asks, off_or, after, unless_fault, step, course_turns, course_in, course_code}
+use Rattle.sefl_meaning.specs.Runs.{Exit, off, go, forked, failed, in_iteration, iterations_of}
+use Rattle.sefl_meaning.specs.Courses.{at_if, at_constrain, Progress, begin, chosen, with_state, Course, ends, asks, off_or, after, unless_fault, step, course_iterations, course_in, course_code}
 use Rattle.sefl_meaning.specs.Routes.{Route, route, copy_route, waiting, arriving, taking, truth_of, number_of, by_truth, by_number}
 use Rattle.sefl_meaning.specs.Start.{progress_of}
 use Rattle.sefl_meaning.specs.Trees.{Tree, over, arrives, tests, splits, Copies, no_copies, copy_and, Onward, then_tree, port_course, crossed, leave, copies, passed, enter}
@@ -75,11 +75,11 @@ module _ {V F : Type 0} where
   after_grows before (asks asking p test held broken) next h k =
       (h.0, after_grows p.choices held next h.1 k, after_grows p.choices broken next h.2 k)
 
-  turns_grow : (body : Key → Progress V → Course V F) → ((key : Key) (q : Progress V) → CourseGrows q.choices (body key q))
-      → (keys : List Key) (p : Progress V) → CourseGrows p.choices (course_turns body keys p)
-  turns_grow body k [] p = stays p
-  turns_grow body k (key ∷ keys) p =
-      after_grows p.choices (body key p) (course_turns body keys) (k key p) (λ q. turns_grow body k keys q)
+  iterations_grow : (body : Key → Progress V → Course V F) → ((key : Key) (q : Progress V) → CourseGrows q.choices (body key q))
+      → (keys : List Key) (p : Progress V) → CourseGrows p.choices (course_iterations body keys p)
+  iterations_grow body k [] p = stays p
+  iterations_grow body k (key ∷ keys) p =
+      after_grows p.choices (body key p) (course_iterations body keys) (k key p) (λ q. iterations_grow body k keys q)
 
   unless_grows : {A : Type 0} (site : ℕ) (r : Result A LayoutFault) (p : Progress V) (next : A → Course V F)
       → ((x : A) → CourseGrows p.choices (next x)) → CourseGrows p.choices (unless_fault site r p next)
@@ -116,8 +116,8 @@ module _ {V F : Type 0} (o : Values V F) where
         (λ f. asks at_if p f (course_code o at (suc site) first p) (course_code o at (suc site + code_size first) other p))
         (λ f. (stays p, code_grows at (suc site) first p, code_grows at (suc site + code_size first) other p))
     instr_grows at site (each var pattern body) p =
-        turns_grow (λ key q. course_code o (in_turn at var key) (suc site) body q)
-        (λ key q. code_grows (in_turn at var key) (suc site) body q) (turns_of at pattern p.state) p
+        iterations_grow (λ key q. course_code o (in_iteration at var key) (suc site) body q)
+        (λ key q. code_grows (in_iteration at var key) (suc site) body q) (iterations_of at pattern p.state) p
     instr_grows at site (forward port) p = stays p
     instr_grows at site (fork ports) p = stays p
     instr_grows at site (block body) p = code_grows at (suc site) body p

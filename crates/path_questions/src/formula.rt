@@ -50,11 +50,11 @@ fn tested(
         (truth_in (terms unknowns) (scene_at (network net.now) node) (cond_tree test.now) (carried_of carried.now))) }
 {
     let o = Terms { unknowns };
-    let turns = Shared::empty();
+    let iterations = Shared::empty();
     let at = Scene {
         net,
         node,
-        turns: &turns,
+        iterations: &iterations,
     };
     match truth_of(alloc, &o, &at, carried, test) {
         Ok(formula) => Ok(formula),

@@ -12,9 +12,9 @@ use Rattle.path_exec.specs.declared.engine.Next.{Next}
 use Rattle.path_exec.specs.Stepping.{IsLedThere, IsSideBehind, SideBehind}
 use Rattle.record_checks.specs.Stops.{IsSide, LeadsTo, SideOf, trees_of}
 use Rattle.symbolic_engine.specs.declared.origin.Origin.{Ghosts}
-use Rattle.symbolic_engine.specs.declared.spots.Finished.{Finished}
-use Rattle.symbolic_engine.specs.declared.spots.Standing.{Standing}
-use Rattle.symbolic_engine.specs.declared.spots.Waiting.{Waiting}
+use Rattle.symbolic_engine.specs.declared.points.Finished.{Finished}
+use Rattle.symbolic_engine.specs.declared.points.Standing.{Standing}
+use Rattle.symbolic_engine.specs.declared.points.Waiting.{Waiting}
 use Rattle.symbolic_engine.specs.Origins.{IsRunOf}
 use Rattle.path_replay.specs.Stopping.{stop_of}
 use Rattle.path_replay.proofs.Stops.{all_entries, here, stop_decisions}

@@ -16,16 +16,16 @@ use Rattle.path_exec.specs.declared.engine.Next.TheVariants.{AtEnd, AtNode}
 use Rattle.path_exec.specs.declared.engine.Offer.{Offer}
 use Rattle.path_exec.specs.declared.engine.Offer.TheVariants.{If, Constrain, Fork}
 use Rattle.path_exec.specs.Following.{IsLed, LeadsTo as IsLedTo, here_of}
-use Rattle.path_exec.specs.Here.{spot_at}
+use Rattle.path_exec.specs.Location.{point_at}
 use Rattle.path_exec.specs.Offers.{IsNode}
 use Rattle.path_exec.specs.Stepping.{IsLedThere}
 use Rattle.path_exec.specs.Handing.{Handed}
 use Rattle.path_exec.specs.Views.{Views}
 use Rattle.record_checks.specs.Stops.{LeadsTo, StopsAs, trees_of}
 use Rattle.symbolic_engine.specs.declared.origin.Origin.{Ghosts}
-use Rattle.symbolic_engine.specs.declared.spots.Finished.{Finished}
-use Rattle.symbolic_engine.specs.declared.spots.Standing.{Standing}
-use Rattle.symbolic_engine.specs.declared.spots.Waiting.{Waiting}
+use Rattle.symbolic_engine.specs.declared.points.Finished.{Finished}
+use Rattle.symbolic_engine.specs.declared.points.Standing.{Standing}
+use Rattle.symbolic_engine.specs.declared.points.Waiting.{Waiting}
 use Rattle.symbolic_engine.specs.declared.stage.Wait.{Wait}
 use Rattle.symbolic_engine.specs.declared.stage.Wait.TheVariants.{Asked, Forked}
 use Rattle.symbolic_engine.specs.Origins.{IsRunOf, entries_seen, here_of as here_in, progress_in}
@@ -46,7 +46,7 @@ node_goes_on Constrain t h = λ p end' e. subst IsOverTree (sym e ∙ h.is) tt
 node_goes_on (Fork copies) t h = λ p end' e. subst IsOverTree (sym e ∙ h.is) tt
 
 wait_carries : (net : Network) (wait : Wait) (x : Symbolic) (begun : ℕ) → (progress_of (wait_tree net wait x begun)).state ≡ x.carried
-wait_carries net (Asked gate question test frames) x begun = refl
+wait_carries net (Asked running question test frames) x begun = refl
 wait_carries net (Forked node hops ports) x begun = refl
 
 -- the formulas of a state are the tests of the injection and those behind
@@ -55,7 +55,7 @@ all_entries s x run =
     ap (λ l. l ++ drop (length s.tests) (entries_seen x)) (sym run.tests) ∙ take-append-drop (length s.tests) (entries_seen x)
 
 module _ (s : SymStart) (ds : List Decision) (x : Symbolic) (tree : ℕ → SymTree) (begun : ℕ) (run : IsRunOf s x)
-    (led : IsLed s ds (spot_at begun (here_in s x tree))) where
+    (led : IsLed s ds (point_at begun (here_in s x tree))) where
   condition_led : trees_of x.condition ≡ condition_on s led.way
   condition_led =
       let widths = led.widths ∙ ap (λ (t : SymTree). s.unknowns ++ (progress_of t).choices) (sym led.left) in

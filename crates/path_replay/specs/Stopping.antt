@@ -5,8 +5,8 @@ use Rattle.path_exec.specs.declared.engine.Next.{Next}
 use Rattle.path_exec.specs.declared.engine.Next.TheVariants.{AtEnd, AtNode}
 use Rattle.record_checks.specs.Stops.{Stop}
 use Rattle.symbolic_engine.specs.declared.origin.Origin.{Ghosts}
-use Rattle.symbolic_engine.specs.declared.spots.Finished.{Finished}
-use Rattle.symbolic_engine.specs.declared.spots.Waiting.{Waiting}
+use Rattle.symbolic_engine.specs.declared.points.Finished.{Finished}
+use Rattle.symbolic_engine.specs.declared.points.Waiting.{Waiting}
 
 -- the state there
 abbrev pub state_of : {B : Type 0} {origin : Ghosts B} → Next (Finished B) (Waiting B origin) → Symbolic

@@ -20,7 +20,7 @@ use Rattle.sefl_meaning.specs.declared.walk.End.{End}
 use Rattle.sefl_meaning.specs.declared.walk.Place.{Place}
 use Rattle.sefl_meaning.specs.Fields.{Fields}
 use Rattle.exact_records.specs.Records as tree
-use Rattle.exact_records.specs.Spots.{filled, filled_verdict}
+use Rattle.exact_records.specs.Points.{filled, filled_verdict}
 use Rattle.exact_records.specs.View.{record_tree}
 use Rattle.path_exec.specs.Handing.{IsListed, IsNumbered, handed}
 use Rattle.report_forms.specs.Fits.{BeforeFits, DecisionFits, Fit128, VerdictFits}
@@ -28,11 +28,11 @@ use Rattle.symbolic_engine.specs.declared.found.Before.{Before}
 use Rattle.symbolic_engine.specs.declared.found.Found.{Found}
 use Rattle.symbolic_engine.specs.declared.found.Found.TheVariants as found
 use Rattle.symbolic_engine.specs.Finds.{filled_before, found_tree}
-use Rattle.record_lines.specs.Lines.{BeforeInRange, IsFoundTask, IsRecordTask, IsSideTask, is_only_counted, is_written}
+use Rattle.record_lines.specs.Lines.{BeforeInRange, IsFoundObligation, IsRecordObligation, IsSideObligation, is_only_counted, is_written}
 use Rattle.record_lines.specs.declared.lines.RefutedSides.{RefutedSides}
 use Rattle.record_lines.specs.declared.lines.RefutedSides.TheVariants.{Written, Counted}
-use Rattle.record_lines.specs.declared.lines.Task.{Task}
-use Rattle.record_lines.specs.declared.lines.Task.TheVariants as task
+use Rattle.record_lines.specs.declared.lines.Obligation.{Obligation}
+use Rattle.record_lines.specs.declared.lines.Obligation.TheVariants as obligation
 
 -- the decisions as a list of the program
 abbrev vec_of : Global → (ds : List Decision) → length ds < 2 ^ 63 → Vec Decision
@@ -90,21 +90,21 @@ written_where Counted found.Unexplored (Pruned decisions before refutation) ds o
 module _ (net : Network) (later : Bool) (refuted : ℕ) (ds : List Decision) (piece : List ℕ) where
   -- a refuted side is counted for the record that there is of it
   pub side_counted : Global → (sides : RefutedSides) (side : Found) → is_only_counted sides side ≡ true → IsListed ds
-      → (what : Task) → IsSideTask refuted side what → IsFoundTask net sides later refuted (handed ds side) piece what
+      → (what : Obligation) → IsSideObligation refuted side what → IsFoundObligation net sides later refuted (handed ds side) piece what
   side_counted heap Written side only listed what does = absurd (true≢false (sym only))
   side_counted heap Counted (found.Path state how verdict) only listed what does = absurd (true≢false (sym only))
   side_counted heap Counted found.Unexplored only listed what does = absurd (true≢false (sym only))
-  side_counted heap Counted (found.Pruned before refutation) only listed (task.Write count) does = absurd does
-  side_counted heap Counted (found.Pruned before refutation) only listed (task.Count count) does = (
+  side_counted heap Counted (found.Pruned before refutation) only listed (obligation.Write count) does = absurd does
+  side_counted heap Counted (found.Pruned before refutation) only listed (obligation.Count count) does = (
     Pruned (vec_of heap ds listed.short) (option_map filled_before before) refutation,
     refl,
     (refl, (decisions_fit ds listed.numbered, before_fits before does.0.0, does.0.1), does.1, does.2),
   )
-  side_counted heap Counted (found.Pruned before refutation) only listed task.NoMemory does = tt
+  side_counted heap Counted (found.Pruned before refutation) only listed obligation.NoMemory does = tt
 
   -- what is to be done with a record that was made
-  pub made_task : (sides : RefutedSides) (side : Found) → is_only_counted sides side ≡ false → (made : Record) → record_tree made ≡ found_tree side ds
-      → (what : Task) → IsRecordTask net later refuted made piece what → IsFoundTask net sides later refuted (handed ds side) piece what
-  made_task sides side only made is (task.Write count) does = (made, is, (written_where sides side made ds only is, does.0, does.1, does.2, does.3))
-  made_task sides side only made is (task.Count count) does = absurd does
-  made_task sides side only made is task.NoMemory does = tt
+  pub made_obligation : (sides : RefutedSides) (side : Found) → is_only_counted sides side ≡ false → (made : Record) → record_tree made ≡ found_tree side ds
+      → (what : Obligation) → IsRecordObligation net later refuted made piece what → IsFoundObligation net sides later refuted (handed ds side) piece what
+  made_obligation sides side only made is (obligation.Write count) does = (made, is, (written_where sides side made ds only is, does.0, does.1, does.2, does.3))
+  made_obligation sides side only made is (obligation.Count count) does = absurd does
+  made_obligation sides side only made is obligation.NoMemory does = tt

@@ -10,8 +10,8 @@ use Rattle.path_records.specs.declared.records.Record.{Record}
 use Rattle.path_records.specs.declared.records.Record.TheVariants.{Path, Pruned, Unexplored}
 use Rattle.record_lines.specs.declared.lines.RefutedSides.{RefutedSides}
 use Rattle.record_lines.specs.declared.lines.RefutedSides.TheVariants.{Written, Counted}
-use Rattle.record_lines.specs.declared.lines.Task.{Task}
-use Rattle.record_lines.specs.declared.lines.Task.TheVariants as task
+use Rattle.record_lines.specs.declared.lines.Obligation.{Obligation}
+use Rattle.record_lines.specs.declared.lines.Obligation.TheVariants as obligation
 use Rattle.report_forms.specs.Ranges.{RecordInRange}
 use Rattle.report_forms.specs.Fits.{StepFits, VerdictFits}
 use Rattle.symbolic_engine.specs.declared.found.Before.{Before}
@@ -59,27 +59,27 @@ piece_text net later item = comma_if later ++ compact_text (record_data net item
 
 -- what is to be done with a record that is written, where one was put before it or not and that many refuted sides were taken: its piece
 -- is put
-abbrev pub IsRecordTask : Network → Bool → ℕ → Record → List ℕ → Task → Type 0
-IsRecordTask net later refuted item piece (task.Write count) =
+abbrev pub IsRecordObligation : Network → Bool → ℕ → Record → List ℕ → Obligation → Type 0
+IsRecordObligation net later refuted item piece (obligation.Write count) =
     RecordInRange item × (count < 2 ^ 64) × (count ≡ refuted + refuted_by item) × (piece ≡ piece_text net later item)
-IsRecordTask net later refuted item piece (task.Count count) = ⊥
-IsRecordTask net later refuted item piece task.NoMemory = Unit {0}
+IsRecordObligation net later refuted item piece (obligation.Count count) = ⊥
+IsRecordObligation net later refuted item piece obligation.NoMemory = Unit {0}
 
 -- what is to be done with what was found and has this record: its piece is put where it is written, else it is only counted
-abbrev pub IsTask : Network → RefutedSides → Bool → ℕ → Record → List ℕ → Task → Type 0
-IsTask net sides later refuted item piece (task.Write count) =
+abbrev pub IsObligation : Network → RefutedSides → Bool → ℕ → Record → List ℕ → Obligation → Type 0
+IsObligation net sides later refuted item piece (obligation.Write count) =
     (is_written sides item ≡ true) × RecordInRange item × (count < 2 ^ 64) × (count ≡ refuted + refuted_by item) × (piece ≡ piece_text net later item)
-IsTask net sides later refuted item piece (task.Count count) =
+IsObligation net sides later refuted item piece (obligation.Count count) =
     (is_written sides item ≡ false) × RecordInRange item × (count < 2 ^ 64) × (count ≡ refuted + refuted_by item)
-IsTask net sides later refuted item piece task.NoMemory = Unit {0}
+IsObligation net sides later refuted item piece obligation.NoMemory = Unit {0}
 
 -- the same, for a record that there is of it
-abbrev pub IsFoundTask : Network → RefutedSides → Bool → ℕ → Handed Found → List ℕ → Task → Type 0
-IsFoundTask net sides later refuted item piece (task.Write count) =
-    (made : Record) × (record_tree made ≡ handed_tree item) × IsTask net sides later refuted made piece (task.Write count)
-IsFoundTask net sides later refuted item piece (task.Count count) =
-    (made : Record) × (record_tree made ≡ handed_tree item) × IsTask net sides later refuted made piece (task.Count count)
-IsFoundTask net sides later refuted item piece task.NoMemory = Unit {0}
+abbrev pub IsFoundObligation : Network → RefutedSides → Bool → ℕ → Handed Found → List ℕ → Obligation → Type 0
+IsFoundObligation net sides later refuted item piece (obligation.Write count) =
+    (made : Record) × (record_tree made ≡ handed_tree item) × IsObligation net sides later refuted made piece (obligation.Write count)
+IsFoundObligation net sides later refuted item piece (obligation.Count count) =
+    (made : Record) × (record_tree made ≡ handed_tree item) × IsObligation net sides later refuted made piece (obligation.Count count)
+IsFoundObligation net sides later refuted item piece obligation.NoMemory = Unit {0}
 
 -- whether it is a refuted side that is only counted
 abbrev pub is_only_counted : RefutedSides → Found → Bool
@@ -99,10 +99,10 @@ SideInRange (found.Pruned before refutation) = BeforeInRange before × AllByRecu
 SideInRange found.Unexplored = Unit {0}
 
 -- one refuted side more is counted
-abbrev pub IsSideTask : ℕ → Found → Task → Type 0
-IsSideTask refuted side (task.Write count) = ⊥
-IsSideTask refuted side (task.Count count) = SideInRange side × (count < 2 ^ 64) × (count ≡ refuted + 1)
-IsSideTask refuted side task.NoMemory = Unit {0}
+abbrev pub IsSideObligation : ℕ → Found → Obligation → Type 0
+IsSideObligation refuted side (obligation.Write count) = ⊥
+IsSideObligation refuted side (obligation.Count count) = SideInRange side × (count < 2 ^ 64) × (count ≡ refuted + 1)
+IsSideObligation refuted side obligation.NoMemory = Unit {0}
 
 -- the pieces of records
 abbrev pub records_text : Network → List Record → List ℕ

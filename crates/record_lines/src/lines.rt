@@ -3,7 +3,7 @@
 ghost use Rattle.std.specs.Prelude.{◌≡◌, ◌+◌, IfSome, IsTrue};
 ghost use Rattle.path_exec.specs.Handing.{IsListed, handed};
 ghost use Rattle.report_forms.specs.Ranges.{RecordInRange};
-ghost use Rattle.record_lines.specs.Lines.{IsFoundTask, IsRecordTask, IsSideTask, SideInRange, is_only_counted, refuted_by};
+ghost use Rattle.record_lines.specs.Lines.{IsFoundObligation, IsRecordObligation, IsSideObligation, SideInRange, is_only_counted, refuted_by};
 
 use crate::ends::put_piece;
 use kept_texts::{OfNet, Pieces};
@@ -82,7 +82,7 @@ fn is_in_range(item: &Record) -> bool
 
 /// What is to be done with what was found.
 #[derive(Drop)]
-enum Task {
+enum Obligation {
     /// Its piece, which was written, is put; with it there are `refuted` refuted sides.
     Write { refuted: u64 },
     /// It is only counted.
@@ -92,36 +92,36 @@ enum Task {
 
 /// What is to be done with a record that is written, where one was put before it or not, and `refuted` refuted sides were taken. Its piece
 /// is written.
-fn record_task<N: OfNet>(
+fn record_obligation<N: OfNet>(
     pieces: &mut Pieces<'_, N>,
     later: bool,
     refuted: u64,
     item: &Record,
-) -> Task
-    ensures { IsRecordTask N.net later refuted item.now pieces.new result }
+) -> Obligation
+    ensures { IsRecordObligation N.net later refuted item.now pieces.new result }
 {
     let Some(refuted) = refuted_with(refuted, item) else {
-        return Task::NoMemory;
+        return Obligation::NoMemory;
     };
     if !is_in_range(item) {
-        return Task::NoMemory;
+        return Obligation::NoMemory;
     }
     match pieces.write(later, item) {
-        Ok(()) => Task::Write { refuted },
-        Err(_) => Task::NoMemory,
+        Ok(()) => Obligation::Write { refuted },
+        Err(_) => Obligation::NoMemory,
     }
 }
 
 /// The same of a record that is not kept.
-fn last_record_task<N: OfNet>(
+fn last_record_obligation<N: OfNet>(
     pieces: &mut Pieces<'_, N>,
     later: bool,
     refuted: u64,
     item: Record,
-) -> Task
-    ensures { IsRecordTask N.net later refuted item pieces.new result }
+) -> Obligation
+    ensures { IsRecordObligation N.net later refuted item pieces.new result }
 {
-    record_task(pieces, later, refuted, &item)
+    record_obligation(pieces, later, refuted, &item)
 }
 
 /// Whether it is a refuted side that is only counted.
@@ -150,18 +150,18 @@ fn side_fits(side: &Found)
 }
 
 /// What is to be done with a refuted side that is only counted.
-fn side_task(refuted: u64, side: &Found) -> Task
-    ensures { IsSideTask refuted side.now result }
+fn side_obligation(refuted: u64, side: &Found) -> Obligation
+    ensures { IsSideObligation refuted side.now result }
 {
     side_fits(side);
     match refuted.checked_add(1) {
-        Some(refuted) => Task::Count { refuted },
-        None => Task::NoMemory,
+        Some(refuted) => Obligation::Count { refuted },
+        None => Obligation::NoMemory,
     }
 }
 
 /// What is to be done with what was found behind these decisions.
-fn found_task<N: OfNet>(
+fn found_obligation<N: OfNet>(
     alloc: Global,
     pieces: &mut Pieces<'_, N>,
     sides: RefutedSides,
@@ -169,16 +169,16 @@ fn found_task<N: OfNet>(
     refuted: u64,
     found: Found,
     decisions: &[Decision],
-) -> Task
+) -> Obligation
     requires { IsListed decisions.now }
-    ensures { IsFoundTask N.net sides later refuted (handed decisions.now found) pieces.new result }
+    ensures { IsFoundObligation N.net sides later refuted (handed decisions.now found) pieces.new result }
 {
     if is_only_counted(sides, &found) {
-        return side_task(refuted, &found);
+        return side_obligation(refuted, &found);
     }
     match found.into_record(alloc, decisions) {
-        Ok(made) => last_record_task(pieces, later, refuted, made),
-        Err(_) => Task::NoMemory,
+        Ok(made) => last_record_obligation(pieces, later, refuted, made),
+        Err(_) => Obligation::NoMemory,
     }
 }
 
@@ -195,7 +195,7 @@ impl<N: OfNet, M: Mark<K>, K: Sink> Observer for Lines<'_, '_, '_, N, M, K> {
         if self.over {
             return Took::NoMemory;
         }
-        match found_task(
+        match found_obligation(
             self.alloc,
             self.pieces,
             self.sides,
@@ -204,7 +204,7 @@ impl<N: OfNet, M: Mark<K>, K: Sink> Observer for Lines<'_, '_, '_, N, M, K> {
             found,
             decisions,
         ) {
-            Task::Write { refuted } => match put_piece(self.pieces.text(), self.out) {
+            Obligation::Write { refuted } => match put_piece(self.pieces.text(), self.out) {
                 Put::All => {
                     self.some = true;
                     self.refuted = refuted;
@@ -216,11 +216,11 @@ impl<N: OfNet, M: Mark<K>, K: Sink> Observer for Lines<'_, '_, '_, N, M, K> {
                     Took::NoMemory
                 }
             },
-            Task::Count { refuted } => {
+            Obligation::Count { refuted } => {
                 self.refuted = refuted;
                 Took::More
             }
-            Task::NoMemory => Took::NoMemory,
+            Obligation::NoMemory => Took::NoMemory,
         }
     }
 }

@@ -12,9 +12,9 @@ use Rattle.sefl_meaning.specs.Network.{Network, code_of, link_of, names_found, c
 use Rattle.sefl_meaning.specs.Carried.{Carried, Scene, Key, carried_valued, scene_at}
 use Rattle.sefl_meaning.specs.Terms.{truth_in}
 use Rattle.sefl_meaning.specs.Steps.{assigned}
-use Rattle.sefl_meaning.specs.Runs.{Exit, off, go, forked, failed, in_turn, turns_of}
+use Rattle.sefl_meaning.specs.Runs.{Exit, off, go, forked, failed, in_iteration, iterations_of}
 use Rattle.sefl_meaning.specs.Walks.{place_at}
-use Rattle.sefl_meaning.specs.Courses.{at_if, at_constrain, Progress, begin, chosen, Course, ends, asks, off_or, after, unless_fault, step, course_turns, course_in, course_code}
+use Rattle.sefl_meaning.specs.Courses.{at_if, at_constrain, Progress, begin, chosen, Course, ends, asks, off_or, after, unless_fault, step, course_iterations, course_in, course_code}
 use Rattle.sefl_meaning.specs.Trees.{Tree, Onward, arrives, splits, copy_and, then_tree, port_course, crossed, leave, copies, passed, enter}
 use Rattle.sefl_meaning.specs.Trees.{tests}
 use Rattle.sefl_meaning.specs.Valued.{Respects, CarriedFits, CourseFits, progress_valued, course_valued, tree_valued, copies_valued}
@@ -54,14 +54,14 @@ module _ {V F W G : Type 0} (fits : ℕ → V → Bool) (f : V → W) (g : F →
       subst (λ (e : Course W G). CourseTracks (after c next) (after e next_valued)) (sym h.same)
       (after_valued c next next_valued h.has k)
 
-  track_turns : (body : Key → Progress V → Course V F) (body_valued : Key → Progress W → Course W G) →
+  track_iterations : (body : Key → Progress V → Course V F) (body_valued : Key → Progress W → Course W G) →
       ((key : Key) → NextTracks (body key) (body_valued key)) → (keys : List Key) →
-      NextTracks (course_turns body keys) (course_turns body_valued keys)
-  track_turns body body_valued k [] p h = record { same = refl; has = h }
-  track_turns body body_valued k (key ∷ keys) p h =
-      track_after (body key p) (body_valued key (progress_valued f p)) (course_turns body keys)
-      (course_turns body_valued keys) (k key p h)
-      (track_turns body body_valued k keys)
+      NextTracks (course_iterations body keys) (course_iterations body_valued keys)
+  track_iterations body body_valued k [] p h = record { same = refl; has = h }
+  track_iterations body body_valued k (key ∷ keys) p h =
+      track_after (body key p) (body_valued key (progress_valued f p)) (course_iterations body keys)
+      (course_iterations body_valued keys) (k key p h)
+      (track_iterations body body_valued k keys)
 
   track_unless : {A B : Type 0} (h : A → B) (P : A → Type 0) (site : ℕ) (r : Result A LayoutFault)
       (t : Result B LayoutFault) (p : Progress V)
@@ -117,9 +117,9 @@ module _ {V F W G : Type 0} (fits : ℕ → V → Bool) (o : Values V F) (p : Va
       h)
 
   -- what a For goes over depends on no value
-  turns_same : (at : Scene) (pattern : List ℕ) (s : Carried V) →
-      turns_of at pattern (carried_valued f s) ≡ turns_of at pattern s
-  turns_same at pattern s = laws.metadata.present at.node (names_found at.net pattern) s.scopes
+  iterations_same : (at : Scene) (pattern : List ℕ) (s : Carried V) →
+      iterations_of at pattern (carried_valued f s) ≡ iterations_of at pattern s
+  iterations_same at pattern s = laws.metadata.present at.node (names_found at.net pattern) s.scopes
 
   mutual
     pub instr_tracks : (at : Scene) (site : ℕ) (i : InstrTree) (from : Progress V) → CarriedFits fits from.state →
@@ -166,13 +166,13 @@ module _ {V F W G : Type 0} (fits : ℕ → V → Bool) (o : Values V F) (p : Va
         (code_tracks at (suc site) first from h) (code_tracks at (suc site + code_size first) other from h))
     instr_tracks at site (each var pattern body) from h =
         subst (λ (keys : List Key). CourseTracks fits f g
-        (course_turns (λ key q. course_code o (in_turn at var key) (suc site) body q) (turns_of at pattern from.state)
+        (course_iterations (λ key q. course_code o (in_iteration at var key) (suc site) body q) (iterations_of at pattern from.state)
         from)
-        (course_turns (λ key q. course_code p (in_turn at var key) (suc site) body q) keys (progress_valued f from)))
-        (sym (turns_same at pattern from.state))
-        (track_turns fits f g (λ key q. course_code o (in_turn at var key) (suc site) body q)
-        (λ key q. course_code p (in_turn at var key) (suc site) body q)
-        (λ key q fit. code_tracks (in_turn at var key) (suc site) body q fit) (turns_of at pattern from.state) from h)
+        (course_iterations (λ key q. course_code p (in_iteration at var key) (suc site) body q) keys (progress_valued f from)))
+        (sym (iterations_same at pattern from.state))
+        (track_iterations fits f g (λ key q. course_code o (in_iteration at var key) (suc site) body q)
+        (λ key q. course_code p (in_iteration at var key) (suc site) body q)
+        (λ key q fit. code_tracks (in_iteration at var key) (suc site) body q fit) (iterations_of at pattern from.state) from h)
     instr_tracks at site (forward port) from h = record { same = refl; has = h }
     instr_tracks at site (fork ports) from h = record { same = refl; has = h }
     instr_tracks at site (block body) from h = code_tracks at (suc site) body from h

@@ -18,10 +18,10 @@ use Rattle.sefl_meaning.specs.declared.walk.Failure.TheVariants.{Constraint}
 use Rattle.sefl_meaning.specs.Values.{Values}
 use Rattle.sefl_meaning.specs.Network.{Network, code_of, link_of, code_size}
 use Rattle.sefl_meaning.specs.Carried.{Carried, Scene, Key, scene_at}
-use Rattle.sefl_meaning.specs.Runs.{Exit, off, go, forked, failed, in_turn, turns_of}
+use Rattle.sefl_meaning.specs.Runs.{Exit, off, go, forked, failed, in_iteration, iterations_of}
 use Rattle.sefl_meaning.specs.Terms.{truth_in}
 use Rattle.sefl_meaning.specs.Steps.{allocated, deallocated, assigned, evaluated, tag_created, tag_set, tag_destroyed}
-use Rattle.sefl_meaning.specs.Courses.{step, chosen, at_if, at_constrain, Progress, begin, Course, ends, asks, off_or, after, unless_fault, course_turns, course_in, course_code}
+use Rattle.sefl_meaning.specs.Courses.{step, chosen, at_if, at_constrain, Progress, begin, Course, ends, asks, off_or, after, unless_fault, course_iterations, course_in, course_code}
 use Rattle.sefl_meaning.specs.Trees.{Tree, then_tree, Onward, port_course, crossed, leave, copies, passed, enter}
 use Rattle.sefl_meaning.specs.Routes.{Splits, EachSplits, HasCopy}
 use Rattle.sefl_meaning.proofs.AllLemmas.{all_first, all_later}
@@ -70,9 +70,9 @@ module _ {V F : Type 0} where
   forks_after (ends p exit) next h f = forks_off exit p next h f
   forks_after (asks asking p test held broken) next h f = (forks_after held next h.0 f, forks_after broken next h.1 f)
 
-  forks_turns : (body : Key → Progress V → Course V F) (keys : List Key) (p : Progress V) → ((key : Key) (q : Progress V) → CourseForks (body key q)) → CourseForks (course_turns body keys p)
-  forks_turns body [] p f = tt
-  forks_turns body (key ∷ keys) p f = forks_after (body key p) (course_turns body keys) (f key p) (λ q. forks_turns body keys q f)
+  forks_iterations : (body : Key → Progress V → Course V F) (keys : List Key) (p : Progress V) → ((key : Key) (q : Progress V) → CourseForks (body key q)) → CourseForks (course_iterations body keys p)
+  forks_iterations body [] p f = tt
+  forks_iterations body (key ∷ keys) p f = forks_after (body key p) (course_iterations body keys) (f key p) (λ q. forks_iterations body keys q f)
 
 module _ {V F A : Type 0} where
   forks_unless : (site : ℕ) (r : Result A LayoutFault) (p : Progress V) (next : A → Course V F) → ((a : A) → CourseForks (next a)) → CourseForks (unless_fault site r p next)
@@ -104,7 +104,7 @@ module _ {V F : Type 0} (o : Values V F) where
     instr_forks at site (branch test first other) p h =
         forks_unless site (truth_in o at test p.state) p (λ f. asks at_if p f (course_code o at (suc site) first p) (course_code o at (suc site + code_size first) other p))
         (λ f. (code_forks at (suc site) first p h.0, code_forks at (suc site + code_size first) other p h.1))
-    instr_forks at site (each var pattern body) p h = forks_turns _ (turns_of at pattern p.state) p (λ key q. code_forks (in_turn at var key) (suc site) body q h)
+    instr_forks at site (each var pattern body) p h = forks_iterations _ (iterations_of at pattern p.state) p (λ key q. code_forks (in_iteration at var key) (suc site) body q h)
     instr_forks at site (forward port) p h = tt
     instr_forks at site (fork ports) p h = h
     instr_forks at site (block body) p h = code_forks at (suc site) body p h

@@ -45,15 +45,15 @@ use Rattle.net_check.specs.Places as places
 use Rattle.net_check.specs.Places.{Port, code_place, link_from, node_position}
 use Rattle.net_check.specs.Keeping.{HasNamesOf, IsAmong, line_items}
 use Rattle.net_check.specs.Sound.{AreIdsFrom}
-use Rattle.sefl_meaning.specs.declared.walk.Turn.{Turn}
+use Rattle.sefl_meaning.specs.declared.walk.Iteration.{Iteration}
 use Rattle.sefl_meaning.specs.declared.walk.Failure.TheVariants.{Constraint}
 use Rattle.sefl_meaning.specs.Values.{Values}
 use Rattle.sefl_meaning.specs.Network.{Network, code_of, code_size, inner_size, link_of, name_id, names_found, port_at, tag_id}
 use Rattle.sefl_meaning.specs.Carried.{Carried, Key, Scene, base_tag, bound_key, nothing, owner_of, scene_at, stepped, with_layers, with_scopes}
-use Rattle.sefl_meaning.specs.Runs.{Exit, off, go, forked, failed, in_turn, turns_of}
+use Rattle.sefl_meaning.specs.Runs.{Exit, off, go, forked, failed, in_iteration, iterations_of}
 use Rattle.sefl_meaning.specs.Terms.{truth_in, value_in}
 use Rattle.sefl_meaning.specs.Steps.{allocated, assigned, deallocated, evaluated, tag_created, tag_destroyed, tag_set}
-use Rattle.sefl_meaning.specs.Courses.{Course, Progress, after, asks, at_constrain, at_if, begin, chosen, course_code, course_in, course_turns, ends, off_or, step, unless_fault}
+use Rattle.sefl_meaning.specs.Courses.{Course, Progress, after, asks, at_constrain, at_if, begin, chosen, course_code, course_in, course_iterations, ends, off_or, step, unless_fault}
 use Rattle.sefl_meaning.specs.Trees.{Copies, Onward, Tree, arrives, copies, copy_and, crossed, enter, leave, no_copies, over, passed, port_course, splits, tests, then_tree}
 use Rattle.sefl_meaning.specs.Taken.{decision_at, walks_of, walks_of_copies}
 use Rattle.sefl_meaning.specs.Walks.{by_way_of, decided}
@@ -139,7 +139,7 @@ first_named net (Bound var width) others h = tt
 
 pub record IsOwnScene (at : Scene) : Type 0 where
   pub node : IsNode at.net at.node
-  pub turns : AllByRecursion (λ t. IsKey at.net (t.owner, t.name)) at.turns
+  pub iterations : AllByRecursion (λ t. IsKey at.net (t.owner, t.name)) at.iterations
   pub found : (pattern : List ℕ) → AllByRecursion (λ id. id.0 < length at.net.names.metas) (names_found at.net pattern)
 
 module _ {V : Type 0} where
@@ -150,11 +150,11 @@ module _ {V : Type 0} where
   KeepsKeys net on_scopes =
       (key : Key) (m : Metadata V) → IsKey net key → AllByRecursion (λ p. IsKey net p.0) m → IfOk (on_scopes key m) (AllByRecursion (λ p. IsKey net p.0))
 
-bound_own : (net : Network) (turns : List Turn) (var : List ℕ) → AllByRecursion (λ t. IsKey net (t.owner, t.name)) turns → IfOk (bound_key turns var) (IsKey net)
+bound_own : (net : Network) (iterations : List Iteration) (var : List ℕ) → AllByRecursion (λ t. IsKey net (t.owner, t.name)) iterations → IfOk (bound_key iterations var) (IsKey net)
 bound_own net [] var h = tt
-bound_own net (turn ∷ turns) var h = by (bytes_eq var turn.var) (bound_own net turns var h.1)
+bound_own net (iteration ∷ iterations) var h = by (bytes_eq var iteration.var) (bound_own net iterations var h.1)
   where
-    by : (b : Bool) → IfOk (bound_key turns var) (IsKey net) → IfOk (cond b (Ok (turn.owner, turn.name)) (bound_key turns var)) (IsKey net)
+    by : (b : Bool) → IfOk (bound_key iterations var) (IsKey net) → IfOk (cond b (Ok (iteration.owner, iteration.name)) (bound_key iterations var)) (IsKey net)
     by true rest = h.0
     by false rest = rest
 
@@ -191,7 +191,7 @@ module _ {V : Type 0} (at : Scene) (scene : IsOwnScene at) (s : Carried V) (h : 
     stepped_own (Meta scope name width) named =
         scopes_own (on_scopes (owner_of scope at.node, name_id at.net name) s.scopes)
         (keys (owner_of scope at.node, name_id at.net name) s.scopes (owner_own at.net scope at.node scene.node, among_below at.net.names.metas name named) h.metas)
-    stepped_own (Bound var width) named = key_own (bound_key at.turns var) (bound_own at.net at.turns var scene.turns)
+    stepped_own (Bound var width) named = key_own (bound_key at.iterations var) (bound_own at.net at.iterations var scene.iterations)
 
   -- a step on the cells at an address leaves the tags
   heads_step : (step : ℤ → List (ℤ × List (Cell V)) → Result (List (ℤ × List (Cell V))) LayoutFault) (l : Layout V) (address : Result ℤ LayoutFault)
@@ -249,7 +249,7 @@ module _ {V : Type 0} (at : Scene) (scene : IsOwnScene at) (s : Carried V) (h : 
   tag_destroyed_own : (name : List ℕ) → IsAmong at.net.names.tags name → IfOk (tag_destroyed at name s) (CarriesOwn at.net)
   tag_destroyed_own name named = tag_step name named (λ a. tail (addresses_of name)) (top_address (addresses_of name))
 
--- ---- the turns of a For
+-- ---- the iterations of a For
 
 present_own : {V : Type 0} (net : Network) (owner : Option NodeId) (names : List NameId) (m : Metadata V) → IsOwner net owner
     → AllByRecursion (λ id. id.0 < length net.names.metas) names → AllByRecursion (IsKey net) (present_of owner names m)
@@ -257,14 +257,14 @@ present_own net owner names m own h =
     all_map (λ id. id.0 < length net.names.metas) (IsKey net) (λ name. (owner, name)) (filter (λ name. is_allocated owner name m) names) (λ id below. (own, below))
     (filter_all (λ id. id.0 < length net.names.metas) (λ name. is_allocated owner name m) names h)
 
-turns_own : {V : Type 0} (at : Scene) (scene : IsOwnScene at) (pattern : List ℕ) (s : Carried V) → AllByRecursion (IsKey at.net) (turns_of at pattern s)
-turns_own at scene pattern s =
+iterations_own : {V : Type 0} (at : Scene) (scene : IsOwnScene at) (pattern : List ℕ) (s : Carried V) → AllByRecursion (IsKey at.net) (iterations_of at pattern s)
+iterations_own at scene pattern s =
     let names = names_found at.net pattern in
     all_append (IsKey at.net) (present_of None names s.scopes) (present_of (Some at.node) names s.scopes)
     (present_own at.net None names s.scopes tt (scene.found pattern)) (present_own at.net (Some at.node) names s.scopes scene.node (scene.found pattern))
 
-turn_scene : (at : Scene) (var : List ℕ) (key : Key) → IsOwnScene at → IsKey at.net key → IsOwnScene (in_turn at var key)
-turn_scene at var key scene own = record { node = scene.node; turns = (own, scene.turns); found = scene.found }
+iteration_scene : (at : Scene) (var : List ℕ) (key : Key) → IsOwnScene at → IsKey at.net key → IsOwnScene (in_iteration at var key)
+iteration_scene at var key scene own = record { node = scene.node; iterations = (own, scene.iterations); found = scene.found }
 
 -- ---- courses
 
@@ -286,10 +286,10 @@ module _ {V F : Type 0} (net : Network) where
   own_after (ends p exit) next h f = own_off exit p next h f
   own_after (asks asking p test held broken) next h f = (h.0, own_after held next h.1 f, own_after broken next h.2 f)
 
-  own_turns : (body : Key → Progress V → Course V F) (keys : List Key) (p : Progress V) → CarriesOwn net p.state → AllByRecursion (IsKey net) keys
-      → ((key : Key) → IsKey net key → Goes (body key)) → CourseOwn (course_turns body keys p)
-  own_turns body [] p h all f = h
-  own_turns body (key ∷ keys) p h all f = own_after (body key p) (course_turns body keys) (f key all.0 p h) (λ q k. own_turns body keys q k all.1 f)
+  own_iterations : (body : Key → Progress V → Course V F) (keys : List Key) (p : Progress V) → CarriesOwn net p.state → AllByRecursion (IsKey net) keys
+      → ((key : Key) → IsKey net key → Goes (body key)) → CourseOwn (course_iterations body keys p)
+  own_iterations body [] p h all f = h
+  own_iterations body (key ∷ keys) p h all f = own_after (body key p) (course_iterations body keys) (f key all.0 p h) (λ q k. own_iterations body keys q k all.1 f)
 
   own_test : (site : ℕ) (r : Result F LayoutFault) (p : Progress V) (next : F → Course V F) → CarriesOwn net p.state → ((f : F) → CourseOwn (next f)) → CourseOwn (unless_fault site r p next)
   own_test site (Ok f) p next h all = all f
@@ -336,8 +336,8 @@ module _ {V F : Type 0} (o : Values V F) where
           code_own at scene (suc site + code_size first) other place (all_later (HasNamesOf at.net.names) (code_items place first) (code_items place other) inner) p h,
         ))
     instr_own at scene site (each var pattern body) place names inner p h =
-        own_turns at.net (λ key q. course_code o (in_turn at var key) (suc site) body q) (turns_of at pattern p.state) p h (turns_own at scene pattern p.state)
-        (λ key own q k. code_own (in_turn at var key) (turn_scene at var key scene own) (suc site) body (within place var) inner q k)
+        own_iterations at.net (λ key q. course_code o (in_iteration at var key) (suc site) body q) (iterations_of at pattern p.state) p h (iterations_own at scene pattern p.state)
+        (λ key own q k. code_own (in_iteration at var key) (iteration_scene at var key scene own) (suc site) body (within place var) inner q k)
     instr_own at scene site (forward port) place names inner p h = h
     instr_own at scene site (fork ports) place names inner p h = h
     instr_own at scene site (block body) place names inner p h = code_own at scene (suc site) body place inner p h
@@ -361,7 +361,7 @@ pub record Own (net : Network) : Type 0 where
 
 module _ {V F : Type 0} (o : Values V F) (net : Network) (own : Own net) where
   pub port_scene : (node : NodeId) → IsNode net node → IsOwnScene (scene_at net node)
-  port_scene node there = record { node = there; turns = tt; found = own.found }
+  port_scene node there = record { node = there; iterations = tt; found = own.found }
 
   port_own : (node : NodeId) (side : Side) (port : ℕ) (p : Progress V) → IsNode net node → CarriesOwn net p.state → CourseOwn net (port_course o net node side port p)
   port_own node side port p there h =

@@ -77,7 +77,7 @@ module _ {V W : Type 0} (fits : ℕ → V → Bool) (f : V → W) (laws : StateL
     same = laws.metadata.read (owner_of scope at.node) (name_id at.net name) w s.scopes;
     has = top_value_fits fits key_cmp _ (owner_of scope at.node, name_id at.net name) w s.scopes h.scopes;
   }
-  read_tracks at w (Bound var width) s h = track_key f (Fits fits w) (bound_key at.turns var) _ _ (λ key. record {
+  read_tracks at w (Bound var width) s h = track_key f (Fits fits w) (bound_key at.iterations var) _ _ (λ key. record {
     same = laws.metadata.read key.0 key.1 w s.scopes;
     has = top_value_fits fits key_cmp _ (key.0, key.1) w s.scopes h.scopes;
   })
@@ -124,7 +124,7 @@ module _ {V W : Type 0} (fits : ℕ → V → Bool) (f : V → W) (laws : StateL
       (on_scopes_valued (owner_of scope at.node, name_id at.net name) (valued f s.scopes))
       (m (owner_of scope at.node, name_id at.net name))
   stepped_tracks at (Bound var width) s on_layers on_layers_valued on_scopes on_scopes_valued h l m =
-      track_key (carried_valued f) (CarriedFits fits) (bound_key at.turns var) _ _ (λ key.
+      track_key (carried_valued f) (CarriedFits fits) (bound_key at.iterations var) _ _ (λ key.
       scopes_track s h (on_scopes key s.scopes) (on_scopes_valued key (valued f s.scopes)) (m key))
 
   pub allocated_tracks : (at : Scene) (target : Target) (s : Carried V) → CarriedFits fits s →

@@ -20,8 +20,8 @@ use Rattle.sefl_meaning.specs.Carried.{Carried, Scene, Key, nothing, scene_at}
 use Rattle.sefl_meaning.specs.Terms.{truth_in, value_in}
 use Rattle.sefl_meaning.specs.Steps.{allocated, deallocated, assigned, evaluated, tag_created, tag_set, tag_destroyed}
 use Rattle.sefl_meaning.specs.Injected.{with_tags, field_value, with_field, with_fields, unknown_width, unknown_widths, injected}
-use Rattle.sefl_meaning.specs.Runs.{Exit, off, go, forked, failed, in_turn, turns_of}
-use Rattle.sefl_meaning.specs.Courses.{at_if, at_constrain, Progress, begin, chosen, with_state, Course, ends, asks, off_or, after, unless_fault, step, course_turns, course_in, course_code}
+use Rattle.sefl_meaning.specs.Runs.{Exit, off, go, forked, failed, in_iteration, iterations_of}
+use Rattle.sefl_meaning.specs.Courses.{at_if, at_constrain, Progress, begin, chosen, with_state, Course, ends, asks, off_or, after, unless_fault, step, course_iterations, course_in, course_code}
 use Rattle.sefl_meaning.specs.Trees.{Tree, Onward, then_tree, port_course, crossed, leave, copies, passed, enter}
 use Rattle.sefl_meaning.specs.Valued.{Fits, HeldFits, CellFits, StacksFit, CarriedFits, KeepsSymbols, ProgressTyped, CourseTyped, TreeTyped, EachTyped}
 use Rattle.sefl_meaning.specs.Laws.{StateLaws}
@@ -64,11 +64,11 @@ module _ {V F : Type 0} (fits : List ℕ → ℕ → V → Bool) (unknowns : Lis
   typed_after (asks asking p test held broken) next h k =
       (h.0, typed_after held next h.1 k, typed_after broken next h.2 k)
 
-  typed_turns : (body : Key → Progress V → Course V F) → ((key : Key) (q : Progress V) → ProgressTyped fits unknowns q → CourseTyped fits unknowns (body key q)) →
-      (keys : List Key) (p : Progress V) → ProgressTyped fits unknowns p → CourseTyped fits unknowns (course_turns body keys p)
-  typed_turns body k [] p h = h
-  typed_turns body k (key ∷ keys) p h =
-      typed_after (body key p) (course_turns body keys) (k key p h) (λ q fit. typed_turns body k keys q fit)
+  typed_iterations : (body : Key → Progress V → Course V F) → ((key : Key) (q : Progress V) → ProgressTyped fits unknowns q → CourseTyped fits unknowns (body key q)) →
+      (keys : List Key) (p : Progress V) → ProgressTyped fits unknowns p → CourseTyped fits unknowns (course_iterations body keys p)
+  typed_iterations body k [] p h = h
+  typed_iterations body k (key ∷ keys) p h =
+      typed_after (body key p) (course_iterations body keys) (k key p h) (λ q fit. typed_iterations body k keys q fit)
 
   typed_unless : {A : Type 0} (P : A → Type 0) (site : ℕ) (r : Result A LayoutFault) (p : Progress V)
       (next : A → Course V F) → IfOk r P → ProgressTyped fits unknowns p → ((x : A) → P x → CourseTyped fits unknowns (next x)) → CourseTyped fits unknowns (unless_fault site r p next)
@@ -151,8 +151,8 @@ module _ {V F : Type 0} (fits : List ℕ → ℕ → V → Bool) (unknowns : Lis
         (any_ok (truth_in o at test p.state)) h
         (λ f u. (h, code_typed at (suc site) first p h, code_typed at (suc site + code_size first) other p h))
     instr_typed at site (each var pattern body) p h =
-        typed_turns fits unknowns (λ key q. course_code o (in_turn at var key) (suc site) body q)
-        (λ key q fit. code_typed (in_turn at var key) (suc site) body q fit) (turns_of at pattern p.state) p h
+        typed_iterations fits unknowns (λ key q. course_code o (in_iteration at var key) (suc site) body q)
+        (λ key q fit. code_typed (in_iteration at var key) (suc site) body q fit) (iterations_of at pattern p.state) p h
     instr_typed at site (forward port) p h = h
     instr_typed at site (fork ports) p h = h
     instr_typed at site (block body) p h = code_typed at (suc site) body p h

@@ -15,8 +15,8 @@ use Rattle.sefl_meaning.specs.Carried.{Carried, Scene, Key, scene_at}
 use Rattle.sefl_meaning.specs.Terms.{truth_in}
 use Rattle.sefl_meaning.specs.Steps.{allocated, deallocated, assigned, evaluated, tag_created, tag_set, tag_destroyed}
 use Rattle.sefl_meaning.specs.Runs as runs
-use Rattle.sefl_meaning.specs.Runs.{Exit, off, go, forked, failed, Ran, ran, noting, then_next, then_run, run_turns, in_turn, turns_of, run_instr, run_code}
-use Rattle.sefl_meaning.specs.Courses.{at_if, at_constrain, Progress, begin, Course, ends, asks, off_or, after, unless_fault, step, course_turns, course_in, course_code}
+use Rattle.sefl_meaning.specs.Runs.{Exit, off, go, forked, failed, Ran, ran, noting, then_next, then_run, run_iterations, in_iteration, iterations_of, run_instr, run_code}
+use Rattle.sefl_meaning.specs.Courses.{at_if, at_constrain, Progress, begin, Course, ends, asks, off_or, after, unless_fault, step, course_iterations, course_in, course_code}
 use Rattle.sefl_meaning.specs.Walks as walks
 use Rattle.sefl_meaning.specs.Walks.{Passage, by_way_of, decided, place_at, run_port}
 use Rattle.sefl_meaning.specs.Trees as trees
@@ -60,13 +60,13 @@ taken_unless : {A : Type 0} (site : ℕ) (r : Result A LayoutFault) (p : Progres
 taken_unless site (Ok x) p next run_next same = same x
 taken_unless site (Err fault) p next run_next same = refl
 
-taken_turns : (body : Key → Progress ℕ → Course ℕ Bool) (run_body : Key → Progress ℕ → Ran) →
+taken_iterations : (body : Key → Progress ℕ → Course ℕ Bool) (run_body : Key → Progress ℕ → Ran) →
     ((key : Key) → RunsAs (body key) (run_body key)) → (keys : List Key) →
-    RunsAs (course_turns body keys) (run_turns run_body keys)
-taken_turns body run_body same [] p = refl
-taken_turns body run_body same (key ∷ keys) p =
-    taken_after (body key p) (course_turns body keys) (run_turns run_body keys) (taken_turns body run_body same keys)
-    ∙ ap (λ r. then_run r (run_turns run_body keys)) (same key p)
+    RunsAs (course_iterations body keys) (run_iterations run_body keys)
+taken_iterations body run_body same [] p = refl
+taken_iterations body run_body same (key ∷ keys) p =
+    taken_after (body key p) (course_iterations body keys) (run_iterations run_body keys) (taken_iterations body run_body same keys)
+    ∙ ap (λ r. then_run r (run_iterations run_body keys)) (same key p)
 
 taken_step : (site : ℕ) (result : Result (Carried ℕ) LayoutFault) (p : Progress ℕ) →
     taken (step {F = Bool} site result p) ≡ runs.step site result p
@@ -120,10 +120,10 @@ module _ (v : List ℕ) (unknowns : ℕ) where
         taken_branch site (truth_in (numbers v unknowns) at test p.state) p _ _ _ _ (taken_code at (suc site) first p)
         (taken_code at (suc site + code_size first) other p)
     taken_instr at site (each var pattern body) p =
-        taken_turns (λ key q. course_code (numbers v unknowns) (in_turn at var key) (suc site) body q)
-        (λ key q. run_code v unknowns (in_turn at var key) (suc site) body q)
-        (λ key q. taken_code (in_turn at var key) (suc site) body q)
-        (turns_of at pattern p.state) p
+        taken_iterations (λ key q. course_code (numbers v unknowns) (in_iteration at var key) (suc site) body q)
+        (λ key q. run_code v unknowns (in_iteration at var key) (suc site) body q)
+        (λ key q. taken_code (in_iteration at var key) (suc site) body q)
+        (iterations_of at pattern p.state) p
     taken_instr at site (forward port) p = refl
     taken_instr at site (fork ports) p = refl
     taken_instr at site (block body) p = taken_code at (suc site) body p

@@ -18,21 +18,21 @@ use Rattle.cell_stacks.specs.Valued.{valued}
 use Rattle.metadata_scopes.specs.Scopes as scopes
 use Rattle.metadata_scopes.specs.Scopes.{Metadata}
 use Rattle.sefl_meaning.specs.Network.{Network, tag_id, name_id}
-use Rattle.sefl_meaning.specs.declared.walk.Turn.{Turn}
+use Rattle.sefl_meaning.specs.declared.walk.Iteration.{Iteration}
 
 pub record Carried (V : Type 0) : Type 0 where
   pub layers : Layout V
   pub scopes : Metadata V
 
--- where code runs: in this box of this net, in the turns of the Fors round it, the innermost first
+-- where code runs: in this box of this net, in the iterations of the Fors round it, the innermost first
 pub record Scene : Type 0 where
   pub net : Network
   pub node : NodeId
-  pub turns : List Turn
+  pub iterations : List Iteration
 
 -- the code of a port begins in no For
 abbrev pub scene_at : Network → NodeId → Scene
-scene_at net node = record { net = net; node = node; turns = [] }
+scene_at net node = record { net = net; node = node; iterations = [] }
 
 abbrev pub Key : Type 0
 Key = Option NodeId × NameId
@@ -42,9 +42,9 @@ owner_of Global node = None
 owner_of Local node = Some node
 
 -- the metadata that the innermost For with the variable stands at
-abbrev pub bound_key : List Turn → List ℕ → Result Key LayoutFault
+abbrev pub bound_key : List Iteration → List ℕ → Result Key LayoutFault
 bound_key [] var = Err NoMeta
-bound_key (turn ∷ turns) var = if bytes_eq var turn.var then Ok (turn.owner, turn.name) else bound_key turns var
+bound_key (iteration ∷ iterations) var = if bytes_eq var iteration.var then Ok (iteration.owner, iteration.name) else bound_key iterations var
 
 abbrev pub base_tag : Network → Addr → Option TagId
 base_tag net addr = option_map (tag_id net) addr.tag
@@ -64,13 +64,13 @@ module _ {V : Type 0} where
   stepped at (Meta scope name width) on_layers on_scopes s =
       on_ok (with_scopes s) (on_scopes (owner_of scope at.node, name_id at.net name) s.scopes)
   stepped at (Bound var width) on_layers on_scopes s =
-      and_then (bound_key at.turns var) (λ key. on_ok (with_scopes s) (on_scopes key s.scopes))
+      and_then (bound_key at.iterations var) (λ key. on_ok (with_scopes s) (on_scopes key s.scopes))
 
   -- the value that a reference of this width reads
   abbrev pub read_at : Scene → ℕ → Target → Carried V → Result V LayoutFault
   read_at at w (Header addr width) s = layout.value_of (base_tag at.net addr) addr.offset w s.layers
   read_at at w (Meta scope name width) s = scopes.value_of (owner_of scope at.node) (name_id at.net name) w s.scopes
-  read_at at w (Bound var width) s = and_then (bound_key at.turns var) (λ key. scopes.value_of key.0 key.1 w s.scopes)
+  read_at at w (Bound var width) s = and_then (bound_key at.iterations var) (λ key. scopes.value_of key.0 key.1 w s.scopes)
 
 -- a function of all values
 abbrev pub carried_valued : {V W : Type 0} → (V → W) → Carried V → Carried W

@@ -10,7 +10,7 @@ use Rattle.sefl_meaning.specs.Carried.{Carried, Scene, Key}
 use Rattle.sefl_meaning.specs.Terms.{truth_in}
 use Rattle.sefl_meaning.specs.Steps.{allocated, deallocated, assigned, evaluated, tag_created, tag_set, tag_destroyed}
 pub use Rattle.sefl_meaning.specs.Runs.{Progress}
-use Rattle.sefl_meaning.specs.Runs.{Exit, off, go, forked, failed, in_turn, turns_of}
+use Rattle.sefl_meaning.specs.Runs.{Exit, off, go, forked, failed, in_iteration, iterations_of}
 
 -- which instruction asks for a truth
 pub data Asking : Type 0 where
@@ -52,9 +52,9 @@ module _ {V F : Type 0} where
   abbrev pub step : ℕ → Result (Carried V) LayoutFault → Progress V → Course V F
   step site result p = unless_fault site result p (λ next. ends (with_state p next) off)
 
-  abbrev pub course_turns : (Key → Progress V → Course V F) → List Key → Progress V → Course V F
-  course_turns body [] p = ends p off
-  course_turns body (key ∷ keys) p = after (body key p) (course_turns body keys)
+  abbrev pub course_iterations : (Key → Progress V → Course V F) → List Key → Progress V → Course V F
+  course_iterations body [] p = ends p off
+  course_iterations body (key ∷ keys) p = after (body key p) (course_iterations body keys)
 
 module _ {V F : Type 0} (o : Values V F) where
   abbrev mutual
@@ -75,7 +75,7 @@ module _ {V F : Type 0} (o : Values V F) where
     course_in at site (branch test first other) p = unless_fault site (truth_in o at test p.state) p (λ f.
         asks at_if p f (course_code at (suc site) first p) (course_code at (suc site + code_size first) other p))
     course_in at site (each var pattern body) p =
-        course_turns (λ key p. course_code (in_turn at var key) (suc site) body p) (turns_of at pattern p.state) p
+        course_iterations (λ key p. course_code (in_iteration at var key) (suc site) body p) (iterations_of at pattern p.state) p
     course_in at site (forward port) p = ends p (go port)
     course_in at site (fork ports) p = ends p (forked ports)
     course_in at site (block body) p = course_code at (suc site) body p

@@ -138,7 +138,7 @@ ring_net = record {
   found = [];
 }
 
--- ---- a For whose body removes the metadata of its second turn
+-- ---- a For whose body removes the metadata of its second iteration
 
 abbrev pub for_net : Network
 for_net = record {

@@ -63,17 +63,17 @@ abbrev pub then_run : Ran → (Progress ℕ → Ran) → Ran
 then_run r next = then_next r.exit r next
 
 -- a run for each of the keys, one after another
-abbrev pub run_turns : (Key → Progress ℕ → Ran) → List Key → Progress ℕ → Ran
-run_turns body [] p = ran off p
-run_turns body (key ∷ keys) p = then_run (body key p) (run_turns body keys)
+abbrev pub run_iterations : (Key → Progress ℕ → Ran) → List Key → Progress ℕ → Ran
+run_iterations body [] p = ran off p
+run_iterations body (key ∷ keys) p = then_run (body key p) (run_iterations body keys)
 
--- the scene of one turn of a For
-abbrev pub in_turn : Scene → List ℕ → Key → Scene
-in_turn at var key = record at { turns = record { var = var; owner = key.0; name = key.1 } ∷ at.turns }
+-- the scene of one iteration of a For
+abbrev pub in_iteration : Scene → List ℕ → Key → Scene
+in_iteration at var key = record at { iterations = record { var = var; owner = key.0; name = key.1 } ∷ at.iterations }
 
 -- the metadata that a For goes over: those that its pattern finds and that are allocated at its start
-abbrev pub turns_of : {V : Type 0} → Scene → List ℕ → Carried V → List Key
-turns_of at pattern s = snapshot at.node (names_found at.net pattern) s.scopes
+abbrev pub iterations_of : {V : Type 0} → Scene → List ℕ → Carried V → List Key
+iterations_of at pattern s = snapshot at.node (names_found at.net pattern) s.scopes
 
 -- a packet with its choices, which stand behind this many unknown fields
 module _ (v : List ℕ) (unknowns : ℕ) where
@@ -97,7 +97,7 @@ module _ (v : List ℕ) (unknowns : ℕ) where
         if holds then noting (Then ∷ []) (run_code at (suc site) first p)
         else noting (Else ∷ []) (run_code at (suc site + code_size first) other p))
     run_instr at site (each var pattern body) p =
-        run_turns (λ key p. run_code (in_turn at var key) (suc site) body p) (turns_of at pattern p.state) p
+        run_iterations (λ key p. run_code (in_iteration at var key) (suc site) body p) (iterations_of at pattern p.state) p
     run_instr at site (forward port) p = ran (go port) p
     run_instr at site (fork ports) p = ran (forked ports) p
     run_instr at site (block body) p = run_code at (suc site) body p

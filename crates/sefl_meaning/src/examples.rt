@@ -42,7 +42,7 @@ pub fn ring_is_cut()
         Cut nothing ∷ [] }
 {}
 
-/// A For whose body removes the metadata of its second turn: that turn comes none the less, and fails.
+/// A For whose body removes the metadata of its second iteration: that iteration comes none the less, and fails.
 pub fn for_goes_over_its_snapshot()
     ensures starts { Starts examples.for_net examples.for_injection []
         (examples.metadata (examples.globals (1 ∷ 2 ∷ 3 ∷ []))) }

@@ -6,4 +6,4 @@ pub mod laws;
 pub mod starts;
 mod walk;
 
-pub use walk::{Carried, Decision, End, Failure, Place, State, Turn, Walk};
+pub use walk::{Carried, Decision, End, Failure, Iteration, Place, State, Walk};

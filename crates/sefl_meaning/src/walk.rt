@@ -82,10 +82,10 @@ impl Drop for Walk {
     }
 }
 
-/// One turn of a For: its variable stands for the metadata of that owner, or none for a global, and
-/// name. A list of the turns round an instruction has the innermost last.
+/// One iteration of a For: its variable stands for the metadata of that owner, or none for a global, and
+/// name. A list of the iterations round an instruction has the innermost last.
 #[derive(PartialEq, Eq, Drop)]
-pub struct Turn {
+pub struct Iteration {
     pub var: Name,
     pub owner: Option<NodeId>,
     pub name: NameId,

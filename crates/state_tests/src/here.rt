@@ -5,7 +5,7 @@ ghost use Rattle.net_check.specs.Sound.{AreOfOneJob};
 
 use net_check::{Accepted, Net, accept};
 use path_formula::Formula;
-use sefl_meaning::{Place, Turn};
+use sefl_meaning::{Iteration, Place};
 use sefl_reader::read_job;
 use sefl_syntax::{Body, Cond, Instr, Job, Side};
 use sn_edge::MemPatterns;
@@ -94,8 +94,8 @@ fn truth<L: Ledger>(
     packet: &[Num],
     steps: &mut Steps<L>,
 ) -> Answer {
-    let turns = Shared::empty();
-    match state.test(alloc, &job.net, &turns, test, steps) {
+    let iterations = Shared::empty();
+    match state.test(alloc, &job.net, &iterations, test, steps) {
         Ok(formula) => Ok(truth_at(formula, packet)),
         Err(StepFault::Layout(fault)) => Err(fault),
         Err(StepFault::NoMemory) => panic!(rt; "memory"),
@@ -111,12 +111,19 @@ fn step<L: Ledger>(
     instr: &Instr,
     steps: &mut Steps<L>,
 ) -> Result<(), StepFault> {
-    let turns: Shared<Turn> = Shared::empty();
+    let iterations: Shared<Iteration> = Shared::empty();
     match instr {
-        Instr::Allocate(target) => state.allocate(alloc, net, &turns, target, steps),
-        Instr::Deallocate(target) => state.deallocate(alloc, net, &turns, target, steps),
-        Instr::Assign { target, value } => state.assign(alloc, net, &turns, target, value, steps),
-        Instr::AssignAny(target) => state.assign_any(alloc, net, &turns, target, steps),
+        Instr::Allocate(target) => state.allocate(alloc, net, &iterations, target, steps),
+        Instr::Deallocate(target) => state.deallocate(alloc, net, &iterations, target, steps),
+        Instr::Assign { target, value } => state.assign(
+            alloc,
+            net,
+            &iterations,
+            target,
+            value,
+            steps,
+        ),
+        Instr::AssignAny(target) => state.assign_any(alloc, net, &iterations, target, steps),
         Instr::CreateTag { name, addr } => state.create_tag(alloc, net, name, addr, steps),
         Instr::SetTag { name, addr } => state.set_tag(alloc, net, name, addr, steps),
         Instr::DestroyTag(name) => state.destroy_tag(alloc, net, name, steps),

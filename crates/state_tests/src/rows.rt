@@ -153,11 +153,11 @@ fn answer_at(
     choice: usize,
     instr: &Instr,
 ) -> Answer {
-    let turns = Shared::empty();
+    let iterations = Shared::empty();
     let at = Scene {
         net: &case.job.net,
         node: NodeId(0),
-        turns: &turns,
+        iterations: &iterations,
     };
     let o = Numbers {
         numbers: case.packet,
@@ -401,8 +401,8 @@ fn pass<L: Ledger>(
     test: &Cond,
     steps: &mut Steps<L>,
 ) {
-    let turns = Shared::empty();
-    match state.test(alloc, &job.net, &turns, test, steps) {
+    let iterations = Shared::empty();
+    match state.test(alloc, &job.net, &iterations, test, steps) {
         Ok(formula) => state
             .constrain(alloc, formula, Decision::Pass)
             .expect(rt, "memory"),
@@ -499,13 +499,13 @@ fn assert_first_choice<L: Ledger>(rt: &impl Abort, alloc: Global, steps: &mut St
     drop(job);
 }
 
-/// Whether both list the same turns.
-fn are_turns(found: &[(Option<NodeId>, NameId)], wanted: &[(Option<NodeId>, NameId)]) -> bool {
+/// Whether both list the same iterations.
+fn are_iterations(found: &[(Option<NodeId>, NameId)], wanted: &[(Option<NodeId>, NameId)]) -> bool {
     found == wanted
 }
 
 /// A For goes over those of its names that are allocated, globals first; a step that changes nothing is one step.
-fn assert_turns<L: Ledger>(rt: &impl Abort, alloc: Global, steps: &mut Steps<L>) {
+fn assert_iterations<L: Ledger>(rt: &impl Abort, alloc: Global, steps: &mut Steps<L>) {
     let text =
         "symnet 2; node a 1 -> 0 { in 0 { allocate global b:8; allocate local b:8; allocate global c:8; deallocate global c:8; } } inject a.0 { }";
     let job = accepted(rt, alloc, text);
@@ -513,10 +513,10 @@ fn assert_turns<L: Ledger>(rt: &impl Abort, alloc: Global, steps: &mut Steps<L>)
     let mut state = begun(rt, alloc, &job);
     run_all(rt, alloc, &job, code_of(&source), &mut state, steps);
     let asked = [NameId(1), NameId(0)];
-    let found = state.turns(alloc, &asked, steps).expect(rt, "memory");
+    let found = state.iterations(alloc, &asked, steps).expect(rt, "memory");
     check(
         rt,
-        are_turns(&found, &[(None, NameId(0)), (Some(NodeId(0)), NameId(0))]),
+        are_iterations(&found, &[(None, NameId(0)), (Some(NodeId(0)), NameId(0))]),
         text,
     );
     state.pass(steps);
@@ -570,7 +570,7 @@ fn run_rows<L: Ledger>(rt: &impl Abort, alloc: Global, blank: Blank)
     run_passed(rt, alloc, &mut steps);
     assert_apart(rt, alloc, &mut steps);
     assert_first_choice(rt, alloc, &mut steps);
-    assert_turns(rt, alloc, &mut steps);
+    assert_iterations(rt, alloc, &mut steps);
 }
 
 #[test]

@@ -13,17 +13,17 @@ use Rattle.sefl_meaning.specs.Network.{Network, Entry as Injection}
 use Rattle.sefl_meaning.specs.Carried.{Scene, scene_at}
 use Rattle.sefl_meaning.specs.Injected.{injected, unknown_count, unknown_widths}
 use Rattle.sefl_meaning.specs.Start.{Start, start_of, tests_in, tree_from}
-use Rattle.sefl_meaning.specs.declared.walk.Turn.{Turn}
+use Rattle.sefl_meaning.specs.declared.walk.Iteration.{Iteration}
 use Rattle.term_values.specs.TermValues.{terms}
 
 -- the code's names for the parts of an injection are those of the definition
-pub in_place : (P : ℕ → Scene → InjectionTree → Type 0) (net : Network) (p : EntryParts) (raw : RawInjection) (unknowns : ℕ) (node : NodeId) (turns : List Turn)
-    → raw ≡ p.raw → unknowns ≡ unknown_count (entry p) → node ≡ p.node → turns ≡ []
-    → P unknowns (record { net = net; node = node; turns = turns }) (injection_tree raw)
+pub in_place : (P : ℕ → Scene → InjectionTree → Type 0) (net : Network) (p : EntryParts) (raw : RawInjection) (unknowns : ℕ) (node : NodeId) (iterations : List Iteration)
+    → raw ≡ p.raw → unknowns ≡ unknown_count (entry p) → node ≡ p.node → iterations ≡ []
+    → P unknowns (record { net = net; node = node; iterations = iterations }) (injection_tree raw)
     → P (unknown_count (entry p)) (scene_at net p.node) (entry p).own
-in_place P net p raw unknowns node turns raw_is count place none h =
+in_place P net p raw unknowns node iterations raw_is count place none h =
     subst (λ (x : ℕ × Scene × InjectionTree). P x.0 x.1 x.2)
-    (λ j. (count j, record { net = net; node = place j; turns = none j }, injection_tree (raw_is j))) h
+    (λ j. (count j, record { net = net; node = place j; iterations = none j }, injection_tree (raw_is j))) h
 
 no_tests : {A S : Type 0} (tests : Result A LayoutFault) (start : A → S) (goes : S) (fault : LayoutFault) → on_ok start tests ≡ Ok goes → tests ≡ Err fault → ⊥
 no_tests (Ok x) start goes fault h k = cc

@@ -6,7 +6,7 @@ use Rattle.path_cond.specs.Conditions.{Condition, Entry}
 use Rattle.interval_solver.specs.Domains.{with_width}
 use Rattle.sefl_meaning.specs.declared.walk.Decision.{Decision}
 use Rattle.sefl_meaning.specs.declared.walk.Place.{Place}
-use Rattle.sefl_meaning.specs.declared.walk.Turn.{Turn}
+use Rattle.sefl_meaning.specs.declared.walk.Iteration.{Iteration}
 use Rattle.sefl_meaning.specs.Network.{Network}
 use Rattle.sefl_meaning.specs.Carried.{Carried, Scene, carried_valued}
 use Rattle.sefl_meaning.specs.Valued.{CarriedFits}
@@ -27,9 +27,9 @@ pub record IsSound (carried : Carried LinearTerm) (condition : Condition) (unkno
   pub fits : CarriedFits (typed_fits condition.widths) carried
   pub known : unknowns ≤ length condition.widths
 
--- where the code runs that the state has come to, in these turns, the innermost first
-abbrev pub scene_in : Network → List Turn → Symbolic → Scene
-scene_in net turns s = record { net = net; node = node_of s.places; turns = turns }
+-- where the code runs that the state has come to, in these iterations, the innermost first
+abbrev pub scene_in : Network → List Iteration → Symbolic → Scene
+scene_in net iterations s = record { net = net; node = node_of s.places; iterations = iterations }
 
 -- the carried numbers, at these values of the symbols
 abbrev pub numbers_in : List ℕ → Symbolic → Carried ℕ

@@ -47,12 +47,12 @@ impl SymState {
         injection.keeps_the_rules();
         injections_have_a_start::<Term, Formulas, Num, bool>();
         let (node, _) = injection.place();
-        let turns = Shared::empty();
+        let iterations = Shared::empty();
         let at = Origin {
             scene: Scene {
                 net,
                 node,
-                turns: &turns,
+                iterations: &iterations,
             },
             terms: Terms {
                 unknowns: injection.unknowns() as u64,

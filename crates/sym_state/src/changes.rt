@@ -21,7 +21,7 @@ use instr_steps::{
 use lin_term::Term;
 use net_check::Net;
 use sefl_meaning::laws::{expressions_keep, steps_commute, steps_keep, valuing_commutes};
-use sefl_meaning::{Carried, Turn};
+use sefl_meaning::{Carried, Iteration};
 use sefl_syntax::{Addr, Expr, Name, Target};
 use sn_tree::Shared;
 use sn_width::{Num, StepFault};
@@ -92,7 +92,7 @@ impl SymState {
         &mut self,
         alloc: Global,
         net: &Net,
-        bound: &Shared<Turn>,
+        bound: &Shared<Iteration>,
         change: Change<'_>,
     ) -> Result<(), StepFault>
         ensures step { Meets (on_ok (with_carried self.old) (changed (terms self.old.unknowns) (scene_in (network net.now) bound.now self.old) change.entry self.old.carried)) result self.old self.new }
@@ -149,7 +149,7 @@ impl SymState {
         &mut self,
         alloc: Global,
         net: &Net,
-        bound: &Shared<Turn>,
+        bound: &Shared<Iteration>,
         target: &Target,
     ) -> Result<(), StepFault>
         ensures step { Meets (on_ok (with_symbol self.old (width_of target.now)) (assigned (scene_in (network net.now) bound.now self.old) target.now (symbol_term (width_of target.now) (length self.old.condition.widths)) self.old.carried)) result

@@ -19,7 +19,7 @@ use lin_term::Term;
 use metadata_scopes::laws::valuing_commutes as metadata_commute;
 use net_check::Net;
 use path_formula::Formula;
-use sefl_meaning::Turn;
+use sefl_meaning::Iteration;
 use sefl_meaning::laws::{expressions_keep, steps_keep, valuing_commutes};
 use sefl_syntax::Cond;
 use sn_tree::Shared;
@@ -38,7 +38,7 @@ impl SymState {
         &self,
         alloc: Global,
         net: &Net,
-        bound: &Shared<Turn>,
+        bound: &Shared<Iteration>,
         test: &Cond,
         steps: &mut Steps<L>,
     ) -> Result<Formula, StepFault>
@@ -84,7 +84,7 @@ impl SymState {
 
     /// What a For goes over at the port that was arrived at last: those of the names that are allocated, globals first. It is the
     /// same at all values of the symbols. One step.
-    pub fn turns<L: Ledger>(
+    pub fn iterations<L: Ledger>(
         &self,
         alloc: Global,
         names: &[NameId],

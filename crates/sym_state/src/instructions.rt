@@ -13,14 +13,14 @@ ghost use Rattle.term_values.specs.TermValues.{symbol_term, terms};
 use crate::changes::Change;
 use crate::state::SymState;
 use net_check::Net;
-use sefl_meaning::Turn;
+use sefl_meaning::Iteration;
 use sefl_syntax::{Addr, Expr, Name, Target};
 use sn_tree::Shared;
 use sn_width::{StepFault, Steps};
 use std::alloc::Global;
 use std::sync::ledger::Ledger;
 
-/// Local names belong to the node of the port that was arrived at last. `bound` lists the turns of the
+/// Local names belong to the node of the port that was arrived at last. `bound` lists the iterations of the
 /// Fors round the instruction, the innermost on top. A refusal changes nothing but the counter. At all
 /// values of the symbols each call does with the carried numbers what the instruction does.
 impl SymState {
@@ -29,7 +29,7 @@ impl SymState {
         &mut self,
         alloc: Global,
         net: &Net,
-        bound: &Shared<Turn>,
+        bound: &Shared<Iteration>,
         target: &Target,
         steps: &mut Steps<L>,
     ) -> Result<(), StepFault>
@@ -47,7 +47,7 @@ impl SymState {
         &mut self,
         alloc: Global,
         net: &Net,
-        bound: &Shared<Turn>,
+        bound: &Shared<Iteration>,
         target: &Target,
         steps: &mut Steps<L>,
     ) -> Result<(), StepFault>
@@ -65,7 +65,7 @@ impl SymState {
         &mut self,
         alloc: Global,
         net: &Net,
-        bound: &Shared<Turn>,
+        bound: &Shared<Iteration>,
         target: &Target,
         value: &Expr,
         steps: &mut Steps<L>,
@@ -84,7 +84,7 @@ impl SymState {
         &mut self,
         alloc: Global,
         net: &Net,
-        bound: &Shared<Turn>,
+        bound: &Shared<Iteration>,
         target: &Target,
         steps: &mut Steps<L>,
     ) -> Result<(), StepFault>
@@ -113,8 +113,8 @@ impl SymState {
         ensures counted { steps.new ≡ steps.old + 1 }
     {
         steps.tick();
-        let turns = Shared::empty();
-        self.change_here(alloc, net, &turns, Change::CreateTag { name, addr })
+        let iterations = Shared::empty();
+        self.change_here(alloc, net, &iterations, Change::CreateTag { name, addr })
     }
 
     /// Puts an address in place of the tag's top one, or alone.
@@ -132,8 +132,8 @@ impl SymState {
         ensures counted { steps.new ≡ steps.old + 1 }
     {
         steps.tick();
-        let turns = Shared::empty();
-        self.change_here(alloc, net, &turns, Change::SetTag { name, addr })
+        let iterations = Shared::empty();
+        self.change_here(alloc, net, &iterations, Change::SetTag { name, addr })
     }
 
     /// Removes the tag's top address.
@@ -150,7 +150,7 @@ impl SymState {
         ensures counted { steps.new ≡ steps.old + 1 }
     {
         steps.tick();
-        let turns = Shared::empty();
-        self.change_here(alloc, net, &turns, Change::DestroyTag(name))
+        let iterations = Shared::empty();
+        self.change_here(alloc, net, &iterations, Change::DestroyTag(name))
     }
 }

@@ -116,7 +116,7 @@ impl Machine for SymState {
         self.formula(alloc, at, test)
     }
 
-    fn turns<L: Ledger>(
+    fn iterations<L: Ledger>(
         &self,
         alloc: Global,
         node: NodeId,

@@ -17,7 +17,7 @@ use metadata_scopes::Scopes;
 use net_check::Net;
 use path_cond::PathCond;
 use path_trace::Trace;
-use sefl_meaning::{Carried, Place, Turn};
+use sefl_meaning::{Carried, Iteration, Place};
 use sn_tree::Shared;
 use sn_width::{NoMemory, NodeId};
 use std::marker::Model;
@@ -118,14 +118,14 @@ impl SymState {
         self.trace.node()
     }
 
-    /// Where the code runs that the state has come to, in these turns.
-    pub(crate) fn scene<'b>(&self, net: &'b Net, bound: &'b Shared<Turn>) -> Scene<'b>
+    /// Where the code runs that the state has come to, in these iterations.
+    pub(crate) fn scene<'b>(&self, net: &'b Net, bound: &'b Shared<Iteration>) -> Scene<'b>
         ensures { scene_of result ≡ scene_in (network net.now) bound.now self.now }
     {
         Scene {
             net,
             node: self.node(),
-            turns: bound,
+            iterations: bound,
         }
     }
 }

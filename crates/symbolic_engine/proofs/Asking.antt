@@ -14,7 +14,7 @@ use Rattle.symbolic_engine.specs.Turning.{offer_of}
 
 asks_node : (question : Question) (t : SymTree) (p : Progress LinearTerm) (test : FormulaTree) (held broken : SymTree)
     → t ≡ tests (asking_of question) p test held broken → IsNode (offer_of question) t
-asks_node (If turns site first other) t p test held broken is = record { progress = p; test = test; held = held; broken = broken; is = is }
+asks_node (If iterations site first other) t p test held broken is = record { progress = p; test = test; held = held; broken = broken; is = is }
 asks_node (Constrain site) t p test held broken is = record { progress = p; test = test; held = held; broken = broken; is = is }
 
 -- a node of a test waits at the instruction of the question

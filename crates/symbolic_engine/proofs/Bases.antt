@@ -13,7 +13,7 @@ use Rattle.path_solver.specs.declared.decision.Decided.{Decided}
 use Rattle.path_solver.specs.declared.decision.Decided.TheVariants as decisions
 use Rattle.path_solver.specs.Bases.{HasValues, IsBaseOf, broken_in}
 use Rattle.path_solver.specs.Decisions.{IsDecisionOn}
-use Rattle.exact_records.specs.Spots.{IsKnown}
+use Rattle.exact_records.specs.Points.{IsKnown}
 use Rattle.symbolic_engine.specs.Finding.{values_in, broken_in as broken_by}
 use Rattle.symbolic_engine.proofs.Running.{some_same}
 

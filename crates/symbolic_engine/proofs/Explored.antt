@@ -24,20 +24,20 @@ use Rattle.path_exec.specs.declared.guided.FollowFault.TheVariants.{Impossible, 
 use Rattle.path_exec.specs.Ending.{Explored}
 use Rattle.path_exec.specs.Following.{Followed, IsLed}
 use Rattle.path_exec.specs.Handing.{Handed}
-use Rattle.path_exec.specs.Here.{spot_at}
+use Rattle.path_exec.specs.Location.{point_at}
 use Rattle.path_exec.specs.Offers.{IsNode}
 use Rattle.path_exec.specs.Receiving.{Receiving}
 use Rattle.path_exec.specs.Views.{Views}
 use Rattle.path_exec.specs.Visiting.{AreVisits, Arrival, ArrivedAs, ArrivesAt}
 use Rattle.symbolic_engine.specs.declared.found.Found.{Found}
 use Rattle.symbolic_engine.specs.declared.origin.Origin.{Ghosts}
-use Rattle.symbolic_engine.specs.declared.spots.Standing.{Standing}
+use Rattle.symbolic_engine.specs.declared.points.Standing.{Standing}
 use Rattle.symbolic_engine.specs.declared.guiding.Led.{Led}
 use Rattle.symbolic_engine.specs.declared.guiding.Waits.{Waits}
 use Rattle.symbolic_engine.specs.declared.stage.Wait.{Wait}
 use Rattle.symbolic_engine.specs.declared.stage.Wait.TheVariants.{Asked, Forked}
 use Rattle.symbolic_engine.specs.Stages.{wait_tree}
-use Rattle.symbolic_engine.specs.Origins.{IsFirstState, IsRunOf, condition_seen, here_of}
+use Rattle.symbolic_engine.specs.Origins.{IsFirstState, IsRunOf, condition_seen, location_of}
 use Rattle.symbolic_engine.specs.Seeing.{views_of}
 use Rattle.symbolic_engine.specs.Finds.{handed_tree}
 use Rattle.symbolic_engine.specs.Exploring.{AreFound, ArrivedFor, ArrivesIn, ExploredFor, FollowedFor, ObservedFor}
@@ -100,7 +100,7 @@ module _ (net : Network) (i : Entry) (hops : ℕ) where
 -- ---- where decisions lead
 
 module _ (s : SymStart) (ds : List Decision) (x : Symbolic) (tree : ℕ → SymTree) (begun : ℕ) (run : IsRunOf s x)
-    (led : IsLed s ds (spot_at begun (here_of s x tree))) where
+    (led : IsLed s ds (point_at begun (location_of s x tree))) where
   condition_led : condition_seen x ≡ condition_on s led.way
   condition_led =
       let widths = led.widths ∙ ap (λ (t : SymTree). s.unknowns ++ (progress_of t).choices) (sym led.left) in
@@ -198,5 +198,5 @@ kept_found net i hops limit m kept before after (Err e) stands none h = tt
 
 -- what is carried where a run waits
 pub wait_carries : (net : Network) (wait : Wait) (x : Symbolic) (begun : ℕ) → (progress_of (wait_tree net wait x begun)).state ≡ x.carried
-wait_carries net (Asked gate question test frames) x begun = refl
+wait_carries net (Asked running question test frames) x begun = refl
 wait_carries net (Forked node hops ports) x begun = refl

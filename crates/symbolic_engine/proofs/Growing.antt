@@ -11,8 +11,8 @@ use Rattle.sefl_meaning.specs.Network.{Network, code_size, inner_size}
 use Rattle.sefl_meaning.specs.Carried.{Carried, Scene, Key}
 use Rattle.sefl_meaning.specs.Terms.{truth_in}
 use Rattle.sefl_meaning.specs.Steps.{allocated, deallocated, evaluated, tag_created, tag_set, tag_destroyed}
-use Rattle.sefl_meaning.specs.Runs.{Progress, off, go, forked, failed, in_turn, turns_of}
-use Rattle.sefl_meaning.specs.Courses.{Course, ends, asks, at_if, at_constrain, after, begin, chosen, course_code, course_in, course_turns, step, unless_fault, with_state}
+use Rattle.sefl_meaning.specs.Runs.{Progress, off, go, forked, failed, in_iteration, iterations_of}
+use Rattle.sefl_meaning.specs.Courses.{Course, ends, asks, at_if, at_constrain, after, begin, chosen, course_code, course_in, course_iterations, step, unless_fault, with_state}
 use Rattle.code_frames.specs.declared.frame.Frame.{Frame}
 use Rattle.code_frames.specs.declared.frame.Frame.TheVariants.{Code, Turns}
 use Rattle.code_frames.specs.declared.frame.Move.{Move}
@@ -57,10 +57,10 @@ module _ {V F : Type 0} where
   grows_after old (ends p (failed failure site)) next h k = h
   grows_after old (asks asking p test held broken) next h k = (h.0, grows_after old held next h.1 k, grows_after old broken next h.2 k)
 
-  grows_turns : (body : Key → Progress V → Course V F) → ((key : Key) (p : Progress V) → Grows p.choices (body key p))
-      → (keys : List Key) (p : Progress V) → Grows p.choices (course_turns body keys p)
-  grows_turns body h [] p = grown_none p.choices
-  grows_turns body h (key ∷ keys) p = grows_after p.choices (body key p) (course_turns body keys) (h key p) (grows_turns body h keys)
+  grows_iterations : (body : Key → Progress V → Course V F) → ((key : Key) (p : Progress V) → Grows p.choices (body key p))
+      → (keys : List Key) (p : Progress V) → Grows p.choices (course_iterations body keys p)
+  grows_iterations body h [] p = grown_none p.choices
+  grows_iterations body h (key ∷ keys) p = grows_after p.choices (body key p) (course_iterations body keys) (h key p) (grows_iterations body h keys)
 
   grows_unless : {A : Type 0} (site : ℕ) (r : Result A LayoutFault) (p : Progress V) (next : A → Course V F)
       → ((x : A) → Grows p.choices (next x)) → Grows p.choices (unless_fault site r p next)
@@ -93,8 +93,8 @@ module _ {V F : Type 0} (o : Values V F) where
         (λ f. asks at_if p f (course_code o at (suc site) first p) (course_code o at (suc site + code_size first) other p))
         (λ f. (grown_none p.choices, grows_code first at (suc site) p, grows_code other at (suc site + code_size first) p))
     grows_in (each var pattern body) at site p =
-        grows_turns (λ key q. course_code o (in_turn at var key) (suc site) body q) (λ key q. grows_code body (in_turn at var key) (suc site) q)
-        (turns_of at pattern p.state) p
+        grows_iterations (λ key q. course_code o (in_iteration at var key) (suc site) body q) (λ key q. grows_code body (in_iteration at var key) (suc site) q)
+        (iterations_of at pattern p.state) p
     grows_in (forward port) at site p = grown_none p.choices
     grows_in (fork ports) at site p = grown_none p.choices
     grows_in (block body) at site p = grows_code body at (suc site) p
@@ -107,10 +107,10 @@ module _ {V F : Type 0} (o : Values V F) where
         (λ q. grows_code is at (suc site + inner_size i) q)
 
   grows_frame : (net : Network) (node : NodeId) (frame : Frame) (p : Progress V) → Grows p.choices (of_frame o net node frame p)
-  grows_frame net node (Code turns site code) p = grows_code (code_tree code.now) (scene_in net node turns) site p
-  grows_frame net node (Turns turns var site body keys) p =
-      grows_turns (λ key q. course_code o (in_turn (scene_in net node turns) var.now key) site (code_tree body.now) q)
-      (λ key q. grows_code (code_tree body.now) (in_turn (scene_in net node turns) var.now key) site q) keys p
+  grows_frame net node (Code iterations site code) p = grows_code (code_tree code.now) (scene_in net node iterations) site p
+  grows_frame net node (Turns iterations var site body keys) p =
+      grows_iterations (λ key q. course_code o (in_iteration (scene_in net node iterations) var.now key) site (code_tree body.now) q)
+      (λ key q. grows_code (code_tree body.now) (in_iteration (scene_in net node iterations) var.now key) site q) keys p
 
   grows_frames : (net : Network) (node : NodeId) (frames : List Frame) (p : Progress V) → Grows p.choices (course_frames o net node frames p)
   grows_frames net node [] p = grown_none p.choices

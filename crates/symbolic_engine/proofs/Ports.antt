@@ -25,14 +25,14 @@ use Rattle.code_frames.specs.Frames.{course_after, course_frames, course_left, f
 use Rattle.sym_state.specs.Symbolic.{Rest, Symbolic, choices_of, rest_of, with_place}
 use Rattle.exact_records.specs.Records.{SymStart, SymTree}
 use Rattle.path_exec.specs.declared.engine.Moved.{Moved}
-use Rattle.path_exec.specs.Here.{spot_at}
+use Rattle.path_exec.specs.Location.{point_at}
 use Rattle.path_exec.specs.Moves.{IsMove, Moves, Reaches}
 use Rattle.path_exec.specs.Offers.{copy_count}
 use Rattle.path_exec.specs.Views.{Views}
-use Rattle.symbolic_engine.specs.declared.stage.Gate.{Gate}
+use Rattle.symbolic_engine.specs.declared.stage.Running.{Running}
 use Rattle.symbolic_engine.specs.declared.stage.Stage.{Stage}
-use Rattle.symbolic_engine.specs.Origins.{IsRunOf, here_of, progress_in}
-use Rattle.symbolic_engine.specs.Stages.{behind_gate, behind_side, from_port, inside_tree, onward_of, stage_tree}
+use Rattle.symbolic_engine.specs.Origins.{IsRunOf, location_of, progress_in}
+use Rattle.symbolic_engine.specs.Stages.{behind_running, behind_side, from_port, inside_tree, onward_of, stage_tree}
 use Rattle.symbolic_engine.specs.Seeing.{standing_at}
 use Rattle.symbolic_engine.proofs.Growing.{Grown, grown_at_move}
 use Rattle.symbolic_engine.proofs.Running.{move_from, reaches_here, tests_same, wider_by}
@@ -80,9 +80,9 @@ module _ (net : Network) (u : ℕ) (node : NodeId) (port : ℕ) (p : Progress Li
 pub arrives_at : (s : SymStart) (net : Network) (x y : Symbolic) (node : NodeId) (side : Side) (port : ℕ) (tree : ℕ → SymTree) (stage : Stage)
     → IsRunOf s x → y ≡ with_place x (place_at node side port)
     → ((n : ℕ) → tree n ≡ arrives (place_at node side port) (progress_in x n) (stage_tree net stage (with_place x (place_at node side port)) n))
-    → (begun : ℕ) → Reaches s (spot_at begun (here_of s x tree)) (spot_at begun (standing_at s net y stage)) y.carried
+    → (begun : ℕ) → Reaches s (point_at begun (location_of s x tree)) (point_at begun (standing_at s net y stage)) y.carried
 arrives_at s net x y node side port tree stage run is trees begun =
-    subst (λ (z : Symbolic). Reaches s (spot_at begun (here_of s x tree)) (spot_at begun (standing_at s net z stage)) z.carried) (sym is)
+    subst (λ (z : Symbolic). Reaches s (point_at begun (location_of s x tree)) (point_at begun (standing_at s net z stage)) z.carried) (sym is)
     (reaches_here s x (place_at node side port) tree (stage_tree net stage (with_place x (place_at node side port))) begun run (trees begun))
 
 -- ---- copies
@@ -96,19 +96,19 @@ count_of_copies net u hops node (port ∷ ports) p = ap suc (count_of_copies net
 -- ---- the run of code
 
 -- what a move says, and what is behind the port
-abbrev pub move_tree : Network → Gate → Move Formula → List Frame → Symbolic → ℕ → SymTree
-move_tree net gate move frames x begun =
-    then_tree (course_after (terms x.unknowns) net gate.node view move frames (progress_in x begun)) (behind_gate net x.unknowns gate)
+abbrev pub move_tree : Network → Running → Move Formula → List Frame → Symbolic → ℕ → SymTree
+move_tree net running move frames x begun =
+    then_tree (course_after (terms x.unknowns) net running.node view move frames (progress_in x begun)) (behind_running net x.unknowns running)
 
-module _ {P O N D T : Type 0} (v : Views P O N D T) (net : Network) (gate : Gate) (x y : Symbolic) (old new : List Frame) (move : Move Formula)
+module _ {P O N D T : Type 0} (v : Views P O N D T) (net : Network) (running : Running) (x y : Symbolic) (old new : List Frame) (move : Move Formula)
     (before after : ℕ) where
   -- the run came to a move, and from there the engine moves on: so it moves on from where it was
   pub moves_on : rest_of y ≡ rest_of x
-      → code.GoesOn before after (from (course_frames (terms x.unknowns) net gate.node old) x.carried (choices_of x))
-      (from (course_after (terms x.unknowns) net gate.node view move new) y.carried (choices_of y))
+      → code.GoesOn before after (from (course_frames (terms x.unknowns) net running.node old) x.carried (choices_of x))
+      (from (course_after (terms x.unknowns) net running.node view move new) y.carried (choices_of y))
       → IsRunOf v.start x → (moved : Moved P O N)
-      → ((begun : ℕ) → IsMove v (spot_at begun (here_of v.start y (move_tree net gate move new y))) begun moved)
-      → Moves v (here_of v.start x (inside_tree net gate None old x)) before after moved
+      → ((begun : ℕ) → IsMove v (point_at begun (location_of v.start y (move_tree net running move new y))) begun moved)
+      → Moves v (location_of v.start x (inside_tree net running None old x)) before after moved
   moves_on same on run moved moves =
       let unknowns : y.unknowns ≡ x.unknowns = ap (λ (r : Rest). r.unknowns) same in
       record {
@@ -117,36 +117,36 @@ module _ {P O N D T : Type 0} (v : Views P O N D T) (net : Network) (gate : Gate
         goes = λ begun.
             let count = begun + on.taken in
             let grown : Grown (choices_of x) (choices_of y) =
-            grown_at_move (terms x.unknowns) net gate.node view move old new (progress_in x begun) (progress_in y count) (on.same begun) in
+            grown_at_move (terms x.unknowns) net running.node view move old new (progress_in x begun) (progress_in y count) (on.same begun) in
             let widths : Grown x.condition.widths y.condition.widths = wider_by v.start x y same run grown in
-            let tree : move_tree net gate move new y count ≡ inside_tree net gate None old x begun =
-            ap (λ (u : ℕ). then_tree (course_after (terms u) net gate.node view move new (progress_in y count)) (behind_gate net u gate)) unknowns
-            ∙ ap (λ (c : Course LinearTerm FormulaTree). then_tree c (behind_gate net x.unknowns gate)) (on.same begun) in
-            move_from v (spot_at begun (here_of v.start x (inside_tree net gate None old x))) (spot_at count (here_of v.start y (move_tree net gate move new y))) count moved
+            let tree : move_tree net running move new y count ≡ inside_tree net running None old x begun =
+            ap (λ (u : ℕ). then_tree (course_after (terms u) net running.node view move new (progress_in y count)) (behind_running net u running)) unknowns
+            ∙ ap (λ (c : Course LinearTerm FormulaTree). then_tree c (behind_running net x.unknowns running)) (on.same begun) in
+            move_from v (point_at begun (location_of v.start x (inside_tree net running None old x))) (point_at count (location_of v.start y (move_tree net running move new y))) count moved
             (ap (λ (r : Rest). reverse r.decisions) same) (tests_same v.start x y same) (ap (λ (r : Rest). reverse r.places) same) widths tree (moves count);
       }
 
-module _ {P O N D T : Type 0} (v : Views P O N D T) (net : Network) (gate : Gate) where
+module _ {P O N D T : Type 0} (v : Views P O N D T) (net : Network) (running : Running) where
   -- the same, where the state was taken out of the run
   pub moves_still : (x taken y : Symbolic) (old new : List Frame) (move : Move Formula) (before after : ℕ) → taken ≡ x → rest_of y ≡ rest_of taken
-      → code.GoesOn before after (from (course_frames (terms taken.unknowns) net gate.node old) taken.carried (choices_of taken))
-      (from (course_after (terms taken.unknowns) net gate.node view move new) y.carried (choices_of y))
+      → code.GoesOn before after (from (course_frames (terms taken.unknowns) net running.node old) taken.carried (choices_of taken))
+      (from (course_after (terms taken.unknowns) net running.node view move new) y.carried (choices_of y))
       → IsRunOf v.start x → (moved : Moved P O N)
-      → ((begun : ℕ) → IsMove v (spot_at begun (here_of v.start y (move_tree net gate move new y))) begun moved)
-      → Moves v (here_of v.start x (inside_tree net gate None old x)) before after moved
+      → ((begun : ℕ) → IsMove v (point_at begun (location_of v.start y (move_tree net running move new y))) begun moved)
+      → Moves v (location_of v.start x (inside_tree net running None old x)) before after moved
   moves_still x taken y old new move before after is same on run moved moves =
-      moves_on v net gate x y old new move before after (same ∙ ap rest_of is)
-      (subst (λ (z : Symbolic). code.GoesOn before after (from (course_frames (terms z.unknowns) net gate.node old) z.carried (choices_of z))
-      (from (course_after (terms z.unknowns) net gate.node view move new) y.carried (choices_of y))) is on)
+      moves_on v net running x y old new move before after (same ∙ ap rest_of is)
+      (subst (λ (z : Symbolic). code.GoesOn before after (from (course_frames (terms z.unknowns) net running.node old) z.carried (choices_of z))
+      (from (course_after (terms z.unknowns) net running.node view move new) y.carried (choices_of y))) is on)
       run moved moves
 
 -- ---- exits
 
 -- the same tree in another form
 pub other_tree : {P O N D T : Type 0} (v : Views P O N D T) (s : SymStart) (x : Symbolic) (tree other : SymTree) (begun count : ℕ) (moved : Moved P O N)
-    → tree ≡ other → IsMove v (spot_at begun (here_of s x (λ n. other))) count moved → IsMove v (spot_at begun (here_of s x (λ n. tree))) count moved
+    → tree ≡ other → IsMove v (point_at begun (location_of s x (λ n. other))) count moved → IsMove v (point_at begun (location_of s x (λ n. tree))) count moved
 other_tree v s x tree other begun count moved e h =
-    subst (λ (t : SymTree). IsMove v (spot_at begun (here_of s x (λ n. t))) count moved) (sym e) h
+    subst (λ (t : SymTree). IsMove v (point_at begun (location_of s x (λ n. t))) count moved) (sym e) h
 
 module _ (net : Network) (u hops : ℕ) (p : Progress LinearTerm) where
   pub crossed_go : (link : Option (NodeId × ℕ)) (port : ℕ) → crossed (terms u) net (onward_of net u hops) link (go port) p ≡ over p Stopped
@@ -164,12 +164,12 @@ module _ (net : Network) (u hops : ℕ) (p : Progress LinearTerm) where
 
 -- no instruction began
 pub at_once : {P O N D T : Type 0} (v : Views P O N D T) (s : SymStart) (x : Symbolic) (tree other : ℕ → SymTree) (steps : ℕ) (moved : Moved P O N)
-    → ((begun : ℕ) → tree begun ≡ other begun) → ((begun : ℕ) → IsMove v (spot_at begun (here_of s x other)) begun moved)
-    → Moves v (here_of s x tree) steps steps moved
+    → ((begun : ℕ) → tree begun ≡ other begun) → ((begun : ℕ) → IsMove v (point_at begun (location_of s x other)) begun moved)
+    → Moves v (location_of s x tree) steps steps moved
 at_once v s x tree other steps moved same moves = record {
   raised = 0;
   counted = omega arith;
   goes = λ begun.
       let none : begun ≡ begun + 0 = omega arith in
-      other_tree v s x (tree begun) (other begun) begun (begun + 0) moved (same begun) (subst (λ (n : ℕ). IsMove v (spot_at begun (here_of s x other)) n moved) none (moves begun));
+      other_tree v s x (tree begun) (other begun) begun (begun + 0) moved (same begun) (subst (λ (n : ℕ). IsMove v (point_at begun (location_of s x other)) n moved) none (moves begun));
 }

@@ -1,4 +1,4 @@
--- States of runs, and the spots where they stand.
+-- States of runs, and the points where they stand.
 use Rattle.std.proofs.Common.{◌≡◌, ℕ, zero, suc, ◌≤◌, true, List, [], ◌∷◌, ◌++◌, drop, length, map, take, Some, refl, sym, ap, ◌∙◌, append_assoc, arith}
 use Rattle.std.proofs.lemmas.List.{append-nil, length-map, map-append, reverse-append, take-append-drop, take-append-le, drop-append-le, take_all}
 use Rattle.sn_width.specs.declared.ids.NodeId.{NodeId}
@@ -16,14 +16,14 @@ use Rattle.sefl_meaning.specs.Trees.{arrives}
 use Rattle.sym_state.specs.Beginning.{MustBeTrue, trees_of}
 use Rattle.sym_state.specs.Symbolic.{Rest, Symbolic, choices_of, decided, polarity, rest_of, with_decision, with_place}
 use Rattle.exact_records.specs.Records.{SymStart, SymTree, injection_tests}
-use Rattle.exact_records.specs.Spots.{Spot, condition_at}
+use Rattle.exact_records.specs.Points.{Point, condition_at}
 use Rattle.path_exec.specs.declared.engine.Moved.{Moved}
 use Rattle.path_exec.specs.declared.engine.Moved.TheVariants.{Arrived, Stopped}
 use Rattle.path_exec.specs.declared.engine.Next.TheVariants.{AtEnd, AtNode}
-use Rattle.path_exec.specs.Here.{spot_at}
+use Rattle.path_exec.specs.Location.{point_at}
 use Rattle.path_exec.specs.Moves.{GoesOn, IsMove, Reaches, StopsAt}
 use Rattle.path_exec.specs.Views.{Views}
-use Rattle.symbolic_engine.specs.Origins.{IsFirstState, IsRunOf, condition_seen, entries_seen, here_of, progress_in}
+use Rattle.symbolic_engine.specs.Origins.{IsFirstState, IsRunOf, condition_seen, entries_seen, location_of, progress_in}
 use Rattle.symbolic_engine.proofs.Growing.{Grown, grown_then}
 
 pub some_same : {A : Type 0} {x y : A} → Some x ≡ Some y → x ≡ y
@@ -43,7 +43,7 @@ all_tests s x run =
 
 -- so the condition where it stands is that of the state
 pub condition_here : (s : SymStart) (x : Symbolic) (tree : ℕ → SymTree) (begun : ℕ) → IsRunOf s x
-    → condition_at s (spot_at begun (here_of s x tree)) ≡ condition_seen x
+    → condition_at s (point_at begun (location_of s x tree)) ≡ condition_seen x
 condition_here s x tree begun run = ap (λ entries. record { widths = x.condition.widths; entries = entries }) (all_tests s x run)
 
 few : {A : Type 0} (n : ℕ) (xs : List A) → length (take n xs) ≡ n → n ≤ length xs
@@ -137,13 +137,13 @@ module _ (s : SymStart) (net : Network) (hops : ℕ) (node : NodeId) (port : ℕ
 
 -- ---- moves
 
-goes_then : (a b c : Spot) → b.decisions ≡ a.decisions → b.tests ≡ a.tests → Grown a.widths b.widths → GoesOn b c → GoesOn a c
+goes_then : (a b c : Point) → b.decisions ≡ a.decisions → b.tests ≡ a.tests → Grown a.widths b.widths → GoesOn b c → GoesOn a c
 goes_then a b c ds ts ws on =
     let grown = grown_then a.widths b.widths c.widths ws (on.more, on.grown) in
     record { decisions = on.decisions ∙ ds; tests = on.tests ∙ ts; more = grown.0; grown = grown.1 }
 
 module _ {P O N D T : Type 0} (x : Views P O N D T) where
-  stop_from : (a b c : Spot) (count : ℕ) → b.decisions ≡ a.decisions → b.tests ≡ a.tests → b.places ≡ a.places
+  stop_from : (a b c : Point) (count : ℕ) → b.decisions ≡ a.decisions → b.tests ≡ a.tests → b.places ≡ a.places
       → Grown a.widths b.widths → b.tree ≡ a.tree → StopsAt x.start count b c → StopsAt x.start count a c
   stop_from a b c count ds ts ps ws tree stop = record {
     goes = goes_then a b c ds ts ws stop.goes;
@@ -153,11 +153,11 @@ module _ {P O N D T : Type 0} (x : Views P O N D T) where
     begun = stop.begun;
   }
 
-  -- what comes from a spot comes from one before it, where nothing was decided or arrived at between
-  pub move_from : (a b : Spot) (count : ℕ) (moved : Moved P O N) → b.decisions ≡ a.decisions → b.tests ≡ a.tests → b.places ≡ a.places
+  -- what comes from a point comes from one before it, where nothing was decided or arrived at between
+  pub move_from : (a b : Point) (count : ℕ) (moved : Moved P O N) → b.decisions ≡ a.decisions → b.tests ≡ a.tests → b.places ≡ a.places
       → Grown a.widths b.widths → b.tree ≡ a.tree → IsMove x b count moved → IsMove x a count moved
   move_from a b count (Arrived place) ds ts ps ws tree move = record {
-    goes = goes_then a b (spot_at count (x.place_at place)) ds ts ws move.goes;
+    goes = goes_then a b (point_at count (x.place_at place)) ds ts ws move.goes;
     port = move.port;
     progress = move.progress;
     is = sym tree ∙ move.is;
@@ -165,12 +165,12 @@ module _ {P O N D T : Type 0} (x : Views P O N D T) where
     places = move.places ∙ ap (λ l. l ++ move.port ∷ []) ps;
     widths = move.widths;
   }
-  move_from a b count (Stopped (AtEnd over)) ds ts ps ws tree move = (stop_from a b (spot_at count (x.over_at over)) count ds ts ps ws tree move.0, move.1)
-  move_from a b count (Stopped (AtNode node offer)) ds ts ps ws tree move = (stop_from a b (spot_at count (x.node_at node)) count ds ts ps ws tree move.0, move.1)
+  move_from a b count (Stopped (AtEnd over)) ds ts ps ws tree move = (stop_from a b (point_at count (x.over_at over)) count ds ts ps ws tree move.0, move.1)
+  move_from a b count (Stopped (AtNode node offer)) ds ts ps ws tree move = (stop_from a b (point_at count (x.node_at node)) count ds ts ps ws tree move.0, move.1)
 
 -- a state that waits or is over, behind `count` instructions
 pub stops_here : (s : SymStart) (x : Symbolic) (tree : ℕ → SymTree) (count : ℕ) → IsRunOf s x → progress_of (tree count) ≡ progress_in x count
-    → StopsAt s count (spot_at count (here_of s x tree)) (spot_at count (here_of s x tree))
+    → StopsAt s count (point_at count (location_of s x tree)) (point_at count (location_of s x tree))
 stops_here s x tree count run at = record {
   goes = record { decisions = refl; tests = refl; more = []; grown = sym (append-nil x.condition.widths) };
   tree = refl;
@@ -182,7 +182,7 @@ stops_here s x tree count run at = record {
 -- arrived at one port more
 pub reaches_here : (s : SymStart) (x : Symbolic) (place : Place) (tree next : ℕ → SymTree) (count : ℕ) → IsRunOf s x
     → tree count ≡ arrives place (progress_in x count) (next count)
-    → Reaches s (spot_at count (here_of s x tree)) (spot_at count (here_of s (with_place x place) next)) x.carried
+    → Reaches s (point_at count (location_of s x tree)) (point_at count (location_of s (with_place x place) next)) x.carried
 reaches_here s x place tree next count run is = record {
   goes = record { decisions = refl; tests = refl; more = []; grown = sym (append-nil x.condition.widths) };
   port = place;

@@ -23,16 +23,16 @@ use Rattle.code_frames.specs.declared.frame.Exit.{Exit as Left}
 use Rattle.code_frames.specs.Frames.{asking_of, course_behind, course_left}
 use Rattle.sym_state.specs.Symbolic.{Symbolic, decided, polarity, with_decision}
 use Rattle.exact_records.specs.Records.{SymStart, SymTree}
-use Rattle.exact_records.specs.Spots.{Spot, copied, copy_at, sided}
-use Rattle.path_exec.specs.Here.{spot_at}
-use Rattle.path_exec.specs.Offers.{IsOffered, copied_by, next_spot}
-use Rattle.symbolic_engine.specs.declared.stage.Gate.{Gate}
+use Rattle.exact_records.specs.Points.{Point, copied, copy_at, sided}
+use Rattle.path_exec.specs.Location.{point_at}
+use Rattle.path_exec.specs.Offers.{IsOffered, copied_by, next_point}
+use Rattle.symbolic_engine.specs.declared.stage.Running.{Running}
 use Rattle.symbolic_engine.specs.declared.stage.Stage.{Stage}
 use Rattle.symbolic_engine.specs.declared.stage.Stage.TheVariants.{Leaving}
 use Rattle.symbolic_engine.specs.declared.stage.Wait.{Wait}
 use Rattle.symbolic_engine.specs.declared.stage.Wait.TheVariants.{Asked, Forked}
-use Rattle.symbolic_engine.specs.Origins.{IsRunOf, entries_seen, here_of, progress_in}
-use Rattle.symbolic_engine.specs.Stages.{behind_gate, inside_tree, onward_of, side_tree, stage_tree, wait_tree}
+use Rattle.symbolic_engine.specs.Origins.{IsRunOf, entries_seen, location_of, progress_in}
+use Rattle.symbolic_engine.specs.Stages.{behind_running, inside_tree, onward_of, side_tree, stage_tree, wait_tree}
 use Rattle.symbolic_engine.specs.Turning.{IsAwaited, IsCopyOf, IsNoted, IsStageBehind, copy_of, tree_behind}
 use Rattle.symbolic_engine.specs.Seeing.{standing_at, waiting_at}
 use Rattle.symbolic_engine.proofs.Running.{run_copied, run_decided, some_same, tests_decided}
@@ -86,7 +86,7 @@ module _ (net : Network) (u hops : ℕ) (node : NodeId) (p : Progress LinearTerm
   copy_leaves (port ∷ ports) zero h = refl
   copy_leaves (port ∷ ports) (suc n) h = copy_leaves ports n (omega (arith, h))
 
-copied_there : (a : Spot) (branches : Copies LinearTerm FormulaTree) (o : Option ℕ) (c : Spot) → copied_by a branches o ≡ Some c
+copied_there : (a : Point) (branches : Copies LinearTerm FormulaTree) (o : Option ℕ) (c : Point) → copied_by a branches o ≡ Some c
     → (n : ℕ) × (o ≡ Some n) × ((t : SymTree) × (copy_at branches n ≡ Some t) × (copied a n t ≡ c))
 copied_there a branches None c e = absurd (cc e)
 copied_there a branches (Some n) c e = (n, refl, there (copied a n) (copy_at branches n) c e)
@@ -94,14 +94,14 @@ copied_there a branches (Some n) c e = (n, refl, there (copied a n) (copy_at bra
 -- ---- what is offered is awaited
 
 pub awaited : (s : SymStart) (net : Network) (x : Symbolic) (wait : Wait) (d : Decision) → IsOffered (waiting_at s net x wait) d → IsAwaited wait d
-awaited s net x (Asked gate question test frames) d h =
+awaited s net x (Asked running question test frames) d h =
     let found = there _ (truth_of (asking_of question) d) h.1 h.2 in (found.0, found.1)
 awaited s net x (Forked node hops ports) d h =
     let p : Progress LinearTerm = progress_in x h.0 in
-    let found = copied_there (spot_at h.0 (waiting_at s net x (Forked node hops ports))) (branches_of net x.unknowns hops node p ports.now) (number_of d) h.1 h.2 in
+    let found = copied_there (point_at h.0 (waiting_at s net x (Forked node hops ports))) (branches_of net x.unknowns hops node p ports.now) (number_of d) h.1 h.2 in
     record { number = found.0; is = found.1; below = copy_below net x.unknowns hops node p ports.now found.0 found.2.0 found.2.1 }
 
--- ---- the spot behind a decision
+-- ---- the point behind a decision
 
 by_either : (truth : Bool) (side : Bool → SymTree) → (if truth then side true else side false) ≡ side truth
 by_either true side = refl
@@ -109,88 +109,88 @@ by_either false side = refl
 
 module _ (s : SymStart) (net : Network) (x : Symbolic) (d : Decision) where
   -- the state with a decision's formula is at the side, whatever comes there
-  side_spot : (asking : Asking) (test formula : Formula) (truth : Bool) (tree : ℕ → SymTree) (t : SymTree) (begun : ℕ)
+  side_point : (asking : Asking) (test formula : Formula) (truth : Bool) (tree : ℕ → SymTree) (t : SymTree) (begun : ℕ)
       → IsRunOf s x → view formula ≡ view test → truth_of asking d ≡ Some truth
-      → spot_at begun (here_of s (decided x formula d) (λ n. t)) ≡ sided (spot_at begun (here_of s x tree)) asking (view test) truth t
-  side_spot asking test formula truth tree t begun run same takes =
+      → point_at begun (location_of s (decided x formula d) (λ n. t)) ≡ sided (point_at begun (location_of s x tree)) asking (view test) truth t
+  side_point asking test formula truth tree t begun run same takes =
       let so = taken_so asking d truth takes in
       let ds = reverse-append (d ∷ []) x.decisions ∙ ap (λ (e : Decision). reverse x.decisions ++ e ∷ []) so.0 in
       let ts = tests_decided s x formula d run ∙ (λ j. drop (length s.tests) (entries_seen x) ++ (same j, so.1 j) ∷ []) in
       λ i. record { decisions = ds i; places = reverse x.places; tests = ts i; widths = x.condition.widths; tree = t }
 
-  copy_spot : (n : ℕ) (tree : ℕ → SymTree) (t : SymTree) (begun : ℕ) → number_of d ≡ Some n
-      → spot_at begun (here_of s (with_decision x d) (λ m. t)) ≡ copied (spot_at begun (here_of s x tree)) n t
-  copy_spot n tree t begun is =
+  copy_point : (n : ℕ) (tree : ℕ → SymTree) (t : SymTree) (begun : ℕ) → number_of d ≡ Some n
+      → point_at begun (location_of s (with_decision x d) (λ m. t)) ≡ copied (point_at begun (location_of s x tree)) n t
+  copy_point n tree t begun is =
       let ds = reverse-append (d ∷ []) x.decisions ∙ ap (λ (e : Decision). reverse x.decisions ++ e ∷ []) (copy_so d n is) in
       λ i. record { decisions = ds i; places = reverse x.places; tests = drop (length s.tests) (entries_seen x); widths = x.condition.widths; tree = t }
 
   -- the state with the decision is where the decision leads, with some tree there
-  pub noted_spot : (y : Symbolic) (wait : Wait) → IsRunOf s x → IsNoted wait x d y → (begun : ℕ) (c : Spot)
-      → next_spot (spot_at begun (waiting_at s net x wait)) d ≡ Some c → (t : SymTree) × (spot_at begun (here_of s y (λ n. t)) ≡ c)
-  noted_spot y (Asked gate question test frames) run noted begun c e =
-      let wait = Asked gate question test frames in
+  pub noted_point : (y : Symbolic) (wait : Wait) → IsRunOf s x → IsNoted wait x d y → (begun : ℕ) (c : Point)
+      → next_point (point_at begun (waiting_at s net x wait)) d ≡ Some c → (t : SymTree) × (point_at begun (location_of s y (λ n. t)) ≡ c)
+  noted_point y (Asked running question test frames) run noted begun c e =
+      let wait = Asked running question test frames in
       let found = there _ (truth_of (asking_of question) d) c e in
-      let t : SymTree = side_tree net gate question (reverse frames.items) found.0 x begun in (
+      let t : SymTree = side_tree net running question (reverse frames.items) found.0 x begun in (
         t,
-        ap (λ (z : Symbolic). spot_at begun (here_of s z (λ n. t))) noted.2
-            ∙ side_spot (asking_of question) test noted.0 found.0 (wait_tree net wait x) t begun run noted.1 found.1
-            ∙ ap (sided (spot_at begun (waiting_at s net x wait)) (asking_of question) (view test) found.0)
-            (sym (by_either found.0 (λ b. side_tree net gate question (reverse frames.items) b x begun)))
+        ap (λ (z : Symbolic). point_at begun (location_of s z (λ n. t))) noted.2
+            ∙ side_point (asking_of question) test noted.0 found.0 (wait_tree net wait x) t begun run noted.1 found.1
+            ∙ ap (sided (point_at begun (waiting_at s net x wait)) (asking_of question) (view test) found.0)
+            (sym (by_either found.0 (λ b. side_tree net running question (reverse frames.items) b x begun)))
             ∙ found.2,
       )
-  noted_spot y (Forked node hops ports) run noted begun c e =
+  noted_point y (Forked node hops ports) run noted begun c e =
       let wait = Forked node hops ports in
-      let found = copied_there (spot_at begun (waiting_at s net x wait)) (branches_of net x.unknowns hops node (progress_in x begun) ports.now) (number_of d) c e in (
+      let found = copied_there (point_at begun (waiting_at s net x wait)) (branches_of net x.unknowns hops node (progress_in x begun) ports.now) (number_of d) c e in (
         found.2.0,
-        ap (λ (z : Symbolic). spot_at begun (here_of s z (λ n. found.2.0))) noted
-            ∙ copy_spot found.0 (wait_tree net wait x) found.2.0 begun found.1 ∙ found.2.2,
+        ap (λ (z : Symbolic). point_at begun (location_of s z (λ n. found.2.0))) noted
+            ∙ copy_point found.0 (wait_tree net wait x) found.2.0 begun found.1 ∙ found.2.2,
       )
 
   -- and the stage behind the decision has that tree
-  stage_spot : (y : Symbolic) (wait : Wait) (stage : Stage) → IsNoted wait x d y → IsStageBehind net wait d stage → (begun : ℕ) (c : Spot)
-      → next_spot (spot_at begun (waiting_at s net x wait)) d ≡ Some c → stage_tree net stage y begun ≡ c.tree
-  stage_spot y (Asked gate question test frames) stage noted at begun c e =
+  stage_point : (y : Symbolic) (wait : Wait) (stage : Stage) → IsNoted wait x d y → IsStageBehind net wait d stage → (begun : ℕ) (c : Point)
+      → next_point (point_at begun (waiting_at s net x wait)) d ≡ Some c → stage_tree net stage y begun ≡ c.tree
+  stage_point y (Asked running question test frames) stage noted at begun c e =
       let found = there _ (truth_of (asking_of question) d) c e in
       let z : Symbolic = decided x noted.0 d in
-      let side : side_tree net gate question (reverse frames.items) found.0 x begun ≡ stage_tree net stage z begun =
-      some_same (ap (option_map (λ truth. side_tree net gate question (reverse frames.items) truth x begun)) (sym found.1) ∙ at z begun) in
+      let side : side_tree net running question (reverse frames.items) found.0 x begun ≡ stage_tree net stage z begun =
+      some_same (ap (option_map (λ truth. side_tree net running question (reverse frames.items) truth x begun)) (sym found.1) ∙ at z begun) in
       ap (λ (w : Symbolic). stage_tree net stage w begun) noted.2 ∙ sym side
-      ∙ sym (by_either found.0 (λ b. side_tree net gate question (reverse frames.items) b x begun)) ∙ ap (λ (a : Spot). a.tree) found.2
-  stage_spot y (Forked node hops ports) stage noted at begun c e =
+      ∙ sym (by_either found.0 (λ b. side_tree net running question (reverse frames.items) b x begun)) ∙ ap (λ (a : Point). a.tree) found.2
+  stage_point y (Forked node hops ports) stage noted at begun c e =
       let branches = branches_of net x.unknowns hops node (progress_in x begun) ports.now in
-      let found = copied_there (spot_at begun (waiting_at s net x (Forked node hops ports))) branches (number_of d) c e in
+      let found = copied_there (point_at begun (waiting_at s net x (Forked node hops ports))) branches (number_of d) c e in
       let z : Symbolic = with_decision x d in
       let side : found.2.0 ≡ stage_tree net stage z begun = some_same (sym found.2.1 ∙ ap (copy_of branches) (sym found.1) ∙ at z begun) in
-      ap (λ (w : Symbolic). stage_tree net stage w begun) noted ∙ sym side ∙ ap (λ (a : Spot). a.tree) found.2.2
+      ap (λ (w : Symbolic). stage_tree net stage w begun) noted ∙ sym side ∙ ap (λ (a : Point). a.tree) found.2.2
 
   -- so the stage is where the decision leads
-  pub behind_spot : (y : Symbolic) (wait : Wait) (stage : Stage) → IsRunOf s x → IsNoted wait x d y → IsStageBehind net wait d stage → (begun : ℕ) (c : Spot)
-      → next_spot (spot_at begun (waiting_at s net x wait)) d ≡ Some c → spot_at begun (standing_at s net y stage) ≡ c
-  behind_spot y wait stage run noted at begun c e =
-      let led = noted_spot y wait run noted begun c e in
-      let tree : stage_tree net stage y begun ≡ led.0 = stage_spot y wait stage noted at begun c e ∙ sym (ap (λ (a : Spot). a.tree) led.1) in
-      (λ i. spot_at begun (here_of s y (λ n. tree i))) ∙ led.1
+  pub behind_point : (y : Symbolic) (wait : Wait) (stage : Stage) → IsRunOf s x → IsNoted wait x d y → IsStageBehind net wait d stage → (begun : ℕ) (c : Point)
+      → next_point (point_at begun (waiting_at s net x wait)) d ≡ Some c → point_at begun (standing_at s net y stage) ≡ c
+  behind_point y wait stage run noted at begun c e =
+      let led = noted_point y wait run noted begun c e in
+      let tree : stage_tree net stage y begun ≡ led.0 = stage_point y wait stage noted at begun c e ∙ sym (ap (λ (a : Point). a.tree) led.1) in
+      (λ i. point_at begun (location_of s y (λ n. tree i))) ∙ led.1
 
 -- the state behind a decision is of the run
 pub run_noted : (s : SymStart) (wait : Wait) (x : Symbolic) (d : Decision) (y : Symbolic) → IsRunOf s x → IsNoted wait x d y → IsRunOf s y
-run_noted s (Asked gate question test frames) x d y run noted = subst (IsRunOf s) (sym noted.2) (run_decided s x noted.0 d run)
+run_noted s (Asked running question test frames) x d y run noted = subst (IsRunOf s) (sym noted.2) (run_decided s x noted.0 d run)
 run_noted s (Forked node hops ports) x d y run noted = subst (IsRunOf s) (sym noted) (run_copied s x d run)
 
 -- the truth that an awaited decision gives is the one that it takes
 pub held_so : (asking : Asking) (d : Decision) (truth : Bool) → truth_of asking d ≡ Some truth → polarity d ≡ truth
 held_so asking d truth e = (taken_so asking d truth e).1
 
-module _ (net : Network) (gate : Gate) (question : Question) (test : Formula) (x : Symbolic) (begun : ℕ) (d : Decision) where
+module _ (net : Network) (running : Running) (question : Question) (test : Formula) (x : Symbolic) (begun : ℕ) (d : Decision) where
   -- what an answer leaves is the side that the decision takes
   pub answered : (held : Vec Frame) (truth holds : Bool) (mid new : List Frame) (left : Option Left)
       → truth_of (asking_of question) d ≡ Some truth → holds ≡ polarity d → mid ≡ reverse held.items
-      → course_left (terms x.unknowns) net gate.node left new (progress_in x begun) ≡ course_behind (terms x.unknowns) net gate.node question holds mid (progress_in x begun)
-      → tree_behind net (Asked gate question test held) x begun d ≡ Some (inside_tree net gate left new x begun)
+      → course_left (terms x.unknowns) net running.node left new (progress_in x begun) ≡ course_behind (terms x.unknowns) net running.node question holds mid (progress_in x begun)
+      → tree_behind net (Asked running question test held) x begun d ≡ Some (inside_tree net running left new x begun)
   answered held truth holds mid new left takes is frames course =
       let so : holds ≡ truth = is ∙ held_so (asking_of question) d truth takes in
-      ap (option_map (λ truth. side_tree net gate question (reverse held.items) truth x begun)) takes
-      ∙ ap (λ (c : Course LinearTerm FormulaTree). Some (then_tree c (behind_gate net x.unknowns gate)))
-      ((λ i. course_behind (terms x.unknowns) net gate.node question (sym so i) (sym frames i) (progress_in x begun)) ∙ sym course)
+      ap (option_map (λ truth. side_tree net running question (reverse held.items) truth x begun)) takes
+      ∙ ap (λ (c : Course LinearTerm FormulaTree). Some (then_tree c (behind_running net x.unknowns running)))
+      ((λ i. course_behind (terms x.unknowns) net running.node question (sym so i) (sym frames i) (progress_in x begun)) ∙ sym course)
 
 -- an awaited copy is one of those that there are
 within_copies : (count n : ℕ) → IsCopyOf count (Copy n) → n < count

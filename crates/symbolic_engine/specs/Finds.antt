@@ -4,7 +4,7 @@ use Rattle.refutation_check.specs.declared.outcome.Verdict.{Verdict}
 use Rattle.sefl_meaning.specs.declared.walk.Decision.{Decision}
 use Rattle.sefl_meaning.specs.Fields.{fields_of}
 use Rattle.exact_records.specs.Records.{RecordTree, path, pruned, unexplored}
-use Rattle.exact_records.specs.Spots.{filled_verdict}
+use Rattle.exact_records.specs.Points.{filled_verdict}
 use Rattle.path_exec.specs.Handing.{Handed}
 use Rattle.symbolic_engine.specs.declared.found.Before.{Before}
 use Rattle.symbolic_engine.specs.declared.found.Found.{Found}

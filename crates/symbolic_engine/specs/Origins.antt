@@ -14,7 +14,7 @@ use Rattle.code_frames.specs.Frames.{progress_at}
 use Rattle.sym_state.specs.Beginning.{MustBeTrue, trees_of}
 use Rattle.sym_state.specs.Symbolic.{Symbolic, choices_of}
 use Rattle.exact_records.specs.Records.{SymCondition, SymStart, SymTree, injection_tests}
-use Rattle.path_exec.specs.Here.{Here}
+use Rattle.path_exec.specs.Location.{Location}
 
 -- the formulas of a state as trees, with the truths that they must have
 abbrev pub entries_seen : Symbolic → List (FormulaTree × Bool)
@@ -36,8 +36,8 @@ pub record IsRunOf (s : SymStart) (x : Symbolic) : Type 0 where
   pub tests : take (length s.tests) (entries_seen x) ≡ injection_tests s
 
 -- a state is where this comes, whatever number of instructions has begun: the tests are its formulas behind those of the injection
-abbrev pub here_of : SymStart → Symbolic → (ℕ → SymTree) → Here
-here_of s x tree = record {
+abbrev pub location_of : SymStart → Symbolic → (ℕ → SymTree) → Location
+location_of s x tree = record {
   decisions = reverse x.decisions;
   places = reverse x.places;
   tests = drop (length s.tests) (entries_seen x);

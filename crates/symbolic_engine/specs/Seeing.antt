@@ -6,30 +6,30 @@ use Rattle.sefl_meaning.specs.Trees.{over}
 use Rattle.exact_records.specs.Records.{SymStart}
 use Rattle.sym_state.specs.Symbolic.{Symbolic}
 use Rattle.path_exec.specs.Handing.{Handed}
-use Rattle.path_exec.specs.Here.{Here}
+use Rattle.path_exec.specs.Location.{Location}
 use Rattle.path_exec.specs.Views.{Views}
 use Rattle.symbolic_engine.specs.declared.found.Found.{Found}
 use Rattle.symbolic_engine.specs.declared.origin.Origin.{Ghosts}
-use Rattle.symbolic_engine.specs.declared.spots.Finished.{Finished}
-use Rattle.symbolic_engine.specs.declared.spots.Standing.{Standing}
-use Rattle.symbolic_engine.specs.declared.spots.Waiting.{Waiting}
+use Rattle.symbolic_engine.specs.declared.points.Finished.{Finished}
+use Rattle.symbolic_engine.specs.declared.points.Standing.{Standing}
+use Rattle.symbolic_engine.specs.declared.points.Waiting.{Waiting}
 use Rattle.symbolic_engine.specs.declared.stage.Stage.{Stage}
 use Rattle.symbolic_engine.specs.declared.stage.Wait.{Wait}
 use Rattle.symbolic_engine.specs.Finds.{handed_tree}
 use Rattle.symbolic_engine.specs.Leading.{IsHanded}
-use Rattle.symbolic_engine.specs.Origins.{here_of, progress_in}
+use Rattle.symbolic_engine.specs.Origins.{location_of, progress_in}
 use Rattle.symbolic_engine.specs.Stages.{stage_tree, wait_tree}
 
 module _ (s : SymStart) (net : Network) where
   -- where a state is at a stage, where it waits, and where its run is over
-  abbrev pub standing_at : Symbolic → Stage → Here
-  standing_at x stage = here_of s x (stage_tree net stage x)
+  abbrev pub standing_at : Symbolic → Stage → Location
+  standing_at x stage = location_of s x (stage_tree net stage x)
 
-  abbrev pub waiting_at : Symbolic → Wait → Here
-  waiting_at x wait = here_of s x (wait_tree net wait x)
+  abbrev pub waiting_at : Symbolic → Wait → Location
+  waiting_at x wait = location_of s x (wait_tree net wait x)
 
-abbrev pub finished_at : SymStart → Symbolic → End → Here
-finished_at s x how = here_of s x (λ begun. over (progress_in x begun) how)
+abbrev pub finished_at : SymStart → Symbolic → End → Location
+finished_at s x how = location_of s x (λ begun. over (progress_in x begun) how)
 
 -- what the engine's values are seen as
 abbrev pub views_of : {B : Type 0} {origin : Ghosts B} → SymStart → Network → Views (Standing B) (Finished B) (Waiting B origin) Verdict (Handed Found)

@@ -14,7 +14,7 @@ use Rattle.code_frames.specs.declared.frame.Question.TheVariants as questions
 use Rattle.code_frames.specs.Frames.{asking_of}
 use Rattle.sym_state.specs.Symbolic.{Symbolic, decided, with_decision}
 use Rattle.exact_records.specs.Records.{SymTree}
-use Rattle.exact_records.specs.Spots.{copy_at}
+use Rattle.exact_records.specs.Points.{copy_at}
 use Rattle.path_exec.specs.declared.engine.Offer.{Offer}
 use Rattle.path_exec.specs.declared.engine.Offer.TheVariants.{If, Constrain}
 use Rattle.symbolic_engine.specs.declared.stage.Stage.{Stage}
@@ -31,12 +31,12 @@ pub record IsCopyOf (count : ℕ) (d : Decision) : Type 0 where
 
 -- it waits for the decision
 abbrev pub IsAwaited : Wait → Decision → Type 0
-IsAwaited (Asked gate question test frames) d = (truth : Bool) × (truth_of (asking_of question) d ≡ Some truth)
+IsAwaited (Asked running question test frames) d = (truth : Bool) × (truth_of (asking_of question) d ≡ Some truth)
 IsAwaited (Forked node hops ports) d = IsCopyOf (length ports.now) d
 
 -- the second state is the first behind the decision
 abbrev pub IsNoted : Wait → Symbolic → Decision → Symbolic → Type 0
-IsNoted (Asked gate question test frames) x d y = (formula : Formula) × (view formula ≡ view test) × (y ≡ decided x formula d)
+IsNoted (Asked running question test frames) x d y = (formula : Formula) × (view formula ≡ view test) × (y ≡ decided x formula d)
 IsNoted (Forked node hops ports) x d y = y ≡ with_decision x d
 
 abbrev pub copy_of : Copies LinearTerm FormulaTree → Option ℕ → Option SymTree
@@ -46,8 +46,8 @@ copy_of branches (Some number) = copy_at branches number
 module _ (net : Network) where
   -- what comes behind the decision
   abbrev pub tree_behind : Wait → Symbolic → ℕ → Decision → Option SymTree
-  tree_behind (Asked gate question test frames) x begun d =
-      option_map (λ truth. side_tree net gate question (reverse frames.items) truth x begun) (truth_of (asking_of question) d)
+  tree_behind (Asked running question test frames) x begun d =
+      option_map (λ truth. side_tree net running question (reverse frames.items) truth x begun) (truth_of (asking_of question) d)
   tree_behind (Forked node hops ports) x begun d =
       copy_of (copies (terms x.unknowns) net (onward_of net x.unknowns hops) node ports.now (progress_in x begun)) (number_of d)
 
@@ -57,5 +57,5 @@ module _ (net : Network) where
 
 -- what a question offers
 abbrev pub offer_of : Question → Offer
-offer_of (questions.If turns site first other) = If
+offer_of (questions.If iterations site first other) = If
 offer_of (questions.Constrain site) = Constrain

@@ -11,16 +11,16 @@ ghost use Rattle.sefl_meaning.specs.Values.{Values};
 ghost use Rattle.sefl_meaning.specs.Walks.{place_at};
 ghost use Rattle.sym_state.specs.Symbolic.{with_place};
 ghost use Rattle.code_frames.specs.Frames.{course_frames, exit_of};
-ghost use Rattle.path_exec.specs.Here.{spot_at};
+ghost use Rattle.path_exec.specs.Location.{point_at};
 ghost use Rattle.path_exec.specs.Moves.{IsMove, Reaches};
-ghost use Rattle.symbolic_engine.specs.Origins.{here_of, progress_in};
-ghost use Rattle.symbolic_engine.specs.Stages.{behind_gate, behind_side, from_port, wait_tree};
+ghost use Rattle.symbolic_engine.specs.Origins.{location_of, progress_in};
+ghost use Rattle.symbolic_engine.specs.Stages.{behind_running, behind_side, from_port, wait_tree};
 ghost use Rattle.symbolic_engine.specs.declared.stage.Wait.TheVariants.{Forked as ForkedAt};
 ghost use Rattle.symbolic_engine.specs.Seeing.{standing_at, views_of};
 
 use crate::origin::{Origin, Run};
-use crate::spots::{Finished, Standing, Waiting};
-use crate::stage::{Gate, Stage, Wait};
+use crate::points::{Finished, Standing, Waiting};
+use crate::stage::{Running, Stage, Wait};
 use cell_values::{code_of, failed_at, first_site, hops_behind, link_of};
 use code_frames::{Exit, Frame};
 use net_check::Net;
@@ -44,9 +44,13 @@ fn port_frames<'a>(
 {
     let site = first_site(net, node, side, port)?;
     let code = code_of(net, node, side, port);
-    let turns = Shared::empty();
+    let iterations = Shared::empty();
     let mut frames = Vec::new(alloc);
-    frames.push(Frame::Code { turns, site, code })?;
+    frames.push(Frame::Code {
+        iterations,
+        site,
+        code,
+    })?;
     Ok(frames)
 }
 
@@ -76,8 +80,8 @@ pub(crate) fn arrive<'a, B: Origin>(
     hops: u32,
 ) -> Result<Standing<'a, B>, NoMemory>
     ensures { IfOk result (λ there. (begun : ℕ) → Reaches B.start
-        (spot_at begun (here_of B.start run (λ n. from_port (network net.now) run.unknowns side hops node port (progress_in run n))))
-        (spot_at begun (standing_at B.start (network net.now) there.run there.stage)) there.run.carried) }
+        (point_at begun (location_of B.start run (λ n. from_port (network net.now) run.unknowns side hops node port (progress_in run n))))
+        (point_at begun (standing_at B.start (network net.now) there.run there.stage)) there.run.carried) }
 {
     run.is_own();
     let run = arrived(alloc, run, node, side, port)?;
@@ -86,14 +90,18 @@ pub(crate) fn arrive<'a, B: Origin>(
         return Ok(Standing { run, stage });
     };
     let frames = port_frames(alloc, net, node, side, port)?;
-    let gate = Gate {
+    let running = Running {
         node,
         side,
         port,
         hops: rest,
     };
     let left = None;
-    let stage = Stage::Inside { gate, left, frames };
+    let stage = Stage::Inside {
+        running,
+        left,
+        frames,
+    };
     Ok(Standing { run, stage })
 }
 
@@ -103,7 +111,7 @@ pub(crate) fn ended<'a, B: Origin>(
     how: End,
 ) -> Moved<Standing<'a, B>, Finished<B>, Waiting<'a, B>>
     ensures { (own : Network) (begun : ℕ) → IsMove (views_of B.start own)
-        (spot_at begun (here_of B.start run (λ n. over (progress_in run n) how))) begun result }
+        (point_at begun (location_of B.start run (λ n. over (progress_in run n) how))) begun result }
 {
     run.is_own();
     let over = Finished { run, how };
@@ -119,7 +127,7 @@ fn forked<'a, B: Origin>(
     ports: &'a [u32],
 ) -> Result<Moved<Standing<'a, B>, Finished<B>, Waiting<'a, B>>, NoMemory>
     ensures { IfOk result (λ moved. (own : Network) (begun : ℕ) → IsMove (views_of B.start own)
-        (spot_at begun (here_of B.start run (λ n. wait_tree own (ForkedAt node hops ports.entry) run n))) begun moved) }
+        (point_at begun (location_of B.start run (λ n. wait_tree own (ForkedAt node hops ports.entry) run n))) begun moved) }
 {
     let Ok(copies) = u32::try_from(ports.len()) else {
         return Err(NoMemory);
@@ -137,16 +145,16 @@ pub(crate) fn behind<'a, B: Origin>(
     alloc: Global,
     net: &'a Net,
     run: Run<B>,
-    gate: Gate,
+    running: Running,
     exit: Exit<'a>,
 ) -> Result<Moved<Standing<'a, B>, Finished<B>, Waiting<'a, B>>, NoMemory>
     ensures { IfOk result (λ moved. (begun : ℕ) → IsMove (views_of B.start (network net.now))
-        (spot_at begun (here_of B.start run (λ n. behind_gate (network net.now) run.unknowns gate (exit_of exit.entry)
+        (point_at begun (location_of B.start run (λ n. behind_running (network net.now) run.unknowns running (exit_of exit.entry)
         (progress_in run n)))) begun moved) }
 {
-    match gate.side {
-        Side::Inward => passed(alloc, net, run, gate, exit),
-        Side::Outward => crossed(alloc, net, run, gate, exit),
+    match running.side {
+        Side::Inward => passed(alloc, net, run, running, exit),
+        Side::Outward => crossed(alloc, net, run, running, exit),
     }
 }
 
@@ -155,20 +163,28 @@ fn passed<'a, B: Origin>(
     alloc: Global,
     net: &'a Net,
     run: Run<B>,
-    gate: Gate,
+    running: Running,
     exit: Exit<'a>,
 ) -> Result<Moved<Standing<'a, B>, Finished<B>, Waiting<'a, B>>, NoMemory>
     ensures { IfOk result (λ moved. (begun : ℕ) → IsMove (views_of B.start (network net.now))
-        (spot_at begun (here_of B.start run (λ n. behind_side (network net.now) run.unknowns gate.node gate.port gate.hops AtInput
+        (point_at begun (location_of B.start run (λ n. behind_side (network net.now) run.unknowns running.node running.port running.hops AtInput
         (exit_of exit.entry) (progress_in run n)))) begun moved) }
 {
     match exit {
         Exit::Off => Ok(ended(run, End::Stopped)),
         Exit::Go(port) => {
-            let place = arrive(alloc, net, run, gate.node, Side::Outward, port, gate.hops)?;
+            let place = arrive(
+                alloc,
+                net,
+                run,
+                running.node,
+                Side::Outward,
+                port,
+                running.hops,
+            )?;
             Ok(Moved::Arrived { place })
         }
-        Exit::Forked(ports) => forked(run, gate.node, gate.hops, ports),
+        Exit::Forked(ports) => forked(run, running.node, running.hops, ports),
         Exit::Failed { failure, site } => Ok(ended(run, failed_at(failure, site))),
     }
 }
@@ -178,18 +194,18 @@ fn crossed<'a, B: Origin>(
     alloc: Global,
     net: &'a Net,
     run: Run<B>,
-    gate: Gate,
+    running: Running,
     exit: Exit<'a>,
 ) -> Result<Moved<Standing<'a, B>, Finished<B>, Waiting<'a, B>>, NoMemory>
     ensures { IfOk result (λ moved. (begun : ℕ) → IsMove (views_of B.start (network net.now))
-        (spot_at begun (here_of B.start run (λ n. behind_side (network net.now) run.unknowns gate.node gate.port gate.hops AtOutput
+        (point_at begun (location_of B.start run (λ n. behind_side (network net.now) run.unknowns running.node running.port running.hops AtOutput
         (exit_of exit.entry) (progress_in run n)))) begun moved) }
 {
     match exit {
-        Exit::Off => match link_of(net, gate.node, gate.port) {
+        Exit::Off => match link_of(net, running.node, running.port) {
             None => Ok(ended(run, End::Delivered)),
             Some((node, port)) => {
-                let place = arrive(alloc, net, run, node, Side::Inward, port, gate.hops)?;
+                let place = arrive(alloc, net, run, node, Side::Inward, port, running.hops)?;
                 Ok(Moved::Arrived { place })
             }
         },

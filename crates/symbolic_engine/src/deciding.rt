@@ -4,7 +4,7 @@ ghost use Rattle.std.specs.Prelude.{◌≡◌, IfOk, IfSome, option_map};
 ghost use Rattle.path_cond.specs.Seen.{seen};
 ghost use Rattle.path_formula.specs.View.{view};
 ghost use Rattle.path_solver.specs.Bases.{IsBaseOf};
-ghost use Rattle.exact_records.specs.Spots.{IsKnown};
+ghost use Rattle.exact_records.specs.Points.{IsKnown};
 ghost use Rattle.symbolic_engine.specs.Finding.{IsFoundOf, values_in, broken_in};
 ghost use Rattle.symbolic_engine.specs.Origins.{condition_seen};
 

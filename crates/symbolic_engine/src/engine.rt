@@ -4,10 +4,10 @@ ghost use Rattle.std.specs.Prelude.{◌≡◌, ℕ, List, Some, length, reverse}
 ghost use Rattle.net_check.specs.Network.{network};
 ghost use Rattle.sefl_meaning.specs.declared.walk.Decision.{Decision as ADecision};
 ghost use Rattle.exact_records.specs.Records.{pruned};
-ghost use Rattle.exact_records.specs.Spots.{filled_verdict};
+ghost use Rattle.exact_records.specs.Points.{filled_verdict};
 ghost use Rattle.path_exec.specs.Following.{IsLed};
 ghost use Rattle.path_exec.specs.Handing.{IsListed, handed};
-ghost use Rattle.path_exec.specs.Here.{spot_at};
+ghost use Rattle.path_exec.specs.Location.{point_at};
 ghost use Rattle.path_exec.specs.Trials.{IsPathOf};
 ghost use Rattle.path_exec.specs.Views.{IsMade};
 ghost use Rattle.symbolic_engine.specs.Origins.{IsFirstState};
@@ -17,7 +17,7 @@ use crate::deciding::{Judged, base_of, find};
 use crate::found::{Before, Found};
 use crate::moving::onward;
 use crate::origin::{Origin, Run};
-use crate::spots::{Finished, Standing, Waiting};
+use crate::points::{Finished, Standing, Waiting};
 use crate::stage::{Stage, same_stage};
 use crate::turning::{noted, stage_behind};
 use net_check::Net;
@@ -184,8 +184,8 @@ impl<'a, B: Origin> Engine for Explorer<'a, B> {
 
     fn path(&self, over: Finished<B>, finding: Rc<Verdict>) -> Found
         ensures { IsListed (reverse over.run.decisions) → (begun : ℕ)
-            → IsLed B.start (reverse over.run.decisions) (spot_at begun (finished_at B.start over.run over.how))
-            → IsPathOf (views_of {origin = B.Origin} B.start B.net) (spot_at begun (finished_at B.start over.run over.how)) finding.value
+            → IsLed B.start (reverse over.run.decisions) (point_at begun (finished_at B.start over.run over.how))
+            → IsPathOf (views_of {origin = B.Origin} B.start B.net) (point_at begun (finished_at B.start over.run over.how)) finding.value
             (handed (reverse over.run.decisions) result) }
     {
         let Finished { run, how } = over;

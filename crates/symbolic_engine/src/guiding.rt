@@ -10,7 +10,7 @@ ghost use Rattle.symbolic_engine.specs.Exploring.{ArrivedFor, FollowedFor};
 
 use crate::engine::Explorer;
 use crate::origin::Origin;
-use crate::spots::{Finished, Standing, Waiting};
+use crate::points::{Finished, Standing, Waiting};
 use net_check::{Injection, Net};
 use path_exec::FollowFault;
 use path_exec::engine::{Next, Offer};

@@ -4,18 +4,18 @@ ghost use Rattle.std.specs.Prelude.{◌≡◌, ℕ, None, reverse, IfOk};
 ghost use Rattle.path_formula.specs.Typed.{IsTyped};
 ghost use Rattle.path_formula.specs.View.{view};
 ghost use Rattle.net_check.specs.Network.{Network, network};
-ghost use Rattle.path_exec.specs.Here.{spot_at};
+ghost use Rattle.path_exec.specs.Location.{point_at};
 ghost use Rattle.path_exec.specs.Moves.{IsMove, Moves};
 ghost use Rattle.symbolic_engine.specs.declared.stage.Wait.TheVariants.{Asked as AskedAt};
-ghost use Rattle.symbolic_engine.specs.Origins.{here_of};
+ghost use Rattle.symbolic_engine.specs.Origins.{location_of};
 ghost use Rattle.symbolic_engine.specs.Stages.{inside_tree, wait_tree};
 ghost use Rattle.symbolic_engine.specs.Turning.{offer_of};
 ghost use Rattle.symbolic_engine.specs.Seeing.{standing_at, views_of};
 
 use crate::arriving::{arrive, behind, ended};
 use crate::origin::{Origin, Run};
-use crate::spots::{Finished, Standing, Waiting};
-use crate::stage::{Gate, Stage, Wait};
+use crate::points::{Finished, Standing, Waiting};
+use crate::stage::{Running, Stage, Wait};
 use code_frames::{Frame, Move, Question, next};
 use net_check::Net;
 use path_exec::engine::{Moved, Next, Offer};
@@ -40,20 +40,20 @@ fn offer_of(question: &Question<'_>) -> Offer
 /// The run waits for the truth of a test.
 fn asked<'a, B: Origin>(
     run: Run<B>,
-    gate: Gate,
+    running: Running,
     question: Question<'a>,
     test: Formula,
     frames: Vec<Frame<'a>>,
 ) -> Moved<Standing<'a, B>, Finished<B>, Waiting<'a, B>>
     requires { IsTyped run.condition.widths (view test) }
     ensures { (own : Network) (begun : ℕ) → IsMove (views_of B.start own)
-        (spot_at begun (here_of B.start run (λ n. wait_tree own (AskedAt gate question.entry test frames.entry) run n))) begun result }
+        (point_at begun (location_of B.start run (λ n. wait_tree own (AskedAt running question.entry test frames.entry) run n))) begun result }
 {
     the_tests_of_types();
     run.is_own();
     let offer = offer_of(&question);
     let wait = Wait::Asked {
-        gate,
+        running,
         question,
         test,
         frames,
@@ -68,20 +68,20 @@ fn run_on<'a, B: Origin, L: Ledger>(
     alloc: Global,
     net: &'a Net,
     run: Run<B>,
-    gate: Gate,
+    running: Running,
     frames: Vec<Frame<'a>>,
     steps: &mut Steps<L>,
 ) -> Result<Moved<Standing<'a, B>, Finished<B>, Waiting<'a, B>>, NoMemory>
     ensures { IfOk result (Moves (views_of B.start (network net.now))
-        (here_of B.start run (λ n. inside_tree (network net.now) gate None (reverse frames.entry.items) run n)) steps.old steps.new) }
+        (location_of B.start run (λ n. inside_tree (network net.now) running None (reverse frames.entry.items) run n)) steps.old steps.new) }
 {
     let mut frames = frames;
     let mut state = run.into_state();
-    let found = next(alloc, &mut state, net, gate.node, &mut frames, steps)?;
+    let found = next(alloc, &mut state, net, running.node, &mut frames, steps)?;
     let run = Run::<B>::of(state);
     match found {
-        Move::Ended(exit) => behind(alloc, net, run, gate, exit),
-        Move::Asked { question, test } => Ok(asked(run, gate, question, test, frames)),
+        Move::Ended(exit) => behind(alloc, net, run, running, exit),
+        Move::Asked { question, test } => Ok(asked(run, running, question, test, frames)),
     }
 }
 
@@ -105,9 +105,13 @@ pub(crate) fn onward<'a, B: Origin, L: Ledger>(
             let place = arrive(alloc, net, run, node, Side::Outward, port, hops)?;
             Ok(Moved::Arrived { place })
         }
-        Stage::Inside { gate, left, frames } => match left {
-            None => run_on(alloc, net, run, gate, frames, steps),
-            Some(exit) => behind(alloc, net, run, gate, exit),
+        Stage::Inside {
+            running,
+            left,
+            frames,
+        } => match left {
+            None => run_on(alloc, net, run, running, frames, steps),
+            Some(exit) => behind(alloc, net, run, running, exit),
         },
         Stage::Cut => Ok(ended(run, End::Cut)),
     }

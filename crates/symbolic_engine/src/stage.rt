@@ -15,7 +15,7 @@ use std::alloc::Global;
 
 /// A port whose code runs, and how many hops are left behind it.
 #[derive(Clone, Copy)]
-pub struct Gate {
+pub struct Running {
     pub node: NodeId,
     pub side: Side,
     pub port: u32,
@@ -39,7 +39,7 @@ pub enum Stage<'a> {
     },
     /// In the code of a port: at an exit, or before what is on the frames.
     Inside {
-        gate: Gate,
+        running: Running,
         left: Option<Exit<'a>>,
         frames: Vec<Frame<'a>>,
     },
@@ -52,7 +52,7 @@ pub enum Stage<'a> {
 pub enum Wait<'a> {
     /// The truth of a test.
     Asked {
-        gate: Gate,
+        running: Running,
         question: Question<'a>,
         test: Formula,
         frames: Vec<Frame<'a>>,
@@ -119,8 +119,12 @@ pub(crate) fn same_stage<'a>(alloc: Global, stage: &Stage<'a>) -> Result<Stage<'
             port: *port,
             hops: *hops,
         }),
-        Stage::Inside { gate, left, frames } => Ok(Stage::Inside {
-            gate: *gate,
+        Stage::Inside {
+            running,
+            left,
+            frames,
+        } => Ok(Stage::Inside {
+            running: *running,
             left: same_left(left)?,
             frames: copied(alloc, frames)?,
         }),

@@ -6,7 +6,7 @@ ghost use Rattle.symbolic_engine.specs.Stages.{has_typed_test};
 ghost use Rattle.symbolic_engine.specs.Turning.{IsAwaited, IsNoted, IsStageBehind};
 
 use crate::origin::{Origin, Run};
-use crate::spots::Waiting;
+use crate::points::Waiting;
 use crate::stage::{Stage, Wait};
 use code_frames::{answer, copied};
 use net_check::Net;
@@ -74,15 +74,19 @@ pub(crate) fn stage_behind<'a>(
 {
     match wait {
         Wait::Asked {
-            gate,
+            running,
             question,
             test: _,
             frames,
         } => {
             let mut frames = copied(alloc, frames)?;
             let left = answer::<SymState>(question, holds(decision), &mut frames)?;
-            let gate = *gate;
-            Ok(Stage::Inside { gate, left, frames })
+            let running = *running;
+            Ok(Stage::Inside {
+                running,
+                left,
+                frames,
+            })
         }
         Wait::Forked { node, hops, ports } => {
             let Decision::Copy(number) = decision else {

@@ -3,7 +3,7 @@
 ghost use Rattle.std.specs.Prelude.{◌≡◌, length, option_map, reverse, IfOk};
 ghost use Rattle.sefl_meaning.specs.Fields.{fields_of};
 ghost use Rattle.exact_records.specs.Records.{path, pruned, unexplored};
-ghost use Rattle.exact_records.specs.Spots.{filled, filled_cause, filled_verdict};
+ghost use Rattle.exact_records.specs.Points.{filled, filled_cause, filled_verdict};
 ghost use Rattle.exact_records.specs.View.{record_tree};
 ghost use Rattle.symbolic_engine.specs.Finds.{filled_before};
 

@@ -8,7 +8,7 @@ use instr_steps::{
     truth_of, value_of, width_of as width_at,
 };
 use net_check::{Accepted, Net};
-use sefl_meaning::{State, Turn};
+use sefl_meaning::{Iteration, State};
 use sefl_syntax::{Body, Cond, Instr, Job, Name, Target};
 use sn_tree::Shared;
 use sn_width::{LayoutFault, NameId, NodeId, Num, StepFault};
@@ -18,18 +18,18 @@ use std::process::Abort;
 /// One box, one tag T and one metadata name m.
 const JOB: &str = "symnet 1; node a 1 -> 0 { } inject a.0 { tag T = 100; field global m:8; }";
 
-/// A packet in the box, in the turns of the Fors round it.
+/// A packet in the box, in the iterations of the Fors round it.
 #[derive(Drop)]
 struct Here {
     job: Accepted,
-    turns: Shared<Turn>,
+    iterations: Shared<Iteration>,
     state: State,
 }
 
-fn at_start(rt: &impl Abort, alloc: Global, turns: Shared<Turn>) -> Here {
+fn at_start(rt: &impl Abort, alloc: Global, iterations: Shared<Iteration>) -> Here {
     Here {
         job: accepted(rt, alloc, JOB),
-        turns,
+        iterations,
         state: nothing(),
     }
 }
@@ -50,11 +50,11 @@ fn first_of(job: &Job) -> Option<&Instr> {
     node.codes.first()?.code.first()
 }
 
-fn scene<'a>(net: &'a Net, node: u32, turns: &'a Shared<Turn>) -> Scene<'a> {
+fn scene<'a>(net: &'a Net, node: u32, iterations: &'a Shared<Iteration>) -> Scene<'a> {
     Scene {
         net,
         node: NodeId(node),
-        turns,
+        iterations,
     }
 }
 
@@ -73,15 +73,15 @@ fn layout_fault(rt: &impl Abort, fault: StepFault) -> LayoutFault {
     }
 }
 
-/// In the turn of a For with the variable v at the local m of the box.
-fn turn(rt: &impl Abort, alloc: Global) -> Shared<Turn> {
+/// In the iteration of a For with the variable v at the local m of the box.
+fn iteration(rt: &impl Abort, alloc: Global) -> Shared<Iteration> {
     let name = Name::of(alloc, "v").expect(rt, "memory");
-    let turn = Turn {
+    let iteration = Iteration {
         var: name.expect(rt, "a name"),
         owner: Some(NodeId(0)),
         name: NameId(0),
     };
-    Shared::empty().push(alloc, turn).expect(rt, "memory")
+    Shared::empty().push(alloc, iteration).expect(rt, "memory")
 }
 
 /// What an instruction answers; of a Constrain what its condition does, 1 for true.
@@ -132,8 +132,12 @@ fn truth(rt: &impl Abort, alloc: Global, at: &Scene<'_>, state: &State, test: &C
 
 /// What an instruction does with the packet.
 fn done(rt: &impl Abort, alloc: Global, here: &mut Here, instr: &Instr) -> Answer {
-    let Here { job, turns, state } = here;
-    answer(rt, alloc, &scene(&job.net, 0, turns), state, instr)
+    let Here {
+        job,
+        iterations,
+        state,
+    } = here;
+    answer(rt, alloc, &scene(&job.net, 0, iterations), state, instr)
 }
 
 /// Runs the instruction of the text, which has this answer.
@@ -156,7 +160,7 @@ fn value(rt: &impl Abort, alloc: Global, here: &Here, node: u32, instr: &Instr) 
     let Instr::Assign { value, .. } = instr else {
         panic!(rt; "not an assignment")
     };
-    let at = scene(&here.job.net, node, &here.turns);
+    let at = scene(&here.job.net, node, &here.iterations);
     let width = width_of(rt, 8);
     match value_of(alloc, &numbers(), &at, &here.state, width, value) {
         Ok(value) => Ok(value),
@@ -224,8 +228,12 @@ fn allocated<'a>(rt: &impl Abort, job: &'a Job) -> &'a Target {
 
 /// Puts 7 into the cell, which has 8 bits.
 fn put_seven(rt: &impl Abort, alloc: Global, here: &mut Here, cell: &Target) {
-    let Here { job, turns, state } = here;
-    let step = put(alloc, &scene(&job.net, 0, turns), state, cell, 7);
+    let Here {
+        job,
+        iterations,
+        state,
+    } = here;
+    let step = put(alloc, &scene(&job.net, 0, iterations), state, cell, 7);
     assert!(rt; step == Ok(()));
 }
 
@@ -276,7 +284,7 @@ const OF_VARIABLE: &[(u32, &str, Answer)] = &[
 
 #[test]
 fn a_variable_stands_for_metadata_of_its_box(rt: HostRuntime) {
-    let mut here = at_start(&rt, rt.alloc(), turn(&rt, rt.alloc()));
+    let mut here = at_start(&rt, rt.alloc(), iteration(&rt, rt.alloc()));
     assert_steps(&rt, rt.alloc(), &mut here, CHOSEN);
     assert_values(&rt, rt.alloc(), &here, OF_VARIABLE);
     drop(here);

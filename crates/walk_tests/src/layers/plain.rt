@@ -311,9 +311,9 @@ fn nothing(alloc: Global) -> Both {
 fn calls_answer_as_on_plain_lists(rt: HostRuntime) {
     let alloc = rt.alloc();
     let mut both = nothing(alloc);
-    for turn in 0..10_000 {
+    for iteration in 0..10_000 {
         answer(&rt, alloc, &mut both);
-        if turn % 500 == 499 {
+        if iteration % 500 == 499 {
             assert_tags(&rt, alloc, &both);
             assert_cells(&rt, alloc, &both);
         }

@@ -14,21 +14,21 @@ carried-requires c =
     let raw = c.raw-raw.result.now in
     let carried = c.accepted_injections_go.ensures.carries (numbers v (unknown_count (entry p))) net (entry p) c.requires c.keeps_the_rules.ensures.widths in
     goes net p v raw c.deref.result.now raw.tests.items
-    c.unknowns-unknowns.result c.place.result.0 c.empty-turns.result c.raw-raw.ensures c.deref.ensures.value refl
-    c.unknowns-unknowns.ensures (ap (λ (q : NodeId × ℕ). q.0) c.place.ensures) c.empty-turns.ensures carried.0 carried.1
+    c.unknowns-unknowns.result c.place.result.0 c.empty-iterations.result c.raw-raw.ensures c.deref.ensures.value refl
+    c.unknowns-unknowns.ensures (ap (λ (q : NodeId × ℕ). q.0) c.place.ensures) c.empty-iterations.ensures carried.0 carried.1
 
 pub returns-in-Some-2 : goal.returns-in-Some-2
 returns-in-Some-2 c = (
   carried_of c.in_ok-state.state,
   starts_but (network c.args.net.now) c.args.injection.now c.args.values.now c.raw-raw.result.now c.deref.result.now c.deref-2.result.now
-      c.unknowns-unknowns.result c.place.result.0 c.empty-turns.result c.raw-raw.ensures c.deref.ensures.value c.deref-2.ensures.value
-      c.unknowns-unknowns.ensures (ap (λ (q : NodeId × ℕ). q.0) c.place.ensures) c.empty-turns.ensures
+      c.unknowns-unknowns.result c.place.result.0 c.empty-iterations.result c.raw-raw.ensures c.deref.ensures.value c.deref-2.ensures.value
+      c.unknowns-unknowns.ensures (ap (λ (q : NodeId × ℕ). q.0) c.place.ensures) c.empty-iterations.ensures
       (carried_of c.in_ok-state.state) c.in-Some-2.index c.in_default.ensures c.in_ok-state.ensures (rw c.in-Some-2.is at c.in_ok-index.ensures),
 )
 
 pub returns : goal.returns
 returns c =
     starts (network c.args.net.now) c.args.injection.now c.args.values.now c.raw-raw.result.now c.deref.result.now c.deref-2.result.now
-    c.unknowns-unknowns.result c.place.result.0 c.empty-turns.result c.raw-raw.ensures c.deref.ensures.value c.deref-2.ensures.value
-    c.unknowns-unknowns.ensures (ap (λ (q : NodeId × ℕ). q.0) c.place.ensures) c.empty-turns.ensures
+    c.unknowns-unknowns.result c.place.result.0 c.empty-iterations.result c.raw-raw.ensures c.deref.ensures.value c.deref-2.ensures.value
+    c.unknowns-unknowns.ensures (ap (λ (q : NodeId × ℕ). q.0) c.place.ensures) c.empty-iterations.ensures
     (carried_of c.in_ok-state.state) c.in_default.ensures c.in_ok-state.ensures (rw c.in-None.is at c.in_ok-index.ensures)

@@ -2,7 +2,7 @@ use Rattle.std.proofs.Common.{ℕ, Bool, List, [], ◌∷◌, ◌++◌, Option, 
 use Rattle.sefl_syntax.specs.Views.{code_tree}
 use Rattle.net_check.specs.Network.{network}
 use Rattle.sefl_meaning.specs.declared.walk.Decision.{Decision}
-use Rattle.sefl_meaning.specs.declared.walk.Turn.{Turn}
+use Rattle.sefl_meaning.specs.declared.walk.Iteration.{Iteration}
 use Rattle.sefl_meaning.specs.Carried.{scene_at}
 use Rattle.sefl_meaning.specs.Runs.{noting, run_code}
 use Rattle.sefl_meaning.specs.Values.{Values, numbers}
@@ -24,7 +24,7 @@ loop-frames-init g c =
       way = begun v u net c.args.node (λ site code p. c.runs_are_ways.ensures.code v u site (scene_at net c.args.node) code p)
           c.new-frames.result.items c.push.new.self.items _ c.args.site (code_tree c.args.code.now) first.decisions.items (carried_of first.state) first.choices.items
           c.new-frames.ensures.items c.in_ok-push.ensures.items
-          (λ p. ap (λ (turns : List Turn). of_code (numbers v u) net c.args.node turns c.args.site (code_tree c.args.code.now) p) c.empty-turns.ensures);
+          (λ p. ap (λ (iterations : List Iteration). of_code (numbers v u) net c.args.node iterations c.args.site (code_tree c.args.code.now) p) c.empty-iterations.ensures);
       given = refl;
     }
 

@@ -1,7 +1,7 @@
 use Rattle.std.proofs.Common.{rules, ap, arith, subst, sym, ◌≡◌, ◌∙◌, ◌++◌, ◌∷◌, []}
 use Rattle.exact_records.specs.Records.{unexplored}
 use Rattle.path_exec.specs.Views.{IsMade}
-use Rattle.path_exec.proofs.Taking.{popped_works, put_back_works}
+use Rattle.path_exec.proofs.Taking.{popped_open_nodes, put_back_open_nodes}
 use Rattle.path_exec.proofs.Endings.{same_then, takes_still}
 use Rattle.path_exec.proofs.Leaving.{leaves_done, leaves_early, leaves_falls, leaves_next, leaves_popped, leaves_stopped, left_made}
 use Rattle.path_exec.specs.Handing.{IsListed, handed}
@@ -11,16 +11,16 @@ use Rattle.path_exec.proofs.exploration.leave.Goals as goal
 pub put_back-requires : goal.put_back-requires
 put_back-requires g c =
     let x = g.E.Engine.views c.args.engine.now in
-    let popped : c.loop-next.works.items ≡ c.pop.new.self.items ++ c.in-Some.next ∷ [] = c.in-Some.ensures.items in
-    (popped_works x c.loop-next.works.items c.pop.new.self.items c.in-Some.next popped c.loop-next.invariant.works).0.left
+    let popped : c.loop-next.open_nodes.items ≡ c.pop.new.self.items ++ c.in-Some.next ∷ [] = c.in-Some.ensures.items in
+    (popped_open_nodes x c.loop-next.open_nodes.items c.pop.new.self.items c.in-Some.next popped c.loop-next.invariant.open_nodes).0.left
 
 pub see-requires : goal.see-requires
 see-requires g c =
     let x = g.E.Engine.views c.args.engine.now in
-    let popped : c.loop-next.works.items ≡ c.pop.new.self.items ++ c.in-Some.next ∷ [] = c.in-Some.ensures.items in
+    let popped : c.loop-next.open_nodes.items ≡ c.pop.new.self.items ++ c.in-Some.next ∷ [] = c.in-Some.ensures.items in
     let d = c.offer_at-decision.result in
     let now = c.turn_to.new.course in
-    let on = popped_course x c.loop-next.course.items c.loop-next.works.items c.pop.new.self.items c.in-Some.next popped c.loop-next.invariant.course in
+    let on = popped_course x c.loop-next.course.items c.loop-next.open_nodes.items c.pop.new.self.items c.in-Some.next popped c.loop-next.invariant.course in
     let numbered = numbered_turned x c.loop-next.course.items now.items c.in-Some.next d on.0 c.in_ok-turn_to.ensures.turned c.loop-next.invariant.course.numbered c.in_ok-turn_to.ensures.numbered in
     c.loop-next.invariant.takes (handed c.deref.result.now c.unexplored-found.result)
     (c.unexplored-found.ensures c.deref.result.now (subst IsListed (sym c.deref.ensures.value) (listed now numbered))).own
@@ -47,11 +47,11 @@ loop-next-preserved g c =
     let seen = g.K.Observer.seen in
     let m = seen c.loop-next.out in
     let n = seen c.see.new.self in
-    let popped : c.loop-next.works.items ≡ c.pop.new.self.items ++ c.in-Some.next ∷ [] = c.in-Some.ensures.items in
-    let works = popped_works x c.loop-next.works.items c.pop.new.self.items c.in-Some.next popped c.loop-next.invariant.works in
+    let popped : c.loop-next.open_nodes.items ≡ c.pop.new.self.items ++ c.in-Some.next ∷ [] = c.in-Some.ensures.items in
+    let open_nodes = popped_open_nodes x c.loop-next.open_nodes.items c.pop.new.self.items c.in-Some.next popped c.loop-next.invariant.open_nodes in
     let d = c.offer_at-decision.result in
     let now = c.turn_to.new.course in
-    let on = popped_course x c.loop-next.course.items c.loop-next.works.items c.pop.new.self.items c.in-Some.next popped c.loop-next.invariant.course in
+    let on = popped_course x c.loop-next.course.items c.loop-next.open_nodes.items c.pop.new.self.items c.in-Some.next popped c.loop-next.invariant.course in
     let numbered = numbered_turned x c.loop-next.course.items now.items c.in-Some.next d on.0 c.in_ok-turn_to.ensures.turned c.loop-next.invariant.course.numbered c.in_ok-turn_to.ensures.numbered in
     let item = handed c.deref.result.now c.unexplored-found.result in
     let made = subst (λ ds. IsMade x (unexplored ds) item)
@@ -59,21 +59,21 @@ loop-next-preserved g c =
     ∙ ap (λ e. (x.node_at c.in-Some.next.node).decisions ++ e ∷ []) c.offer_at-decision.ensures))
     (c.unexplored-found.ensures c.deref.result.now (subst IsListed (sym c.deref.ensures.value) (listed now numbered))) in
     record {
-      works = put_back_works x c.in-Some.next c.pop.new.self.items c.put_back.new.works.items works.0 c.in_ok-put_back.ensures works.1;
-      course = put_back_course x c.loop-next.course.items now.items c.in-Some.next d c.pop.new.self.items c.put_back.new.works.items on.0 c.in_ok-turn_to.ensures.turned
+      open_nodes = put_back_open_nodes x c.in-Some.next c.pop.new.self.items c.put_back.new.open_nodes.items open_nodes.0 c.in_ok-put_back.ensures open_nodes.1;
+      course = put_back_course x c.loop-next.course.items now.items c.in-Some.next d c.pop.new.self.items c.put_back.new.open_nodes.items on.0 c.in_ok-turn_to.ensures.turned
           c.loop-next.invariant.course.numbered c.in_ok-turn_to.ensures.numbered c.in_ok-put_back.ensures on.1;
       takes = takes_still x m n c.in-More.ensures.same c.loop-next.invariant.takes;
       same = same_then (seen c.args.out.now) m n c.loop-next.invariant.same c.in-More.ensures.same;
-      leaves = λ before after h. leaves_next x below exact c.args.limit m n c.loop-next.works.items c.pop.new.self.items c.put_back.new.works.items c.in-Some.next popped works.0 c.in_ok-put_back.ensures
+      leaves = λ before after h. leaves_next x below exact c.args.limit m n c.loop-next.open_nodes.items c.pop.new.self.items c.put_back.new.open_nodes.items c.in-Some.next popped open_nodes.0 c.in_ok-put_back.ensures
           before after item made c.in-More.ensures.took (c.loop-next.invariant.leaves before after h);
     }
 
 pub loop-next-smaller : goal.loop-next-smaller
 loop-next-smaller g c =
     let x = g.E.Engine.views c.args.engine.now in
-    let popped : c.loop-next.works.items ≡ c.pop.new.self.items ++ c.in-Some.next ∷ [] = c.in-Some.ensures.items in
-    let works = popped_works x c.loop-next.works.items c.pop.new.self.items c.in-Some.next popped c.loop-next.invariant.works in
-    leaves_falls x c.loop-next.works.items c.pop.new.self.items c.put_back.new.works.items c.in-Some.next popped works.0 c.in_ok-put_back.ensures
+    let popped : c.loop-next.open_nodes.items ≡ c.pop.new.self.items ++ c.in-Some.next ∷ [] = c.in-Some.ensures.items in
+    let open_nodes = popped_open_nodes x c.loop-next.open_nodes.items c.pop.new.self.items c.in-Some.next popped c.loop-next.invariant.open_nodes in
+    leaves_falls x c.loop-next.open_nodes.items c.pop.new.self.items c.put_back.new.open_nodes.items c.in-Some.next popped open_nodes.0 c.in_ok-put_back.ensures
 
 pub returns-in-Stop-clause-left : goal.returns-in-Stop-clause-left
 returns-in-Stop-clause-left g c =
@@ -83,11 +83,11 @@ returns-in-Stop-clause-left g c =
     let seen = g.K.Observer.seen in
     let m = seen c.loop-next.out in
     let n = seen c.see.new.self in
-    let popped : c.loop-next.works.items ≡ c.pop.new.self.items ++ c.in-Some.next ∷ [] = c.in-Some.ensures.items in
-    let works = popped_works x c.loop-next.works.items c.pop.new.self.items c.in-Some.next popped c.loop-next.invariant.works in
+    let popped : c.loop-next.open_nodes.items ≡ c.pop.new.self.items ++ c.in-Some.next ∷ [] = c.in-Some.ensures.items in
+    let open_nodes = popped_open_nodes x c.loop-next.open_nodes.items c.pop.new.self.items c.in-Some.next popped c.loop-next.invariant.open_nodes in
     let d = c.offer_at-decision.result in
     let now = c.turn_to.new.course in
-    let on = popped_course x c.loop-next.course.items c.loop-next.works.items c.pop.new.self.items c.in-Some.next popped c.loop-next.invariant.course in
+    let on = popped_course x c.loop-next.course.items c.loop-next.open_nodes.items c.pop.new.self.items c.in-Some.next popped c.loop-next.invariant.course in
     let numbered = numbered_turned x c.loop-next.course.items now.items c.in-Some.next d on.0 c.in_ok-turn_to.ensures.turned c.loop-next.invariant.course.numbered c.in_ok-turn_to.ensures.numbered in
     let item = handed c.deref.result.now c.unexplored-found.result in
     let made = subst (λ ds. IsMade x (unexplored ds) item)
@@ -95,9 +95,9 @@ returns-in-Stop-clause-left g c =
     ∙ ap (λ e. (x.node_at c.in-Some.next.node).decisions ++ e ∷ []) c.offer_at-decision.ensures))
     (c.unexplored-found.ensures c.deref.result.now (subst IsListed (sym c.deref.ensures.value) (listed now numbered))) in
     let took = c.in-Stop.ensures.took in
-    let left = left_made x c.in-Some.next works.0 item made in
+    let left = left_made x c.in-Some.next open_nodes.0 item made in
     λ before after h. leaves_stopped x below exact c.args.limit (seen c.args.out.now).stops m n _ _ before after item left took.1
-    (let s = c.loop-next.invariant.same.stops in let t = took.0 in omega (arith, s, t)) (leaves_popped x c.args.limit m c.loop-next.works.items c.pop.new.self.items c.put_back.new.works.items c.in-Some.next popped works.0
+    (let s = c.loop-next.invariant.same.stops in let t = took.0 in omega (arith, s, t)) (leaves_popped x c.args.limit m c.loop-next.open_nodes.items c.pop.new.self.items c.put_back.new.open_nodes.items c.in-Some.next popped open_nodes.0
     c.in_ok-put_back.ensures before after (c.loop-next.invariant.leaves before after h))
 
 pub returns-in-NoMemory-clause-left : goal.returns-in-NoMemory-clause-left

@@ -1,7 +1,7 @@
 use Rattle.std.proofs.Common.{arith, refl, sym, ap, subst, ◌∙◌, ◌≡◌, ◌++◌, ◌∷◌, take, drop, get_or, suc, drop-cons, take_all}
 use Rattle.std.proofs.lemmas.List.{take-append-drop, length-take-le}
 use Rattle.sefl_meaning.specs.declared.walk.Decision.TheVariants.{Then}
-use Rattle.exact_records.specs.Spots.{Spot}
+use Rattle.exact_records.specs.Points.{Point}
 use Rattle.path_exec.specs.Following.{LeadsTo, Turns}
 use Rattle.path_exec.proofs.Guiding.{impossible_at, starts_at}
 use Rattle.path_exec.proofs.guided.follow.Goals as goal
@@ -13,7 +13,7 @@ pub loop-decision-init : goal.loop-decision-init
 loop-decision-init g c =
     let x = g.E.Engine.views c.args.engine.now in
     record {
-      led = subst (λ ds. LeadsTo x ds c.in_ok-next.next) (ap (λ (a : Spot). a.decisions) c.in_ok-place.ensures) c.in_ok-next.ensures;
+      led = subst (λ ds. LeadsTo x ds c.in_ok-next.next) (ap (λ (a : Point). a.decisions) c.in_ok-place.ensures) c.in_ok-next.ensures;
       counted = refl;
     }
 

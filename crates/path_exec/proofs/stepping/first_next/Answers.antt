@@ -1,6 +1,6 @@
 use Rattle.std.proofs.Common.{ap, subst}
 use Rattle.std.proofs.lemmas.Result.{IfOk-weaker}
-use Rattle.exact_records.specs.Spots.{Spot}
+use Rattle.exact_records.specs.Points.{Point}
 use Rattle.path_exec.specs.Following.{LeadsTo}
 use Rattle.path_exec.proofs.Guiding.{starts_at}
 use Rattle.path_exec.proofs.stepping.first_next.Goals as goal
@@ -11,4 +11,4 @@ arrived-requires g c = starts_at (g.E.Engine.views c.args.engine.now) c.in_ok-pl
 pub returns : goal.returns
 returns g c =
     let x = g.E.Engine.views c.args.engine.now in
-    IfOk-weaker c.arrived.result _ _ (λ next h. subst (λ ds. LeadsTo x ds next) (ap (λ (a : Spot). a.decisions) c.in_ok-place.ensures) h) c.arrived.ensures
+    IfOk-weaker c.arrived.result _ _ (λ next h. subst (λ ds. LeadsTo x ds next) (ap (λ (a : Point). a.decisions) c.in_ok-place.ensures) h) c.arrived.ensures

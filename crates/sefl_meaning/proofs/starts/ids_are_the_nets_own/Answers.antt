@@ -14,7 +14,7 @@ returns-clause-injection g c = λ o net i one s is.
     let there = c.packets_enter_a_node.ensures net i one in
     let scene : IsOwnScene (scene_at net i.node) = record {
       node = there;
-      turns = tt;
+      iterations = tt;
       found = λ pattern. ids_below (length net.names.metas) 0 (names_found net pattern) (c.found_names_ascend.ensures net (one.0, one.1, one.2) pattern);
     } in
     (there, subst (λ r. IfOk r (CarriesOwn net)) is (injection_own o (scene_at net i.node) scene i.own (c.names_are_known.ensures.injection net i one)))

@@ -14,10 +14,10 @@ returns-in-Inward g c =
     let s = g.B.Origin.start in
     let net = network c.args.net.now in
     let x = c.args.run in
-    let gate = c.args.gate in
+    let running = c.args.running in
     IfOk-weaker c.passed.result _ _
     (λ moved m begun. other_tree (views_of {origin = g.B.Origin} s net) s x _ _ begun begun moved
-    (ap (λ (side : Side). behind_side net x.unknowns gate.node gate.port gate.hops side (exit_of c.args.exit) (progress_in x begun)) c.in-Inward.is) (m begun))
+    (ap (λ (side : Side). behind_side net x.unknowns running.node running.port running.hops side (exit_of c.args.exit) (progress_in x begun)) c.in-Inward.is) (m begun))
     c.passed.ensures
 
 pub returns-in-Outward : goal.returns-in-Outward
@@ -25,8 +25,8 @@ returns-in-Outward g c =
     let s = g.B.Origin.start in
     let net = network c.args.net.now in
     let x = c.args.run in
-    let gate = c.args.gate in
+    let running = c.args.running in
     IfOk-weaker c.crossed.result _ _
     (λ moved m begun. other_tree (views_of {origin = g.B.Origin} s net) s x _ _ begun begun moved
-    (ap (λ (side : Side). behind_side net x.unknowns gate.node gate.port gate.hops side (exit_of c.args.exit) (progress_in x begun)) c.in-Outward.is) (m begun))
+    (ap (λ (side : Side). behind_side net x.unknowns running.node running.port running.hops side (exit_of c.args.exit) (progress_in x begun)) c.in-Outward.is) (m begun))
     c.crossed.ensures

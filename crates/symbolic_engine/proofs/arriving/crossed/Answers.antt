@@ -23,10 +23,10 @@ returns-in-None g c = λ begun.
     let s = g.B.Origin.start in
     let net = network c.args.net.now in
     let x = c.args.run in
-    let gate = c.args.gate in
+    let running = c.args.running in
     other_tree (views_of {origin = g.B.Origin} s net) s x _ _ begun begun c.ended.result
-    (ap (λ (e : Exit). behind_side net x.unknowns gate.node gate.port gate.hops Outward (exit_of e) (progress_in x begun)) c.in-Off.is
-    ∙ ap (λ (l : Option (NodeId × ℕ)). crossed (terms x.unknowns) net (onward_of net x.unknowns gate.hops) l off (progress_in x begun)) (sym c.link_of.ensures ∙ c.in-None.is))
+    (ap (λ (e : Exit). behind_side net x.unknowns running.node running.port running.hops Outward (exit_of e) (progress_in x begun)) c.in-Off.is
+    ∙ ap (λ (l : Option (NodeId × ℕ)). crossed (terms x.unknowns) net (onward_of net x.unknowns running.hops) l off (progress_in x begun)) (sym c.link_of.ensures ∙ c.in-None.is))
     (c.ended.ensures net begun)
 
 pub returns-in_ok-place-in-Some : goal.returns-in_ok-place-in-Some
@@ -34,10 +34,10 @@ returns-in_ok-place-in-Some g c = λ begun.
     let s = g.B.Origin.start in
     let net = network c.args.net.now in
     let x = c.args.run in
-    let gate = c.args.gate in
+    let running = c.args.running in
     other_tree (views_of {origin = g.B.Origin} s net) s x _ _ begun begun (Arrived c.in_ok-place-in-Some.place)
-    (ap (λ (e : Exit). behind_side net x.unknowns gate.node gate.port gate.hops Outward (exit_of e) (progress_in x begun)) c.in-Off.is
-    ∙ ap (λ (l : Option (NodeId × ℕ)). crossed (terms x.unknowns) net (onward_of net x.unknowns gate.hops) l off (progress_in x begun)) (sym c.link_of.ensures ∙ c.in-Some.is))
+    (ap (λ (e : Exit). behind_side net x.unknowns running.node running.port running.hops Outward (exit_of e) (progress_in x begun)) c.in-Off.is
+    ∙ ap (λ (l : Option (NodeId × ℕ)). crossed (terms x.unknowns) net (onward_of net x.unknowns running.hops) l off (progress_in x begun)) (sym c.link_of.ensures ∙ c.in-Some.is))
     (c.in_ok-place-in-Some.ensures begun)
 
 pub returns-in-Failed : goal.returns-in-Failed
@@ -45,9 +45,9 @@ returns-in-Failed g c = λ begun.
     let s = g.B.Origin.start in
     let net = network c.args.net.now in
     let x = c.args.run in
-    let gate = c.args.gate in
+    let running = c.args.running in
     other_tree (views_of {origin = g.B.Origin} s net) s x _ _ begun begun c.ended-in-Failed.result
-    (ap (λ (e : Exit). behind_side net x.unknowns gate.node gate.port gate.hops Outward (exit_of e) (progress_in x begun)) c.in-Failed.is ∙ crossed_failed net x.unknowns gate.hops (progress_in x begun) (link_of net gate.node gate.port) c.in-Failed.failure c.in-Failed.site
+    (ap (λ (e : Exit). behind_side net x.unknowns running.node running.port running.hops Outward (exit_of e) (progress_in x begun)) c.in-Failed.is ∙ crossed_failed net x.unknowns running.hops (progress_in x begun) (link_of net running.node running.port) c.in-Failed.failure c.in-Failed.site
     ∙ ap (λ (how : End). over (progress_in x begun) how) (sym c.failed_at.ensures))
     (c.ended-in-Failed.ensures net begun)
 
@@ -56,9 +56,9 @@ returns-in-Go g c = λ begun.
     let s = g.B.Origin.start in
     let net = network c.args.net.now in
     let x = c.args.run in
-    let gate = c.args.gate in
+    let running = c.args.running in
     other_tree (views_of {origin = g.B.Origin} s net) s x _ _ begun begun c.ended-in-Go.result
-    (ap (λ (e : Exit). behind_side net x.unknowns gate.node gate.port gate.hops Outward (exit_of e) (progress_in x begun)) c.in-Go.is ∙ crossed_go net x.unknowns gate.hops (progress_in x begun) (link_of net gate.node gate.port) c.in-Go.field-0)
+    (ap (λ (e : Exit). behind_side net x.unknowns running.node running.port running.hops Outward (exit_of e) (progress_in x begun)) c.in-Go.is ∙ crossed_go net x.unknowns running.hops (progress_in x begun) (link_of net running.node running.port) c.in-Go.field-0)
     (c.ended-in-Go.ensures net begun)
 
 pub returns-in-Forked : goal.returns-in-Forked
@@ -66,7 +66,7 @@ returns-in-Forked g c = λ begun.
     let s = g.B.Origin.start in
     let net = network c.args.net.now in
     let x = c.args.run in
-    let gate = c.args.gate in
+    let running = c.args.running in
     other_tree (views_of {origin = g.B.Origin} s net) s x _ _ begun begun c.ended-in-Forked.result
-    (ap (λ (e : Exit). behind_side net x.unknowns gate.node gate.port gate.hops Outward (exit_of e) (progress_in x begun)) c.in-Forked.is ∙ crossed_forked net x.unknowns gate.hops (progress_in x begun) (link_of net gate.node gate.port) c.in-Forked.field-0.now)
+    (ap (λ (e : Exit). behind_side net x.unknowns running.node running.port running.hops Outward (exit_of e) (progress_in x begun)) c.in-Forked.is ∙ crossed_forked net x.unknowns running.hops (progress_in x begun) (link_of net running.node running.port) c.in-Forked.field-0.now)
     (c.ended-in-Forked.ensures net begun)

@@ -18,9 +18,9 @@ returns-in-Off g c = λ begun.
     let s = g.B.Origin.start in
     let net = network c.args.net.now in
     let x = c.args.run in
-    let gate = c.args.gate in
+    let running = c.args.running in
     other_tree (views_of {origin = g.B.Origin} s net) s x _ _ begun begun c.ended.result
-    (ap (λ (e : Exit). behind_side net x.unknowns gate.node gate.port gate.hops Inward (exit_of e) (progress_in x begun)) c.in-Off.is)
+    (ap (λ (e : Exit). behind_side net x.unknowns running.node running.port running.hops Inward (exit_of e) (progress_in x begun)) c.in-Off.is)
     (c.ended.ensures net begun)
 
 pub returns-in_ok-place-in-Go : goal.returns-in_ok-place-in-Go
@@ -28,9 +28,9 @@ returns-in_ok-place-in-Go g c = λ begun.
     let s = g.B.Origin.start in
     let net = network c.args.net.now in
     let x = c.args.run in
-    let gate = c.args.gate in
+    let running = c.args.running in
     other_tree (views_of {origin = g.B.Origin} s net) s x _ _ begun begun (Arrived c.in_ok-place-in-Go.place)
-    (ap (λ (e : Exit). behind_side net x.unknowns gate.node gate.port gate.hops Inward (exit_of e) (progress_in x begun)) c.in-Go.is)
+    (ap (λ (e : Exit). behind_side net x.unknowns running.node running.port running.hops Inward (exit_of e) (progress_in x begun)) c.in-Go.is)
     (c.in_ok-place-in-Go.ensures begun)
 
 pub returns-in-Failed : goal.returns-in-Failed
@@ -38,9 +38,9 @@ returns-in-Failed g c = λ begun.
     let s = g.B.Origin.start in
     let net = network c.args.net.now in
     let x = c.args.run in
-    let gate = c.args.gate in
+    let running = c.args.running in
     other_tree (views_of {origin = g.B.Origin} s net) s x _ _ begun begun c.ended-in-Failed.result
-    (ap (λ (e : Exit). behind_side net x.unknowns gate.node gate.port gate.hops Inward (exit_of e) (progress_in x begun)) c.in-Failed.is
+    (ap (λ (e : Exit). behind_side net x.unknowns running.node running.port running.hops Inward (exit_of e) (progress_in x begun)) c.in-Failed.is
     ∙ ap (λ (how : End). over (progress_in x begun) how) (sym c.failed_at.ensures))
     (c.ended-in-Failed.ensures net begun)
 
@@ -49,8 +49,8 @@ returns-in-Forked g c =
     let s = g.B.Origin.start in
     let net = network c.args.net.now in
     let x = c.args.run in
-    let gate = c.args.gate in
+    let running = c.args.running in
     IfOk-weaker c.forked.result _ _
     (λ moved m begun. other_tree (views_of {origin = g.B.Origin} s net) s x _ _ begun begun moved
-    (ap (λ (e : Exit). behind_side net x.unknowns gate.node gate.port gate.hops Inward (exit_of e) (progress_in x begun)) c.in-Forked.is) (m net begun))
+    (ap (λ (e : Exit). behind_side net x.unknowns running.node running.port running.hops Inward (exit_of e) (progress_in x begun)) c.in-Forked.is) (m net begun))
     c.forked.ensures

@@ -10,4 +10,4 @@ returns c = λ o p.
     let net = network c.args.net.now in
     let node = c.args.node in
     one_frame o net node c.new-frames.result.items c.push.new.self.items _ p c.new-frames.ensures.items c.in_ok-push.ensures.items
-    ∙ (λ i. course_code o (scene_in net node (c.empty-turns.ensures i)) (c.in_ok-site.ensures i) (c.code_of-code.ensures i) p)
+    ∙ (λ i. course_code o (scene_in net node (c.empty-iterations.ensures i)) (c.in_ok-site.ensures i) (c.code_of-code.ensures i) p)

@@ -11,6 +11,6 @@ invariant_of-node g c = record { typed = (c.the_tests_of_types.ensures.formula c
 
 pub returns : goal.returns
 returns g c = λ own begun. (
-  stops_here g.B.Origin.start c.args.run (wait_tree own (Asked c.args.gate c.args.question c.args.test c.args.frames) c.args.run) begun c.is_own.ensures refl,
-  asking_node c.args.question c.offer_of-offer.result (wait_tree own (Asked c.args.gate c.args.question c.args.test c.args.frames) c.args.run begun) _ _ _ _ c.offer_of-offer.ensures refl,
+  stops_here g.B.Origin.start c.args.run (wait_tree own (Asked c.args.running c.args.question c.args.test c.args.frames) c.args.run) begun c.is_own.ensures refl,
+  asking_node c.args.question c.offer_of-offer.result (wait_tree own (Asked c.args.running c.args.question c.args.test c.args.frames) c.args.run begun) _ _ _ _ c.offer_of-offer.ensures refl,
 )

@@ -42,7 +42,7 @@ returns-in-None g c =
     let x = c.args.place.run in
     IfOk-weaker c.run_on.result _ _
     (λ moved m. subst (λ (stage : Stage). Moves (views_of {origin = g.B.Origin} s net) (standing_at s net x stage) c.args.steps.now c.run_on.new.steps moved)
-    (sym (c.in-Inside.is ∙ ap (λ (left : Option Exit). Inside c.in-Inside.gate left c.in-Inside.frames) c.in-None.is)) m)
+    (sym (c.in-Inside.is ∙ ap (λ (left : Option Exit). Inside c.in-Inside.running left c.in-Inside.frames) c.in-None.is)) m)
     c.run_on.ensures
 
 pub returns-in-Inside : goal.returns-in-Inside
@@ -52,5 +52,5 @@ returns-in-Inside g c =
     let x = c.args.place.run in
     IfOk-weaker c.behind.result _ _
     (λ moved m. at_once (views_of {origin = g.B.Origin} s net) s x (stage_tree net c.args.place.stage x) _ c.args.steps.now moved
-    (λ begun. ap (λ (stage : Stage). stage_tree net stage x begun) (c.in-Inside.is ∙ ap (λ (left : Option Exit). Inside c.in-Inside.gate left c.in-Inside.frames) c.in-Some.is)) m)
+    (λ begun. ap (λ (stage : Stage). stage_tree net stage x begun) (c.in-Inside.is ∙ ap (λ (left : Option Exit). Inside c.in-Inside.running left c.in-Inside.frames) c.in-Some.is)) m)
     c.behind.ensures

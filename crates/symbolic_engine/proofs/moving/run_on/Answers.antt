@@ -8,9 +8,9 @@ use Rattle.code_frames.specs.declared.frame.Move.{Move}
 use Rattle.code_frames.specs.declared.frame.Move.TheVariants.{Ended, Asked}
 use Rattle.code_frames.specs.Frames.{WaitsFor}
 use Rattle.sym_state.specs.Symbolic.{Symbolic, rest_of}
-use Rattle.path_exec.specs.Here.{spot_at}
+use Rattle.path_exec.specs.Location.{point_at}
 use Rattle.path_exec.specs.Moves.{IsMove}
-use Rattle.symbolic_engine.specs.Origins.{here_of}
+use Rattle.symbolic_engine.specs.Origins.{location_of}
 use Rattle.symbolic_engine.specs.Seeing.{views_of}
 use Rattle.symbolic_engine.proofs.Ports.{move_tree, moves_still}
 use Rattle.symbolic_engine.proofs.Running.{run_on}
@@ -29,10 +29,10 @@ returns-in-Ended g c =
     let old = reverse c.args.frames.items in
     let new = reverse c.next.new.frames.items in
     IfOk-weaker c.behind.result _ _
-    (λ moved m. moves_still (views_of {origin = g.B.Origin} s net) net c.args.gate x c.into_state-state.result y old new c.in_ok-found.found c.args.steps.now c.next.new.steps
+    (λ moved m. moves_still (views_of {origin = g.B.Origin} s net) net c.args.running x c.into_state-state.result y old new c.in_ok-found.found c.args.steps.now c.next.new.steps
     c.into_state-state.ensures.is c.in_ok-found.ensures.rest c.in_ok-found.ensures.course c.into_state-state.ensures.run moved
-    (λ begun. subst (λ (move : Move Formula). IsMove (views_of {origin = g.B.Origin} s net) (spot_at begun (here_of s y (move_tree net c.args.gate move new y))) begun moved) (sym c.in-Ended.is)
-    (subst (λ (z : Symbolic). IsMove (views_of {origin = g.B.Origin} s net) (spot_at begun (here_of s z (move_tree net c.args.gate (Ended c.in-Ended.exit) new z))) begun moved) c.of-run.ensures (m begun))))
+    (λ begun. subst (λ (move : Move Formula). IsMove (views_of {origin = g.B.Origin} s net) (point_at begun (location_of s y (move_tree net c.args.running move new y))) begun moved) (sym c.in-Ended.is)
+    (subst (λ (z : Symbolic). IsMove (views_of {origin = g.B.Origin} s net) (point_at begun (location_of s z (move_tree net c.args.running (Ended c.in-Ended.exit) new z))) begun moved) c.of-run.ensures (m begun))))
     c.behind.ensures
 
 pub returns : goal.returns
@@ -43,10 +43,10 @@ returns g c =
     let y = c.next.new.machine in
     let old = reverse c.args.frames.items in
     let new = reverse c.next.new.frames.items in
-    moves_still (views_of {origin = g.B.Origin} s net) net c.args.gate x c.into_state-state.result y old new c.in_ok-found.found c.args.steps.now c.next.new.steps
+    moves_still (views_of {origin = g.B.Origin} s net) net c.args.running x c.into_state-state.result y old new c.in_ok-found.found c.args.steps.now c.next.new.steps
     c.into_state-state.ensures.is c.in_ok-found.ensures.rest c.in_ok-found.ensures.course c.into_state-state.ensures.run c.asked.result
-    (λ begun. subst (λ (move : Move Formula). IsMove (views_of {origin = g.B.Origin} s net) (spot_at begun (here_of s y (move_tree net c.args.gate move new y))) begun c.asked.result) (sym c.in-Asked.is)
-    (subst (λ (z : Symbolic). IsMove (views_of {origin = g.B.Origin} s net) (spot_at begun (here_of s z (move_tree net c.args.gate (Asked c.in-Asked.question c.in-Asked.test) new z))) begun c.asked.result) c.of-run.ensures (c.asked.ensures net begun)))
+    (λ begun. subst (λ (move : Move Formula). IsMove (views_of {origin = g.B.Origin} s net) (point_at begun (location_of s y (move_tree net c.args.running move new y))) begun c.asked.result) (sym c.in-Asked.is)
+    (subst (λ (z : Symbolic). IsMove (views_of {origin = g.B.Origin} s net) (point_at begun (location_of s z (move_tree net c.args.running (Asked c.in-Asked.question c.in-Asked.test) new z))) begun c.asked.result) c.of-run.ensures (c.asked.ensures net begun)))
 
 -- the test is over the symbols that there are now
 pub asked-requires : goal.asked-requires

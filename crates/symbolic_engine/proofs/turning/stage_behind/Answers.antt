@@ -13,14 +13,14 @@ pub returns-in_ok-left-in-Asked : goal.returns-in_ok-left-in-Asked
 returns-in_ok-left-in-Asked c =
     let net = network c.args.net.now in
     let d = c.args.decision in
-    let gate = c.in-Asked.gate in
+    let running = c.in-Asked.running in
     let left = c.in_ok-left-in-Asked.left in
     let awaits = subst (λ (wait : Wait). IsAwaited wait d) c.in-Asked.is c.requires in
-    subst (λ (wait : Wait). IsStageBehind net wait d (Inside gate left c.answer.new.frames)) (sym c.in-Asked.is)
-    (λ x begun. answered net gate c.in-Asked.question c.in-Asked.test x begun d c.in-Asked.frames awaits.0 c.holds.result
+    subst (λ (wait : Wait). IsStageBehind net wait d (Inside running left c.answer.new.frames)) (sym c.in-Asked.is)
+    (λ x begun. answered net running c.in-Asked.question c.in-Asked.test x begun d c.in-Asked.frames awaits.0 c.holds.result
     (reverse c.in_ok-frames-in-Asked.frames.items) (reverse c.answer.new.frames.items) left
     awaits.1 c.holds.ensures (ap (λ (l : List Frame). reverse l) (c.in_ok-frames-in-Asked.ensures ∙ c.deref.ensures.value))
-    (c.in_ok-left-in-Asked.ensures.course (terms x.unknowns) net gate.node (progress_in x begun)))
+    (c.in_ok-left-in-Asked.ensures.course (terms x.unknowns) net running.node (progress_in x begun)))
 
 pub returns-in-Copy : goal.returns-in-Copy
 returns-in-Copy c =

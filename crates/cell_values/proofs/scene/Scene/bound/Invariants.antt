@@ -3,5 +3,5 @@ use Rattle.sefl_meaning.specs.Carried.{bound_key}
 use Rattle.cell_values.proofs.scene.Scene.bound.Given as goal
 
 -- the first of what is left is the first of the whole
-abbrev pub invariant-loop-turn : goal.invariant-loop-turn
-invariant-loop-turn l = bound_key l.turn-iterator l.var ≡ bound_key l.self.turns.now l.var
+abbrev pub invariant-loop-iteration : goal.invariant-loop-iteration
+invariant-loop-iteration l = bound_key l.iteration-iterator l.var ≡ bound_key l.self.iterations.now l.var

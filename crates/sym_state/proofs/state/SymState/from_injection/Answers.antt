@@ -19,10 +19,10 @@ unreachable-requires c =
     let net = network c.args.net.now in
     let p = c.args.injection.now in
     let fault = c.in-Err-Layout.field-0-0 in
-    let at : Scene = record { net = net; node = c.place.result.0; turns = c.empty-turns.result } in
+    let at : Scene = record { net = net; node = c.place.result.0; iterations = c.empty-iterations.result } in
     let refused = subst (λ (r : Result Symbolic StepFault). BegunAs c.unknowns.result at (injection_tree c.raw.result.now) r)
     (c.in-Err-Layout.is ∙ ap Err c.in-Err-Layout.field-0-is) c.begun.ensures in
     let start = c.injections_have_a_start.ensures.goes (terms (unknown_count (entry p))) net (entry p) 0 c.requires c.keeps_the_rules.ensures.widths in
     has_no_fault net (entry p) start.0 fault start.1
     (in_place (λ (n : ℕ) (at : Scene) (i : InjectionTree). and_then (injected (terms n) at i) (tests_in (terms n) at i.tests) ≡ Err fault)
-    net p c.raw.result.now c.unknowns.result c.place.result.0 c.empty-turns.result c.raw.ensures c.unknowns.ensures (ap (λ (q : NodeId × ℕ). q.0) c.place.ensures) c.empty-turns.ensures refused)
+    net p c.raw.result.now c.unknowns.result c.place.result.0 c.empty-iterations.result c.raw.ensures c.unknowns.ensures (ap (λ (q : NodeId × ℕ). q.0) c.place.ensures) c.empty-iterations.ensures refused)

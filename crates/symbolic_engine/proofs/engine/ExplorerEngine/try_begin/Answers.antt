@@ -1,6 +1,6 @@
 use Rattle.std.proofs.Common.{refl, subst}
 use Rattle.net_check.specs.Network.{network}
-use Rattle.exact_records.specs.Spots.{first_spot}
+use Rattle.exact_records.specs.Points.{first_point}
 use Rattle.sym_state.specs.Symbolic.{Symbolic}
 use Rattle.symbolic_engine.specs.declared.stage.Stage.TheVariants.{Entering}
 use Rattle.symbolic_engine.specs.Finding.{IsFoundOf}
@@ -16,7 +16,7 @@ returns g c =
     let x = c.in_ok-run.run' in
     let stands = begins_at s net (network e.net.now) e.hops e.node e.port e.first x c.self.invariant.0 c.self.invariant.1 c.in_ok-run.ensures in
     let found = subst (IsFoundOf (condition_seen x)) c.in-Open.is (subst (λ (y : Symbolic). IsFoundOf (condition_seen y) c.in_ok-refutation.field-0) c.state.ensures.is c.in_ok-refutation.ensures) in
-    open_there s net x (Entering e.node e.port e.hops) 0 (first_spot s) c.state.ensures.run stands _ c.in-Open.verdict refl refl found
+    open_there s net x (Entering e.node e.port e.hops) 0 (first_point s) c.state.ensures.run stands _ c.in-Open.verdict refl refl found
 
 pub returns-in-Refuted : goal.returns-in-Refuted
 returns-in-Refuted g c =
@@ -26,4 +26,4 @@ returns-in-Refuted g c =
     let x = c.in_ok-run.run' in
     let stands = begins_at s net (network e.net.now) e.hops e.node e.port e.first x c.self.invariant.0 c.self.invariant.1 c.in_ok-run.ensures in
     let found = subst (IsFoundOf (condition_seen x)) c.in-Refuted.is (subst (λ (y : Symbolic). IsFoundOf (condition_seen y) c.in_ok-refutation.field-0) c.state.ensures.is c.in_ok-refutation.ensures) in
-    refuted_there s net x (Entering e.node e.port e.hops) 0 (first_spot s) c.state.ensures.run stands c.in-Refuted.refutation found
+    refuted_there s net x (Entering e.node e.port e.hops) 0 (first_point s) c.state.ensures.run stands c.in-Refuted.refutation found

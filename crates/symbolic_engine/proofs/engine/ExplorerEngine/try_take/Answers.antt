@@ -2,7 +2,7 @@ use Rattle.std.proofs.Common.{IfSome, refl, rules, sym, ap, subst, ◌∙◌}
 use Rattle.path_cond.specs.Conditions.{Condition}
 use Rattle.path_cond.specs.Seen.{seen}
 use Rattle.path_formula.specs.View.{view}
-use Rattle.exact_records.specs.Spots.{IsKnown}
+use Rattle.exact_records.specs.Points.{IsKnown}
 use Rattle.path_solver.specs.Bases.{IsBaseOf}
 use Rattle.net_check.specs.Network.{Network}
 use Rattle.sym_state.specs.Symbolic.{Symbolic}
@@ -10,7 +10,7 @@ use Rattle.symbolic_engine.specs.Finding.{IsFoundOf}
 use Rattle.symbolic_engine.specs.Origins.{condition_seen}
 use Rattle.symbolic_engine.specs.Turning.{IsStageBehind}
 use Rattle.symbolic_engine.proofs.Engaging.{base_behind, known_there, open_there, refuted_behind}
-use Rattle.symbolic_engine.proofs.Turns.{awaited, behind_spot}
+use Rattle.symbolic_engine.proofs.Turns.{awaited, behind_point}
 use Rattle.symbolic_engine.proofs.engine.ExplorerEngine.try_take.Goals as goal
 
 pub base_of-requires : goal.base_of-requires
@@ -44,7 +44,7 @@ returns g c = λ begun to e.
     let node = c.args.node.now in
     let x = c.in_ok-run.run' in
     let at = subst (λ (n : Network). IsStageBehind n node.wait c.args.decision c.in_ok-stage-in-Open.stage) c.self.invariant.0 c.in_ok-stage-in-Open.ensures in
-    let stands = behind_spot s net node.run c.args.decision x node.wait c.in_ok-stage-in-Open.stage c.is_own.ensures c.in_ok-run.ensures at begun to e in
+    let stands = behind_point s net node.run c.args.decision x node.wait c.in_ok-stage-in-Open.stage c.is_own.ensures c.in_ok-run.ensures at begun to e in
     let found = subst (IsFoundOf (condition_seen x)) c.in-Open.is (subst (λ (y : Symbolic). IsFoundOf (condition_seen y) c.in_ok-refutation.field-0) c.state-2.ensures.is c.in_ok-refutation.ensures) in
     open_there s net x c.in_ok-stage-in-Open.stage begun to c.state-2.ensures.run stands _ c.in-Open.verdict refl refl found
 

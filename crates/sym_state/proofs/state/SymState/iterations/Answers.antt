@@ -4,7 +4,7 @@ use Rattle.sn_width.specs.declared.ids.NodeId.{NodeId}
 use Rattle.lin_term.specs.Terms.{value_at}
 use Rattle.metadata_scopes.specs.Snapshot.{snapshot}
 use Rattle.sym_state.specs.Symbolic.{node_of}
-use Rattle.sym_state.proofs.state.SymState.turns.Goals as goal
+use Rattle.sym_state.proofs.state.SymState.iterations.Goals as goal
 
 pub returns-clause-commutes : goal.returns-clause-commutes
 returns-clause-commutes g c =

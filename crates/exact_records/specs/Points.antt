@@ -21,14 +21,14 @@ use Rattle.exact_records.specs.Records.{IsVerdictOn, RecordTree, SymCondition, S
 use Rattle.exact_records.specs.Exact.{IsGood, IsUnrefuted, IsWithin}
 use Rattle.exact_records.specs.Shapes.{Continues, Piece}
 
--- what is known at a spot: the verdict on its condition; or the one before its last test, None where nothing was decided
+-- what is known at a point: the verdict on its condition; or the one before its last test, None where nothing was decided
 pub data Known : Type 0 where
   decided : Verdict → Known
   to_decide : Option Verdict → Known
 
 -- where a run stands: what was decided, the ports that were arrived at, the tests with their truths, the widths of the symbols,
 -- and what comes
-pub record Spot : Type 0 where
+pub record Point : Type 0 where
   pub decisions : List Decision
   pub places : List Place
   pub tests : List (FormulaTree × Bool)
@@ -59,11 +59,11 @@ module _ {V F : Type 0} where
   copy_at (copy_and t branches) zero = Some t
   copy_at (copy_and t branches) (suc n) = copy_at branches n
 
-abbrev pub piece_of : Spot → Piece LinearTerm FormulaTree
+abbrev pub piece_of : Point → Piece LinearTerm FormulaTree
 piece_of a = record { decisions = a.decisions; tree = a.tree }
 
--- the spot behind a side of a test
-abbrev pub sided : Spot → Asking → FormulaTree → Bool → SymTree → Spot
+-- the point behind a side of a test
+abbrev pub sided : Point → Asking → FormulaTree → Bool → SymTree → Point
 sided a asking test truth side =
     record {
       decisions = a.decisions ++ decision_at asking truth ∷ [];
@@ -74,7 +74,7 @@ sided a asking test truth side =
     }
 
 -- and that of a copy
-abbrev pub copied : Spot → ℕ → SymTree → Spot
+abbrev pub copied : Point → ℕ → SymTree → Point
 copied a number t = record a { decisions = a.decisions ++ Copy number ∷ []; tree = t }
 
 -- the verdict on the condition, or on that without its last symbols, which no formula has
@@ -101,22 +101,22 @@ filled_verdict count (Undecided cause) = Undecided (filled_cause count cause)
 
 -- with what is explored
 module _ (s : SymStart) where
-  -- the spot before the injection's port
-  abbrev pub first_spot : Spot
-  first_spot = record { decisions = []; places = []; tests = []; widths = s.unknowns; tree = s.tree }
+  -- the point before the injection's port
+  abbrev pub first_point : Point
+  first_point = record { decisions = []; places = []; tests = []; widths = s.unknowns; tree = s.tree }
 
   -- all tests with their truths, those of the injection first
-  abbrev pub condition_at : Spot → SymCondition
+  abbrev pub condition_at : Point → SymCondition
   condition_at a = record { widths = a.widths; entries = injection_tests s ++ a.tests }
 
   -- the run came from the start: whatever decisions follow, they lead on from here
-  pub record IsAt (a : Spot) : Type 0 where
+  pub record IsAt (a : Point) : Type 0 where
     pub arrivals : List (Place × Progress LinearTerm)
     pub places : map (λ at. at.0) arrivals ≡ a.places
     pub leads : (ds : List Decision) → route s.tree (a.decisions ++ ds) ≡ option_map (behind arrivals a.tests) (route a.tree ds)
 
-  -- the second spot is that of the first at its next node
-  pub record Arrives (a b : Spot) : Type 0 where
+  -- the second point is that of the first at its next node
+  pub record Arrives (a b : Point) : Type 0 where
     pub decisions : b.decisions ≡ a.decisions
     pub places : b.places ≡ a.places ++ places_of a.tree
     pub tests : b.tests ≡ a.tests
@@ -125,9 +125,9 @@ module _ (s : SymStart) where
     pub more : List ℕ
     pub grown : b.widths ≡ a.widths ++ more
 
-  -- a spot behind a test, with the verdict before it
-  pub record IsBehindTest (a : Spot) (before : Verdict) : Type 0 where
-    pub parent : Spot
+  -- a point behind a test, with the verdict before it
+  pub record IsBehindTest (a : Point) (before : Verdict) : Type 0 where
+    pub parent : Point
     pub at : IsAt parent
     pub asking : Asking
     pub progress : Progress LinearTerm
@@ -141,49 +141,49 @@ module _ (s : SymStart) where
     pub known : IsKnown (condition_at parent) before
 
   -- nothing was decided yet
-  pub record IsFirst (a : Spot) : Type 0 where
+  pub record IsFirst (a : Point) : Type 0 where
     pub decisions : a.decisions ≡ []
     pub tests : a.tests ≡ []
     pub widths : a.widths ≡ s.unknowns
 
-  abbrev pub IsFound : Spot → Known → Type 0
+  abbrev pub IsFound : Point → Known → Type 0
   IsFound a (decided verdict) = IsKnown (condition_at a) verdict
   IsFound a (to_decide None) = IsFirst a
   IsFound a (to_decide (Some before)) = IsBehindTest a before
 
   -- work that is left
-  pub record IsPending (a : Spot) (known : Known) : Type 0 where
+  pub record IsPending (a : Point) (known : Known) : Type 0 where
     pub at : IsAt a
     pub unrefuted : IsUnrefuted s a.decisions
     pub found : IsFound a known
 
   -- the verdict before a refuted side, as it is written: it has a value for each symbol of its parent
-  abbrev pub IsBefore : Spot → Option Verdict → Option Verdict → Type 0
+  abbrev pub IsBefore : Point → Option Verdict → Option Verdict → Type 0
   IsBefore a None written = written ≡ None
   IsBefore a (Some before) None = ⊥
   IsBefore a (Some before) (Some verdict) =
       (b : IsBehindTest a before) → IsVerdictOn (condition_at b.parent) verdict
 
--- a spot, and what is known there
-abbrev pub Task : Type 0
-Task = Spot × Known
+-- a point, and what is known there
+abbrev pub Obligation : Type 0
+Obligation = Point × Known
 
--- a task for each copy, numbered from a number on
-abbrev pub copy_tasks : Spot → Verdict → ℕ → Copies LinearTerm FormulaTree → List Task
-copy_tasks a verdict number no_copies = []
-copy_tasks a verdict number (copy_and t branches) = (copied a number t, decided verdict) ∷ copy_tasks a verdict (suc number) branches
+-- an obligation for each copy, numbered from a number on
+abbrev pub copy_obligations : Point → Verdict → ℕ → Copies LinearTerm FormulaTree → List Obligation
+copy_obligations a verdict number no_copies = []
+copy_obligations a verdict number (copy_and t branches) = (copied a number t, decided verdict) ∷ copy_obligations a verdict (suc number) branches
 
--- a task for each side of a test
-abbrev pub side_tasks : Spot → Verdict → Asking → FormulaTree → SymTree → SymTree → List Task
-side_tasks a verdict asking test held broken =
+-- an obligation for each side of a test
+abbrev pub side_obligations : Point → Verdict → Asking → FormulaTree → SymTree → SymTree → List Obligation
+side_obligations a verdict asking test held broken =
     (sided a asking test true held, to_decide (Some verdict)) ∷ (sided a asking test false broken, to_decide (Some verdict)) ∷ []
 
-abbrev pub pieces_of : List Task → List (Piece LinearTerm FormulaTree)
-pieces_of tasks = map (λ task. piece_of task.0) tasks
+abbrev pub pieces_of : List Obligation → List (Piece LinearTerm FormulaTree)
+pieces_of obligations = map (λ obligation. piece_of obligation.0) obligations
 
--- the records stand for what is done, within the limit, and the tasks for what is left
-pub record Stands (s : SymStart) (limit : ℕ) (done : List RecordTree) (tasks : List Task) : Type 0 where
-  pub continues : Continues s.tree limit done (pieces_of tasks)
+-- the records stand for what is done, within the limit, and the obligations for what is left
+pub record Stands (s : SymStart) (limit : ℕ) (done : List RecordTree) (obligations : List Obligation) : Type 0 where
+  pub continues : Continues s.tree limit done (pieces_of obligations)
   pub good : AllByRecursion (IsGood s) done
-  pub pending : AllByRecursion (λ task. IsPending s task.0 task.1) tasks
+  pub pending : AllByRecursion (λ obligation. IsPending s obligation.0 obligation.1) obligations
   pub within : IsWithin limit done

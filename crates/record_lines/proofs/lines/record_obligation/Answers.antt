@@ -1,5 +1,5 @@
 use Rattle.std.proofs.Common.{rules, ◌≡◌, ◌<◌, ◌^◌, true}
-use Rattle.record_lines.proofs.lines.record_task.Goals as goal
+use Rattle.record_lines.proofs.lines.record_obligation.Goals as goal
 
 pub returns-in-Ok : goal.returns-in-Ok
 returns-in-Ok g c =
