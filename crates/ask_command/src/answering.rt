@@ -117,7 +117,8 @@ pub(crate) fn text_of_answers(
     requires limit { 0 < limit }
     ensures text { IfOk result (λ t. IsAnswersText hops limit (network job.now.net) (entry job.now.injection)
         (map ask_tree job.now.asks.items) t.0 (string_bytes t.1)) }
-    ensures refused { IfErr result (IsAskRefusal (network job.now.net) (entry job.now.injection) (map ask_tree job.now.asks.items)) }
+    ensures refused { IfErr result (IsAskRefusal (network job.now.net) (entry job.now.injection)
+        (map ask_tree job.now.asks.items)) }
 {
     uncut_records_go_beyond();
     right_answers_go_beyond();

@@ -18,14 +18,16 @@ use one_list::laws::right_answers_are_one;
 #[tactic(auto, using(crate::proofs::OnceLemmas::refused_alone))]
 pub fn refused_questions_are_told_alone()
     ensures { (hops limit : ℕ) (net : Network) (i : Entry) (asks : List AskTree) (fault : OwnFault) (other : Outcome)
-        → AnswersOf hops limit net i asks (refused fault) → AnswersOf hops limit net i asks other → other ≡ refused fault }
+        → AnswersOf hops limit net i asks (refused fault) → AnswersOf hops limit net i asks other
+        → other ≡ refused fault }
 {}
 
 /// Where no record was cut by the bound of hops, and nothing was left untried, the text is one of right answers under every
 /// larger bound.
 pub fn answers_over_uncut_records_hold_beyond()
     ensures { (hops limit : ℕ) (net : Network) (i : Entry) (asks : List AskTree) (ending : EndingOf) (whole : List ℕ)
-        → (answers : IsAnswersText hops limit net i asks ending whole) → AllUncut answers.records → (more : ℕ) → hops ≤ more
+        → (answers : IsAnswersText hops limit net i asks ending whole) → AllUncut answers.records → (more : ℕ)
+        → hops ≤ more
         → IsAnswersText more limit net i asks ending whole }
 {}
 

@@ -25,7 +25,8 @@ pub fn valuing_commutes<K: Ord, V: Drop, W: Drop>()
         → pushed K.cmp key width (valued f stacks) ≡ on_ok (valued f) (pushed K.cmp key width stacks) }
     ensures pop { (f : V → W) (absent : LayoutFault) (key : K) (width : ℕ) (stacks : List (K × List (Cell V)))
         → popped K.cmp absent key width (valued f stacks) ≡ on_ok (valued f) (popped K.cmp absent key width stacks) }
-    ensures set { (f : V → W) (absent : LayoutFault) (key : K) (width : ℕ) (value : V) (stacks : List (K × List (Cell V)))
+    ensures set { (f : V → W) (absent : LayoutFault) (key : K) (width : ℕ) (value : V)
+        (stacks : List (K × List (Cell V)))
         → with_top K.cmp absent key width (f value) (valued f stacks)
         ≡ on_ok (valued f) (with_top K.cmp absent key width value stacks) }
     ensures top { (f : V → W) (absent : LayoutFault) (key : K) (width : ℕ) (stacks : List (K × List (Cell V)))
@@ -34,10 +35,12 @@ pub fn valuing_commutes<K: Ord, V: Drop, W: Drop>()
 
 /// The value that was set at a key is read there, and every other key reads as before.
 pub fn set_then_read<K: Ord, V: Drop>()
-    ensures there { (absent other : LayoutFault) (key : K) (width : ℕ) (value : V) (stacks next : List (K × List (Cell V)))
+    ensures there { (absent other : LayoutFault) (key : K) (width : ℕ) (value : V)
+        (stacks next : List (K × List (Cell V)))
         → with_top K.cmp absent key width value stacks ≡ Ok next
         → top_value K.cmp other key width next ≡ Ok value }
-    ensures elsewhere { (absent other : LayoutFault) (key elsewhere : K) (width size : ℕ) (value : V) (stacks next : List (K × List (Cell V)))
+    ensures elsewhere { (absent other : LayoutFault) (key elsewhere : K) (width size : ℕ) (value : V)
+        (stacks next : List (K × List (Cell V)))
         → (K.cmp elsewhere key ≡ Equal → ⊥)
         → with_top K.cmp absent key width value stacks ≡ Ok next
         → top_value K.cmp other elsewhere size next ≡ top_value K.cmp other elsewhere size stacks }

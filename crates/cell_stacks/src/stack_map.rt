@@ -87,7 +87,8 @@ impl<K: Ord + Copy, X: Drop> StackMap<K, X> {
 
     /// Puts a member in place of the top one at the key, or alone where the key is absent.
     pub fn replace_top(&mut self, alloc: Global, key: K, member: X) -> Result<(), NoMemory>
-        ensures ok { OnOk result (self.new ≡ with_stack K.cmp key (member ∷ tail (stack_at K.cmp key self.old)) self.old) }
+        ensures ok { OnOk result (self.new ≡ with_stack K.cmp key (member ∷ tail (stack_at K.cmp key self.old))
+            self.old) }
         ensures err { OnErr result (self.new ≡ self.old) }
     {
         let Ok(stack) = self.members_below(&key) else {

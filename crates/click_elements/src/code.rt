@@ -117,7 +117,8 @@ pub(crate) fn dec_ip_ttl_code(alloc: Global, connected: bool) -> Result<Vec<Inst
 
 /// Adds that the cell of a field is removed.
 fn add_removal(code: &mut Vec<Instr>, alloc: Global, field: Field) -> Result<(), NoMemory>
-    ensures { OnOk result (map instr_tree code.new.items ≡ map instr_tree code.old.items ++ deallocate (cell field) ∷ []) }
+    ensures { OnOk result (map instr_tree code.new.items
+        ≡ map instr_tree code.old.items ++ deallocate (cell field) ∷ []) }
 {
     add(code, Instr::Deallocate(cell(alloc, field)?))
 }

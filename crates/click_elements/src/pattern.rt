@@ -69,7 +69,8 @@ fn add_port(
     direction: Direction,
     port: Num,
 ) -> Result<(), NoMemory>
-    ensures { OnOk result (map cond_tree tests.new.items ≡ (map cond_tree tests.old.items ++ is_ported ∷ []) ++ equals (port_field direction) port ∷ []) }
+    ensures { OnOk result (map cond_tree tests.new.items
+        ≡ (map cond_tree tests.old.items ++ is_ported ∷ []) ++ equals (port_field direction) port ∷ []) }
 {
     add_test(tests, is_ported(alloc)?)?;
     add_test(tests, equals(alloc, port_field(direction), port)?)

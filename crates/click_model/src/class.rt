@@ -93,7 +93,8 @@ fn filter_of(alloc: Global, text: &[u8]) -> Result<Option<Class>, NoMemory>
 }
 
 fn classifier_of(alloc: Global, text: &[u8]) -> Result<Option<Class>, NoMemory>
-    ensures { IfOk result (λ class. option_map seen_class class ≡ class_with ClassName.IpClassifier (arguments text.now)) }
+    ensures { IfOk result (λ class. option_map seen_class class
+        ≡ class_with ClassName.IpClassifier (arguments text.now)) }
 {
     match patterns_of(alloc, text)? {
         Some(patterns) => Ok(Some(Class::IpClassifier(patterns))),

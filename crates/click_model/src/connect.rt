@@ -89,7 +89,13 @@ fn use_wrong(clashes: bool, known: Option<Known>) -> Option<Wrong>
 }
 
 fn link_of(output: &(Name, u32), to: Name, to_port: u32) -> Result<Link, NoMemory>
-    ensures { IfOk result (λ link. link ≡ record { from = output.now.0; from_port = output.now.1; to = to; to_port = to_port }) }
+    ensures { IfOk result (λ link. link ≡ record {
+      from = output.now.0;
+      from_port = output.now.1;
+      to = to;
+      to_port =
+          to_port;
+    }) }
 {
     Ok(Link {
         from: output.0.clone()?,
@@ -109,7 +115,8 @@ impl Connected {
         next: Item<'_>,
     ) -> Result<(), NoMemory>
         requires { is_name next.name.now ≡ true }
-        ensures { OnOk result (seen_connected self.new ≡ with_use (seen_connected self.old) line output known (Some (seen_item next.entry))) }
+        ensures { OnOk result (seen_connected self.new
+            ≡ with_use (seen_connected self.old) line output known (Some (seen_item next.entry))) }
     {
         let to = name_of(alloc, next.name)?;
         let link = link_of(&output, to, next.input)?;
@@ -130,7 +137,9 @@ impl Connected {
     ) -> Result<(), NoMemory>
         requires name { is_name item.name.now ≡ true }
         requires next { IfSome next (λ next. is_name next.name.now ≡ true) }
-        ensures { OnOk result (seen_connected self.new ≡ connected names.now.entries (seen_connected self.old) (seen_item item.entry) (option_map seen_item next.entry)) }
+        ensures { OnOk result (seen_connected self.new
+            ≡ connected names.now.entries (seen_connected self.old) (seen_item item.entry)
+            (option_map seen_item next.entry)) }
     {
         let name = name_of(alloc, item.name)?;
         let known = known_of(names, &name);
@@ -150,7 +159,8 @@ pub(crate) fn connect_all(
     flaw: Option<Flaw>,
 ) -> Result<Connected, NoMemory>
     requires { All (λ item. is_name item.name.now ≡ true) items.now }
-    ensures { IfOk result (λ all. seen_connected all ≡ connected_from names.now.entries (nothing_connected flaw) (map seen_item items.now)) }
+    ensures { IfOk result (λ all. seen_connected all
+        ≡ connected_from names.now.entries (nothing_connected flaw) (map seen_item items.now)) }
 {
     let mut all = Connected {
         used: BTreeSet::new(alloc),

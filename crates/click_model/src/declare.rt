@@ -116,7 +116,8 @@ fn put_element(
     name: Name,
     class: Result<Class, Wrong>,
 ) -> Result<(), NoMemory>
-    ensures { OnOk result (map seen_element elements.new.items ≡ with_element (map seen_element elements.old.items) name (seen_made class)) }
+    ensures { OnOk result (map seen_element elements.new.items
+        ≡ with_element (map seen_element elements.old.items) name (seen_made class)) }
 {
     match class {
         Err(_) => Ok(()),
@@ -138,7 +139,9 @@ fn count_more(count: u64) -> Result<u64, NoMemory>
 
 impl Declared {
     fn add(&mut self, line: u64, name: Name, class: Result<Class, Wrong>) -> Result<(), NoMemory>
-        ensures { OnOk result (seen_declared self.new ≡ with_declaration (seen_declared self.old) line name (seen_made class) (lookup (bytes_eq name) self.old.names.entries)) }
+        ensures { OnOk result (seen_declared self.new
+            ≡ with_declaration (seen_declared self.old) line name (seen_made class)
+            (lookup (bytes_eq name) self.old.names.entries)) }
     {
         let first = known_of(&self.names, &name);
         let most = most_of(&class);
@@ -151,7 +154,8 @@ impl Declared {
 
     fn declare(&mut self, alloc: Global, item: Item<'_>) -> Result<(), NoMemory>
         requires { is_name item.name.now ≡ true }
-        ensures { OnOk result (seen_declared self.new ≡ declared (seen_declared self.old) (seen_item item.entry) (seen_item item.entry).class) }
+        ensures { OnOk result (seen_declared self.new
+            ≡ declared (seen_declared self.old) (seen_item item.entry) (seen_item item.entry).class) }
     {
         let Some(word) = item.class else {
             return Ok(());

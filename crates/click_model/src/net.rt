@@ -56,7 +56,8 @@ fn leads_of(leads: &BTreeMap<Name, Leads>, name: &Name) -> Leads
 /// Notes the output that a link leaves by.
 fn note(leads: &mut BTreeMap<Name, Leads>, link: &Link) -> Result<(), NoMemory>
     ensures { OnOk result ((name : List ℕ) → unwrap_or (lookup (bytes_eq name) leads.new.entries) nets.no_leads
-        ≡ (if bytes_eq link.now.from name then nets.with_port (unwrap_or (lookup (bytes_eq name) leads.old.entries) nets.no_leads) link.now.from_port
+        ≡ (if bytes_eq link.now.from name then nets.with_port
+        (unwrap_or (lookup (bytes_eq name) leads.old.entries) nets.no_leads) link.now.from_port
         else unwrap_or (lookup (bytes_eq name) leads.old.entries) nets.no_leads)) }
 {
     let more = with_port(leads_of(leads, &link.from), link.from_port);
@@ -67,7 +68,8 @@ fn note(leads: &mut BTreeMap<Name, Leads>, link: &Link) -> Result<(), NoMemory>
 
 /// What is connected of the outputs of each element.
 fn all_leads(alloc: Global, links: &[Link]) -> Result<BTreeMap<Name, Leads>, NoMemory>
-    ensures { IfOk result (λ leads. (name : List ℕ) → unwrap_or (lookup (bytes_eq name) leads.entries) nets.no_leads ≡ nets.leads_of name links.now) }
+    ensures { IfOk result (λ leads. (name : List ℕ)
+        → unwrap_or (lookup (bytes_eq name) leads.entries) nets.no_leads ≡ nets.leads_of name links.now) }
 {
     let mut leads = BTreeMap::new(alloc);
     for link in links {
@@ -112,7 +114,8 @@ fn decl_of(alloc: Global, element: &Element, leads: Leads) -> Result<NodeDecl, N
 
 /// The nodes of elements.
 fn decls_of(alloc: Global, elements: &[Element], links: &[Link]) -> Result<Vec<NodeDecl>, NoMemory>
-    ensures { IfOk result (λ decls. map decl_tree decls.items ≡ map (nets.element_decl links.now) (map seen_element elements.now)) }
+    ensures { IfOk result (λ decls. map decl_tree decls.items
+        ≡ map (nets.element_decl links.now) (map seen_element elements.now)) }
 {
     let leads = all_leads(alloc, links)?;
     let mut decls = Vec::new(alloc);

@@ -47,14 +47,16 @@ pub(crate) fn run_instr<'a, M: Machine, L: Ledger>(
     steps: &mut Steps<L>,
 ) -> Result<Done<'a, M::Test>, NoMemory>
     ensures course { IfOk result (λ done. (begun : ℕ)
-        → course_of (M.values machine.old) (network net.now) node M.truth done (progress_at (M.carried machine.new) (M.choices machine.new) begun)
+        → course_of (M.values machine.old) (network net.now) node M.truth done
+        (progress_at (M.carried machine.new) (M.choices machine.new) begun)
         ≡ course_in (M.values machine.old) (scene_in (network net.now) node iterations) site (instr_tree instr.now)
         (progress_at (M.carried machine.old) (M.choices machine.old) begun)) }
     ensures counted { OnOk result (steps.new ≡ steps.old + 1) }
     ensures kept { OnOk result (M.values machine.new ≡ M.values machine.old) }
     ensures rest { OnOk result (M.rest machine.new ≡ M.rest machine.old) }
     ensures fit { IfOk result (AsksFor (M.IsFit machine.new)) }
-    ensures weight { IfOk result (λ done. done_weight (network net.now) done < instr_weight (network net.now) (instr_tree instr.now)) }
+    ensures weight { IfOk result (λ done. done_weight (network net.now) done < instr_weight (network net.now)
+        (instr_tree instr.now)) }
 {
     match instr {
         Instr::Constrain(test) => ask(alloc, machine, net, node, iterations, site, test, steps),
@@ -113,7 +115,8 @@ fn take<'a, M: Machine, L: Ledger>(
 ) -> Result<Done<'a, M::Test>, NoMemory>
     requires { is_step (instr_tree instr.now) ≡ true }
     ensures course { IfOk result (λ done. (begun : ℕ)
-        → course_of (M.values machine.old) (network net.now) node M.truth done (progress_at (M.carried machine.new) (M.choices machine.new) begun)
+        → course_of (M.values machine.old) (network net.now) node M.truth done
+        (progress_at (M.carried machine.new) (M.choices machine.new) begun)
         ≡ course_in (M.values machine.old) (scene_in (network net.now) node iterations) site (instr_tree instr.now)
         (progress_at (M.carried machine.old) (M.choices machine.old) begun)) }
     ensures counted { steps.new ≡ steps.old + 1 }
@@ -154,8 +157,10 @@ fn ask<'a, M: Machine, L: Ledger>(
     steps: &mut Steps<L>,
 ) -> Result<Done<'a, M::Test>, NoMemory>
     ensures course { IfOk result (λ done. (begun : ℕ)
-        → course_of (M.values machine.now) (network net.now) node M.truth done (progress_at (M.carried machine.now) (M.choices machine.now) begun)
-        ≡ course_in (M.values machine.now) (scene_in (network net.now) node iterations) site (constrain (cond_tree test.now))
+        → course_of (M.values machine.now) (network net.now) node M.truth done
+        (progress_at (M.carried machine.now) (M.choices machine.now) begun)
+        ≡ course_in (M.values machine.now) (scene_in (network net.now) node iterations) site
+        (constrain (cond_tree test.now))
         (progress_at (M.carried machine.now) (M.choices machine.now) begun)) }
     ensures counted { steps.new ≡ steps.old + 1 }
     ensures fit { IfOk result (AsksFor (M.IsFit machine.now)) }
@@ -190,12 +195,15 @@ fn branch<'a, M: Machine, L: Ledger>(
     steps: &mut Steps<L>,
 ) -> Result<Done<'a, M::Test>, NoMemory>
     ensures course { IfOk result (λ done. (begun : ℕ)
-        → course_of (M.values machine.now) (network net.now) node M.truth done (progress_at (M.carried machine.now) (M.choices machine.now) begun)
-        ≡ course_in (M.values machine.now) (scene_in (network net.now) node iterations) site (branch (cond_tree test.now) (code_tree first.now) (code_tree other.now))
+        → course_of (M.values machine.now) (network net.now) node M.truth done
+        (progress_at (M.carried machine.now) (M.choices machine.now) begun)
+        ≡ course_in (M.values machine.now) (scene_in (network net.now) node iterations) site
+        (branch (cond_tree test.now) (code_tree first.now) (code_tree other.now))
         (progress_at (M.carried machine.now) (M.choices machine.now) begun)) }
     ensures counted { steps.new ≡ steps.old + 1 }
     ensures fit { IfOk result (AsksFor (M.IsFit machine.now)) }
-    ensures weight { IfOk result (λ done. (at : Network) → done_weight at done ≤ code_weight at (code_tree first.now) + code_weight at (code_tree other.now)) }
+    ensures weight { IfOk result (λ done. (at : Network)
+        → done_weight at done ≤ code_weight at (code_tree first.now) + code_weight at (code_tree other.now)) }
 {
     let at = Scene {
         net,
@@ -231,8 +239,10 @@ fn each<'a, M: Machine, L: Ledger>(
     steps: &mut Steps<L>,
 ) -> Result<Done<'a, M::Test>, NoMemory>
     ensures course { IfOk result (λ done. (begun : ℕ)
-        → course_of (M.values machine.now) (network net.now) node M.truth done (progress_at (M.carried machine.now) (M.choices machine.now) begun)
-        ≡ course_in (M.values machine.now) (scene_in (network net.now) node iterations) site (each var.now pattern.now (code_tree body.now))
+        → course_of (M.values machine.now) (network net.now) node M.truth done
+        (progress_at (M.carried machine.now) (M.choices machine.now) begun)
+        ≡ course_in (M.values machine.now) (scene_in (network net.now) node iterations) site
+        (each var.now pattern.now (code_tree body.now))
         (progress_at (M.carried machine.now) (M.choices machine.now) begun)) }
     ensures counted { OnOk result (steps.new ≡ steps.old + 1) }
     ensures fit { IfOk result (AsksFor (M.IsFit machine.now)) }

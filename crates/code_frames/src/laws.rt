@@ -11,6 +11,7 @@ use sefl_meaning::laws::Truths;
 
 /// What a plain instruction does it does to what is carried, and the choices stay.
 pub fn plain_steps_are_steps<V: Drop, F: Truths>()
-    ensures { (o : Values V F.Truth) (at : Scene) (instr : InstrTree) (s : Carried V) (choices : List ℕ) → is_plain instr ≡ true
+    ensures { (o : Values V F.Truth) (at : Scene) (instr : InstrTree) (s : Carried V) (choices : List ℕ)
+        → is_plain instr ≡ true
         → done_by o at instr (s, choices) ≡ on_ok (with_choices o at choices) (plain_by o at instr s) }
 {}

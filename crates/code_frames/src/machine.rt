@@ -58,7 +58,8 @@ pub trait Machine {
         steps: &mut Steps<L>,
     ) -> Result<(), StepFault>
         requires { is_step (instr_tree instr.now) ≡ true }
-        ensures step { Meets (done_by (values self.old) (scene_of at.now) (instr_tree instr.now) (carried self.old, choices self.old))
+        ensures step { Meets (done_by (values self.old) (scene_of at.now) (instr_tree instr.now)
+            (carried self.old, choices self.old))
             result (carried self.old, choices self.old) (carried self.new, choices self.new) }
         ensures kept { values self.new ≡ values self.old }
         ensures rest { rest self.new ≡ rest self.old }
@@ -72,7 +73,8 @@ pub trait Machine {
         test: &Cond,
         steps: &mut Steps<L>,
     ) -> Result<Self::Test, StepFault>
-        ensures test { GivesBy truth (truth_in (values self.now) (scene_of at.now) (cond_tree test.now) (carried self.now)) result }
+        ensures test { GivesBy truth (truth_in (values self.now) (scene_of at.now) (cond_tree test.now)
+            (carried self.now)) result }
         ensures fit { IfOk result (IsFit self.now) }
         ensures counted { steps.new ≡ steps.old + 1 };
 

@@ -22,7 +22,8 @@ pub fn take_plain<A: Arithmetic>(
     state: &mut Carried<A::Value>,
     instr: &Instr,
 ) -> Result<(), StepFault>
-    ensures { Meets (plain_by (A.values o.now) (scene_of at.now) (instr_tree instr.now) (carried_of state.old)) result (carried_of state.old) (carried_of state.new) }
+    ensures { Meets (plain_by (A.values o.now) (scene_of at.now) (instr_tree instr.now) (carried_of state.old)) result
+        (carried_of state.old) (carried_of state.new) }
 {
     match instr {
         Instr::Allocate(target) => allocate(alloc, at, state, target),

@@ -34,13 +34,16 @@ pub fn next<'a, M: Machine, L: Ledger>(
     steps: &mut Steps<L>,
 ) -> Result<Move<'a, M::Test>, NoMemory>
     ensures course { IfOk result (λ move. GoesOn steps.old steps.new
-        (from (course_frames (M.values machine.old) (network net.now) node (reverse frames.old.items)) (M.carried machine.old) (M.choices machine.old))
-        (from (course_after (M.values machine.old) (network net.now) node M.truth move (reverse frames.new.items)) (M.carried machine.new) (M.choices machine.new))) }
+        (from (course_frames (M.values machine.old) (network net.now) node (reverse frames.old.items))
+        (M.carried machine.old) (M.choices machine.old))
+        (from (course_after (M.values machine.old) (network net.now) node M.truth move (reverse frames.new.items))
+        (M.carried machine.new) (M.choices machine.new))) }
     ensures kept { OnOk result (M.values machine.new ≡ M.values machine.old) }
     ensures rest { OnOk result (M.rest machine.new ≡ M.rest machine.old) }
     ensures fit { IfOk result (WaitsFor (M.IsFit machine.new)) }
     ensures weight { IfOk result (λ move. IsBelow (network net.now) move
-        (frames_weight (network net.now) (reverse frames.new.items)) (frames_weight (network net.now) (reverse frames.old.items))) }
+        (frames_weight (network net.now) (reverse frames.new.items))
+        (frames_weight (network net.now) (reverse frames.old.items))) }
 {
     while let Some(frame) = frames.pop() {
         if let Some(found) = step_frame(alloc, machine, net, node, frame, frames, steps)? {
@@ -58,9 +61,11 @@ pub fn answer<'a, M: Machine>(
     frames: &mut Vec<Frame<'a>>,
 ) -> Result<Option<Exit<'a>>, NoMemory>
     ensures course { IfOk result (λ left. (o : Values M.Value M.Truth) (net : Network) (at : Box) (p : Progress M.Value)
-        → course_left o net at left (reverse frames.new.items) p ≡ course_behind o net at question.now holds (reverse frames.old.items) p) }
+        → course_left o net at left (reverse frames.new.items) p
+        ≡ course_behind o net at question.now holds (reverse frames.old.items) p) }
     ensures weight { OnOk result ((net : Network)
-        → frames_weight net (reverse frames.new.items) ≤ question_weight net question.now + frames_weight net (reverse frames.old.items)) }
+        → frames_weight net (reverse frames.new.items) ≤ question_weight net question.now + frames_weight net
+        (reverse frames.old.items)) }
     ensures kept { OnErr result (frames.new.items ≡ frames.old.items) }
 {
     match question {
@@ -113,12 +118,15 @@ fn step_frame<'a, M: Machine, L: Ledger>(
     steps: &mut Steps<L>,
 ) -> Result<Option<Move<'a, M::Test>>, NoMemory>
     ensures course { IfOk result (λ found. GoesOn steps.old steps.new
-        (from (course_frames (M.values machine.old) (network net.now) node (frame.entry ∷ reverse frames.old.items)) (M.carried machine.old) (M.choices machine.old))
-        (from (course_on (M.values machine.old) (network net.now) node M.truth found (reverse frames.new.items)) (M.carried machine.new) (M.choices machine.new))) }
+        (from (course_frames (M.values machine.old) (network net.now) node (frame.entry ∷ reverse frames.old.items))
+        (M.carried machine.old) (M.choices machine.old))
+        (from (course_on (M.values machine.old) (network net.now) node M.truth found (reverse frames.new.items))
+        (M.carried machine.new) (M.choices machine.new))) }
     ensures kept { OnOk result (M.values machine.new ≡ M.values machine.old) }
     ensures rest { OnOk result (M.rest machine.new ≡ M.rest machine.old) }
     ensures fit { IfOk result (WaitsIfFor (M.IsFit machine.new)) }
-    ensures weight { IfOk result (λ found. waiting_weight (network net.now) found + frames_weight (network net.now) (reverse frames.new.items)
+    ensures weight { IfOk result (λ found. waiting_weight (network net.now) found + frames_weight (network net.now)
+        (reverse frames.new.items)
         < frames_weight (network net.now) (frame.entry ∷ reverse frames.old.items)) }
 {
     match frame {
@@ -161,11 +169,14 @@ fn put<'a, M: Machine>(
     done: Done<'a, M::Test>,
     frames: &mut Vec<Frame<'a>>,
 ) -> Result<Option<Move<'a, M::Test>>, NoMemory>
-    ensures course { IfOk result (λ found. (o : Values M.Value M.Truth) (net : Network) (at : Box) (p : Progress M.Value)
+    ensures course { IfOk result (λ found. (o : Values M.Value M.Truth) (net : Network) (at : Box)
+        (p : Progress M.Value)
         → course_on o net at M.truth found (reverse frames.new.items) p
         ≡ after (course_of o net at M.truth done.entry p) (course_frames o net at (reverse frames.old.items))) }
-    ensures fit { IfOk result (λ found. (machine : M) → AsksFor (M.IsFit machine) done.entry → WaitsIfFor (M.IsFit machine) found) }
-    ensures weight { IfOk result (λ found. (net : Network) → waiting_weight net found + frames_weight net (reverse frames.new.items)
+    ensures fit { IfOk result (λ found. (machine : M) → AsksFor (M.IsFit machine) done.entry
+        → WaitsIfFor (M.IsFit machine) found) }
+    ensures weight { IfOk result (λ found. (net : Network)
+        → waiting_weight net found + frames_weight net (reverse frames.new.items)
         ≡ done_weight net done.entry + frames_weight net (reverse frames.old.items)) }
 {
     match done {
@@ -193,9 +204,11 @@ fn begin_iteration<'a, M: Machine>(
 ) -> Result<(), NoMemory>
     ensures course { OnOk result ((o : Values M.Value M.Truth) (net : Network) (at : Box) (p : Progress M.Value)
         → course_frames o net at (reverse frames.new.items) p
-        ≡ after (of_iterations o net at iterations var.now site (code_tree body.now) keys p) (course_frames o net at (reverse frames.old.items))) }
+        ≡ after (of_iterations o net at iterations var.now site (code_tree body.now) keys p)
+        (course_frames o net at (reverse frames.old.items))) }
     ensures weight { OnOk result ((net : Network) → frames_weight net (reverse frames.new.items)
-        < iterations_weight (length keys) (code_weight net (code_tree body.now)) + frames_weight net (reverse frames.old.items)) }
+        < iterations_weight (length keys) (code_weight net (code_tree body.now)) + frames_weight net
+        (reverse frames.old.items)) }
 {
     let Some((owner, name)) = first_key(&keys) else {
         return Ok(());

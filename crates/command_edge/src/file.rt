@@ -32,7 +32,8 @@ pub fn load_file<F: Folder>(
     folder: &mut F,
 ) -> Result<Vec<u8>, InputFault>
     ensures folder_kept { FolderKept (F.told folder.old) (F.told folder.new) }
-    ensures loaded { IfOk result (λ bytes. IsLoaded F.told F.load_gives limit name.now folder.old bytes.items folder.new) }
+    ensures loaded { IfOk result (λ bytes. IsLoaded F.told F.load_gives limit name.now folder.old bytes.items
+        folder.new) }
     ensures fails { IfErr result (λ fault. IsNotLoaded F.told F.load_gives limit name.now folder.old fault folder.new) }
     ensures shows { IfErr result (FolderShows (F.told folder.old) (F.told folder.new)) }
 {
@@ -47,8 +48,10 @@ pub fn load_text<F: Folder>(
     folder: &mut F,
 ) -> Result<Vec<u8>, InputFault>
     ensures folder_kept { FolderKept (F.told folder.old) (F.told folder.new) }
-    ensures loaded { IfOk result (λ bytes. IsLoaded F.told F.load_gives FILE_LIMIT name.now folder.old bytes.items folder.new) }
-    ensures fails { IfErr result (λ fault. IsNotLoaded F.told F.load_gives FILE_LIMIT name.now folder.old fault folder.new) }
+    ensures loaded { IfOk result (λ bytes. IsLoaded F.told F.load_gives FILE_LIMIT name.now folder.old bytes.items
+        folder.new) }
+    ensures fails { IfErr result (λ fault. IsNotLoaded F.told F.load_gives FILE_LIMIT name.now folder.old fault
+        folder.new) }
     ensures shows { IfErr result (FolderShows (F.told folder.old) (F.told folder.new)) }
 {
     load_file(alloc, name, FILE_LIMIT, folder)

@@ -21,7 +21,8 @@ use path_replay::laws::one_answer_for_a_net;
 /// What `explore` wrote of a job with its refuted sides, whole or partial, `replay` of that job confirms: it comes to the counts
 /// of these records, and to nothing else.
 pub fn replays_confirm_what_explore_wrote()
-    ensures { (hops limit : ℕ) (net : Network) (i : Entry) (ending : EndingOf) (whole : List ℕ) (outcome : Outcome) → MayBeShown hops limit
+    ensures { (hops limit : ℕ) (net : Network) (i : Entry) (ending : EndingOf) (whole : List ℕ) (outcome : Outcome)
+        → MayBeShown hops limit
         → (report : IsReport hops limit Written net i ending whole) → ReplayOf net i whole outcome
         → outcome ≡ text Done (confirmed_text (counts_of (record_trees report.records))) }
 {

@@ -36,7 +36,8 @@ pub fn worlds_decide()
         → FirstFails (world w) tt is f tt → FirstFails (world w) tt is g tt → f ≡ g }
     ensures excludes { (w : World) (is : List Input) (given : List Given) (f : InputFault) → IsSettled w f
         → AllOpen (world w) tt is given tt → FirstFails (world w) tt is f tt → ⊥ }
-    ensures all { (w : World) (is : List Input) (a b : List Given) (finds : List ℕ → List ℕ → Bool) → w.finds ≡ Some finds
+    ensures all { (w : World) (is : List Input) (a b : List Given) (finds : List ℕ → List ℕ → Bool)
+        → w.finds ≡ Some finds
         → AllOpen (world w) tt is a tt → AllOpen (world w) tt is b tt → a ≡ b }
 {
     files_have_one_node();

@@ -37,7 +37,8 @@ pub trait Source {
         ensures kept { IfOk result keeps }
         ensures fails { IfErr result (λ fault. FirstFails (outside F.told F.load_gives P.told P.find_gives)
             (folder.old, patterns.old) (inputs self.now) fault (folder.new, patterns.new)) }
-        ensures shows { IfErr result (InputShows (F.told folder.old) (F.told folder.new) (P.told patterns.old) (P.told patterns.new)) };
+        ensures shows { IfErr result (InputShows (F.told folder.old) (F.told folder.new) (P.told patterns.old)
+            (P.told patterns.new)) };
 }
 
 /// A file of bytes, with the most that it may have.

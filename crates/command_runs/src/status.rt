@@ -144,7 +144,8 @@ fn write_numbers<W: fmt::Write>(
     number: u64,
     kind: u8,
 ) -> fmt::Result
-    ensures { WritesOnOk W.write_str_gives f.old result (words.now ++ (decimal number ++ (codes " " ++ decimal kind))) f.new }
+    ensures { WritesOnOk W.write_str_gives f.old result (words.now ++ (decimal number ++ (codes " " ++ decimal kind)))
+        f.new }
 {
     write!(f, "{words}{number} {kind}")
 }

@@ -36,7 +36,8 @@ fn table_node<F: Folder>(
     ensures table { IfOk result (λ found. IfSome found (λ _. is_code (body_tree body.now) ≡ false)) }
     ensures node { IfOk result (λ found. IfSome found (λ node.
         LoadsCode F.told F.load_gives folder.old (body_tree body.now) (node_tree node) folder.new)) }
-    ensures fails { IfErr result (λ fault. LoadsNoCode F.told F.load_gives folder.old (body_tree body.now) fault folder.new) }
+    ensures fails { IfErr result (λ fault. LoadsNoCode F.told F.load_gives folder.old (body_tree body.now) fault
+        folder.new) }
     ensures shows { IfErr result (FolderShows (F.told folder.old) (F.told folder.new)) }
 {
     let Body::Table { kind, file, style } = body else {
@@ -56,8 +57,10 @@ pub fn fill_tables<F: Folder>(
     folder: &mut F,
 ) -> Result<(), InputFault>
     ensures folder_kept { FolderKept (F.told folder.old) (F.told folder.new) }
-    ensures filled { OnOk result (Fills F.told F.load_gives folder.old (job_tree job.old) (job_tree job.new) folder.new) }
-    ensures fails { IfErr result (λ fault. LoadsUpTo F.told F.load_gives folder.old (job_tree job.old).net.nodes fault folder.new) }
+    ensures filled { OnOk result (Fills F.told F.load_gives folder.old (job_tree job.old) (job_tree job.new)
+        folder.new) }
+    ensures fails { IfErr result (λ fault. LoadsUpTo F.told F.load_gives folder.old (job_tree job.old).net.nodes fault
+        folder.new) }
     ensures shows { IfErr result (FolderShows (F.told folder.old) (F.told folder.new)) }
 {
     for index in 0..job.net.nodes.len() {

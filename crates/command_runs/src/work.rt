@@ -48,7 +48,8 @@ pub fn run<W: Work, F: Folder, P: Patterns, K: Sink>(
     ensures patterns_kept { PatternsKept (P.told patterns.old) (P.told patterns.new) }
     ensures out_kept { SinkKept (K.told out.old) (K.told out.new) }
     ensures ran { Runs K.told K.put_gives out.old out.new (outside F.told F.load_gives P.told P.find_gives)
-        (folder.old, patterns.old) (folder.new, patterns.new) (W.From.inputs (W.source work.now)) (W.work work.now) result }
+        (folder.old, patterns.old) (folder.new, patterns.new) (W.From.inputs (W.source work.now)) (W.work work.now)
+        result }
     ensures shows { Shows (F.told folder.old) (F.told folder.new) (P.told patterns.old) (P.told patterns.new)
         (K.told out.old) (K.told out.new) result }
 {

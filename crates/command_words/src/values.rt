@@ -19,7 +19,8 @@ pub fn read<'a>(
     words: &'a [String],
 ) -> Result<Option<ArgMatches<'a>>, AllocError>
     requires { length form.now.positionals.now < 1000 }
-    ensures { IfOk result (λ r. MatchOption r (read_form (form_of form.now) (map (λ w. string_bytes w) words.entry.now) ≡ None)
+    ensures { IfOk result (λ r. MatchOption r (read_form (form_of form.now) (map (λ w. string_bytes w) words.entry.now)
+        ≡ None)
         (λ m. (given : Given) × (read_form (form_of form.now) (map (λ w. string_bytes w) words.entry.now) ≡ Some given)
         × (rows_of (found_of m) ≡ rows given))) }
 {

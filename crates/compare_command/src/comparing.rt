@@ -65,7 +65,8 @@ fn records_of<L: Ledger>(
     requires name { blank.name ≡ L.name }
     requires parts { blank.parts ≡ L.parts }
     requires some { 0 < blank.parts }
-    ensures { IfOk result (λ r. AreFoundFor hops limit (network job.now.net) (entry job.now.injection) r.0 (record_trees r.1.items)) }
+    ensures { IfOk result (λ r. AreFoundFor hops limit (network job.now.net) (entry job.now.injection) r.0
+        (record_trees r.1.items)) }
 {
     let mut steps = Steps::<L>::new(blank);
     let records = explore(alloc, &job.net, &job.injection, hops, limit, &mut steps)?;

@@ -115,7 +115,8 @@ fn first_false(
     state: &State,
     tests: &[Cond],
 ) -> Result<Option<u64>, NoMemory>
-    ensures { IfOk result (OtherAnswer (IsTrueIn (scene_of at.now.scene) (operations_of at.now) (carried_of state.now)) (map cond_tree tests.now)) }
+    ensures { IfOk result (OtherAnswer (IsTrueIn (scene_of at.now.scene) (operations_of at.now) (carried_of state.now))
+        (map cond_tree tests.now)) }
 {
     for (index, test) in tests.iter().enumerate() {
         match truth_of(alloc, &at.values, &at.scene, state, test) {
@@ -131,7 +132,8 @@ fn first_false(
 /// The tags and then the fields, which have no fault.
 fn carried(alloc: Global, at: &Origin<'_>, raw: &RawInjection) -> Result<State, NoMemory>
     requires { Goes (injected (operations_of at.now) (scene_of at.now.scene) (injection_tree raw.now)) }
-    ensures { IfOk result (λ s. injected (operations_of at.now) (scene_of at.now.scene) (injection_tree raw.now) ≡ Ok (carried_of s)) }
+    ensures { IfOk result (λ s. injected (operations_of at.now) (scene_of at.now.scene) (injection_tree raw.now)
+        ≡ Ok (carried_of s)) }
 {
     match injected(alloc, &at.values, &at.scene, raw) {
         Ok(state) => Ok(state),

@@ -70,8 +70,10 @@ impl<'a> Pending<'a> {
         net: &'a Net,
         steps: &mut Steps<L>,
     ) -> Result<Next<'a>, NoMemory>
-        ensures walks { IfOk result (λ next. walks_next (network net.now) next ≡ walks_of (network net.now) self.entry) }
-        ensures work { IfOk result (λ next. suc (steps_next (network net.now) next) ≡ steps_of (network net.now) self.entry) }
+        ensures walks { IfOk result (λ next. walks_next (network net.now) next
+            ≡ walks_of (network net.now) self.entry) }
+        ensures work { IfOk result (λ next. suc (steps_next (network net.now) next)
+            ≡ steps_of (network net.now) self.entry) }
     {
         let Pending {
             hops,
@@ -127,8 +129,10 @@ fn arrive<'a, L: Ledger>(
     port: u32,
     steps: &mut Steps<L>,
 ) -> Result<Pending<'a>, NoMemory>
-    ensures walks { IfOk result (λ moved. walks_of (network net.now) moved ≡ walks_by (network net.now) (stage_before node side port) hops places.items packet.entry) }
-    ensures work { IfOk result (λ moved. suc (steps_of (network net.now) moved) ≡ steps_by (network net.now) (stage_before node side port) hops packet.entry) }
+    ensures walks { IfOk result (λ moved. walks_of (network net.now) moved
+        ≡ walks_by (network net.now) (stage_before node side port) hops places.items packet.entry) }
+    ensures work { IfOk result (λ moved. suc (steps_of (network net.now) moved)
+        ≡ steps_by (network net.now) (stage_before node side port) hops packet.entry) }
 {
     let mut places = places;
     let mut packet = packet;
@@ -162,8 +166,10 @@ fn copy<'a>(
     number: u32,
     ports: &'a [u32],
 ) -> Result<Next<'a>, NoMemory>
-    ensures walks { IfOk result (λ next. (net : Network) → walks_next net next ≡ walks_by net (CopyingTo node number ports.entry) hops places.items packet.entry) }
-    ensures work { IfOk result (λ next. (net : Network) → suc (steps_next net next) ≡ steps_by net (CopyingTo node number ports.entry) hops packet.entry) }
+    ensures walks { IfOk result (λ next. (net : Network)
+        → walks_next net next ≡ walks_by net (CopyingTo node number ports.entry) hops places.items packet.entry) }
+    ensures work { IfOk result (λ next. (net : Network)
+        → suc (steps_next net next) ≡ steps_by net (CopyingTo node number ports.entry) hops packet.entry) }
 {
     let [port, rest @ ..] = ports else {
         return Ok(Next::Gone);
@@ -226,7 +232,8 @@ fn run_port<'a, L: Ledger>(
     steps: &mut Steps<L>,
 ) -> Result<Exit<'a>, NoMemory>
     ensures run { IfOk result (λ exit. RunsAs packet.new exit (noting packet.old.decisions.items
-        (run_port (network net.now) packet.old.numbers.numbers.now packet.old.numbers.unknowns node side port (progress_of packet.old)))) }
+        (run_port (network net.now) packet.old.numbers.numbers.now packet.old.numbers.unknowns node side port
+        (progress_of packet.old)))) }
     ensures given { OnOk result (given_of packet.new ≡ given_of packet.old) }
 {
     let site = first_site(net, node, side, port)?;

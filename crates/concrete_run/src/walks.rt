@@ -111,7 +111,8 @@ fn at_start<'a>(
     state: State,
     hops: u32,
 ) -> Pending<'a>
-    ensures { IsAtStart (entry injection.now) (values.now, unknown_count (entry injection.now)) hops (carried_of state) result }
+    ensures { IsAtStart (entry injection.now) (values.now, unknown_count (entry injection.now)) hops (carried_of state)
+        result }
 {
     let (node, port) = injection.place();
     Pending {
@@ -234,7 +235,8 @@ fn seek<'a, L: Ledger>(
     work: &mut Vec<Pending<'a>>,
     steps: &mut Steps<L>,
 ) -> Result<Option<Walk>, NoMemory>
-    ensures sought { IfOk result (λ found. (all : List Trail) → Sought (network net.now) decisions.now (pending.entry ∷ reverse work.old.items) all
+    ensures sought { IfOk result (λ found. (all : List Trail)
+        → Sought (network net.now) decisions.now (pending.entry ∷ reverse work.old.items) all
         → SeekAnswer (network net.now) decisions.now (reverse work.new.items) all found) }
     ensures work { OnOk result (steps_of_all (network net.now) (reverse work.new.items)
         < steps_of (network net.now) pending.entry + steps_of_all (network net.now) (reverse work.old.items)) }

@@ -67,7 +67,8 @@ fn sum(first: i128, second: i128) -> Option<i128>
 
 /// The sum of the bounds at these indices, where they join head to tail from the unknown back to it, and it has at most 128 bits.
 fn sum_around(bounds: &[Bound], indices: &[u32], unknown: u32) -> Option<i128>
-    ensures { IfSome result (λ sum. IsWalk bounds.now unknown indices.now unknown × (sum ≡ total bounds.now indices.now)) }
+    ensures { IfSome result (λ sum. IsWalk bounds.now unknown indices.now unknown
+        × (sum ≡ total bounds.now indices.now)) }
 {
     let mut so_far: i128 = 0;
     let mut place = unknown;

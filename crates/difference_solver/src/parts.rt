@@ -100,7 +100,8 @@ impl Part {
     ) -> Result<Part, AllocError>
         requires few { length choices.now < 2 ^ 32 }
         requires names { length names.now ≤ 65 }
-        ensures places { IfOk result (λ part. part.places.items ≡ places_of (has_label labels.now label) 0 (lists_of choices.now)) }
+        ensures places { IfOk result (λ part. part.places.items
+            ≡ places_of (has_label labels.now label) 0 (lists_of choices.now)) }
         ensures choices { IfOk result (λ part. lists_of part.choices.items
             ≡ renamed_choices names.now (part_of (has_label labels.now label) (lists_of choices.now))) }
     {

@@ -129,7 +129,8 @@ pub(crate) fn spread(
 ) -> Result<Vec<i128>, AllocError>
     requires few { length names.now ≤ 65 }
     requires unknowns { count ≤ 64 }
-    ensures { IfOk result (λ found. found.items ≡ spread (has_label labels.now label) names.now values.now 0 (suc count)) }
+    ensures { IfOk result (λ found. found.items ≡ spread (has_label labels.now label) names.now values.now 0
+        (suc count)) }
 {
     let mut found = Vec::new(alloc);
     for unknown in 0..count + 1 {

@@ -275,7 +275,8 @@ impl Walk {
     /// whether there is such a case.
     fn next(&mut self, choices: &[Choice], count: u32, branch: Branch) -> Result<bool, AllocError>
         requires in_range { AreInRange count (lists_of choices.now) }
-        requires left { IsLeft count (lists_of choices.now) self.old.gathered.items branch (reverse self.old.branches.items) self.old.best }
+        requires left { IsLeft count (lists_of choices.now) self.old.gathered.items branch
+            (reverse self.old.branches.items) self.old.best }
         ensures next { IfOk result (λ taken. MatchBool taken
             (IsWalkAt count (lists_of choices.now) self.new) (IsWalkPast count (lists_of choices.now) self.new)) }
         ensures back { IfOk result (λ taken. OnFalse taken (self.new.branches.items ≡ self.old.branches.items)) }
@@ -325,7 +326,8 @@ impl Walk {
     ) -> Result<bool, AllocError>
         requires in_range { AreInRange count (lists_of choices.now) }
         requires none { is_some self.old.best ≡ false }
-        requires past { IsPast count (lists_of choices.now) self.old.gathered.items (branch ∷ reverse self.old.branches.items) self.old.best self.old.steps.items }
+        requires past { IsPast count (lists_of choices.now) self.old.gathered.items
+            (branch ∷ reverse self.old.branches.items) self.old.best self.old.steps.items }
         ensures next { IfOk result (λ taken. MatchBool taken
             (IsWalkAt count (lists_of choices.now) self.new) (IsWalkPast count (lists_of choices.now) self.new)) }
         ensures back { IfOk result (λ taken. OnFalse taken (self.new.branches.items ≡ self.old.branches.items)) }
@@ -348,7 +350,8 @@ impl Walk {
         branch: Branch,
     ) -> Result<bool, AllocError>
         requires in_range { AreInRange count (lists_of choices.now) }
-        requires past { IsPast count (lists_of choices.now) self.old.gathered.items (branch ∷ reverse self.old.branches.items) self.old.best self.old.steps.items }
+        requires past { IsPast count (lists_of choices.now) self.old.gathered.items
+            (branch ∷ reverse self.old.branches.items) self.old.best self.old.steps.items }
         ensures next { IfOk result (λ taken. MatchBool taken
             (IsWalkAt count (lists_of choices.now) self.new) (IsWalkPast count (lists_of choices.now) self.new)) }
         ensures back { IfOk result (λ taken. OnFalse taken (self.new.branches.items ≡ self.old.branches.items)) }

@@ -56,7 +56,8 @@ pub fn uncut_reports_hold_beyond()
 /// Lists of records that are exact for one net, injection, hops and limit end alike: something was left untried in all of them, or
 /// in none.
 pub fn explorations_have_one_ending()
-    ensures { (hops limit : ℕ) (net : Network) (i : Entry) (rs qs : List RecordTree) (a b : EndingOf) → AreExactFor net i hops limit rs
+    ensures { (hops limit : ℕ) (net : Network) (i : Entry) (rs qs : List RecordTree) (a b : EndingOf)
+        → AreExactFor net i hops limit rs
         → AreExactFor net i hops limit qs → IsEnding a rs → IsEnding b qs → a ≡ b }
 {
     alike_records_tell_the_same();

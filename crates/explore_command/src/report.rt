@@ -86,7 +86,8 @@ fn explore_records<N: OfNet, M: Mark<K>, K: Sink, L: Ledger>(
     requires parts { blank.parts ≡ L.parts }
     requires some { 0 < blank.parts }
     ensures out_kept { SinkKept (K.told out.old) (K.told out.new) }
-    ensures puts { PutsRecords K.told K.put_gives hops limit sides (network job.now.net) (entry job.now.injection) out.old out.new result }
+    ensures puts { PutsRecords K.told K.put_gives hops limit sides (network job.now.net) (entry job.now.injection)
+        out.old out.new result }
     ensures shows { IfErr result (StopShows (K.told out.old) (K.told out.new)) }
 {
     exact_records_fit();
@@ -134,7 +135,8 @@ fn put_records<N: OfNet, M: Mark<K>, K: Sink, L: Ledger>(
     requires parts { blank.parts ≡ L.parts }
     requires some { 0 < blank.parts }
     ensures out_kept { SinkKept (K.told out.old) (K.told out.new) }
-    ensures puts { PutsRecords K.told K.put_gives hops limit sides (network job.now.net) (entry job.now.injection) out.old out.new result }
+    ensures puts { PutsRecords K.told K.put_gives hops limit sides (network job.now.net) (entry job.now.injection)
+        out.old out.new result }
     ensures shows { IfErr result (StopShows (K.told out.old) (K.told out.new)) }
 {
     let mut pieces: Pieces<'_, N> = Pieces::new(alloc, &job.net);
@@ -166,7 +168,8 @@ fn put_rest<K: Sink>(
     requires job { AreOfOneJob (network job.now.net) (entry job.now.injection) }
     requires limit { 0 < limit }
     ensures out_kept { SinkKept (K.told out.old) (K.told out.new) }
-    ensures puts { PutsRest K.told K.put_gives hops limit sides (network job.now.net) (entry job.now.injection) out.old out.new result }
+    ensures puts { PutsRest K.told K.put_gives hops limit sides (network job.now.net) (entry job.now.injection) out.old
+        out.new result }
     ensures shows { IfErr result (StopShows (K.told out.old) (K.told out.new)) }
 {
     let tail = put_records::<Brand, Brand, K, Brand>(
@@ -193,7 +196,8 @@ pub(crate) fn put_report<K: Sink>(
     requires job { AreOfOneJob (network job.now.net) (entry job.now.injection) }
     requires limit { 0 < limit }
     ensures out_kept { SinkKept (K.told out.old) (K.told out.new) }
-    ensures performs { Performs K.told K.put_gives out.old out.new (explore_work hops limit sides) (given_of job.now ∷ []) result }
+    ensures performs { Performs K.told K.put_gives out.old out.new (explore_work hops limit sides)
+        (given_of job.now ∷ []) result }
     ensures shows { WriteShows (K.told out.old) (K.told out.new) result }
 {
     lines_join();

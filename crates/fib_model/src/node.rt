@@ -44,7 +44,8 @@ fn chain(alloc: Global, ports: u32, rows: &[(u64, u32, u32)]) -> Result<RawNode,
 
 fn grouped(alloc: Global, ports: u32, rows: &[(u64, u32, u32)]) -> Result<RawNode, NoMemory>
     requires { IsFib ports rows.now }
-    ensures { IfOk result (λ node. IsFibNode (record { ports = ports; rows = rows.now }) Style.Grouped (node_tree node)) }
+    ensures { IfOk result (λ node. IsFibNode (record { ports = ports; rows = rows.now }) Style.Grouped
+        (node_tree node)) }
 {
     let sets = least_sets(alloc, ports, rows)?;
     grouped_node(alloc, TableKind::Fib, ports, &sets)
@@ -52,7 +53,8 @@ fn grouped(alloc: Global, ports: u32, rows: &[(u64, u32, u32)]) -> Result<RawNod
 
 fn egress(alloc: Global, ports: u32, rows: &[(u64, u32, u32)]) -> Result<RawNode, NoMemory>
     requires { IsFib ports rows.now }
-    ensures { IfOk result (λ node. IsFibNode (record { ports = ports; rows = rows.now }) Style.Egress (node_tree node)) }
+    ensures { IfOk result (λ node. IsFibNode (record { ports = ports; rows = rows.now }) Style.Egress
+        (node_tree node)) }
 {
     let sets = least_sets(alloc, ports, rows)?;
     egress_node(alloc, TableKind::Fib, ports, &sets)

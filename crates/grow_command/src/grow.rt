@@ -40,7 +40,8 @@ fn count_records<L: Ledger>(alloc: Global, job: &Accepted, blank: Blank) -> Resu
     requires name { blank.name ≡ L.name }
     requires parts { blank.parts ≡ L.parts }
     requires some { 0 < blank.parts }
-    ensures { IfOk result (λ found. AreCounts (network job.now.net) (entry job.now.injection) found.ending found.counts) }
+    ensures { IfOk result (λ found. AreCounts (network job.now.net) (entry job.now.injection) found.ending
+        found.counts) }
 {
     let mut steps = Steps::<L>::new(blank);
     let mut tally = Tally {
@@ -75,7 +76,8 @@ pub struct Grow {
 /// The text of the summary of the job that grew.
 fn text_of(alloc: Global, source: GrownJob, job: &Accepted) -> Result<(Ending, String), OwnFault>
     requires { AreOfOneJob (network job.now.net) (entry job.now.injection) }
-    ensures text { IfOk result (λ t. GrowComes source.seed source.boxes (given_of job.now ∷ []) (a_text t.0 (string_bytes t.1))) }
+    ensures text { IfOk result (λ t. GrowComes source.seed source.boxes (given_of job.now ∷ [])
+        (a_text t.0 (string_bytes t.1))) }
     ensures refused { IfErr result (IsRefusal (GrowComes source.seed source.boxes (given_of job.now ∷ []))) }
 {
     let found = count_records::<Brand>(alloc, job, Blank::new(1))?;

@@ -9,7 +9,8 @@ use one_list::laws::{alike_records_tell_the_same, exact_records_are_one};
 
 /// What `grow` comes to of a job is one thing.
 pub fn grown_jobs_have_one_outcome()
-    ensures { (seed boxes : ℕ) (net : Network) (i : Entry) (a b : Outcome) → SummaryOf seed boxes net i a → SummaryOf seed boxes net i b → a ≡ b }
+    ensures { (seed boxes : ℕ) (net : Network) (i : Entry) (a b : Outcome) → SummaryOf seed boxes net i a
+        → SummaryOf seed boxes net i b → a ≡ b }
 {
     alike_records_tell_the_same();
     exact_records_are_one();

@@ -37,7 +37,8 @@ pub fn valuing_commutes<V: Drop, W: Drop>()
 pub fn assign_then_read<V: Drop>()
     ensures there { (tag : Option TagId) (offset : ℤ) (width : ℕ) (value : V) (s next : Layout V)
         → assigned tag offset width value s ≡ Ok next → value_of tag offset width next ≡ Ok value }
-    ensures elsewhere { (tag other : Option TagId) (offset distance : ℤ) (width size : ℕ) (value : V) (s next : Layout V)
+    ensures elsewhere { (tag other : Option TagId) (offset distance : ℤ) (width size : ℕ) (value : V)
+        (s next : Layout V)
         → (address_of other distance s.tags ≡ address_of tag offset s.tags → ⊥)
         → assigned tag offset width value s ≡ Ok next
         → value_of other distance size next ≡ value_of other distance size s }

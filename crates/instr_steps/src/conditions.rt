@@ -24,7 +24,8 @@ pub fn truth_of<A: Arithmetic>(
     state: &Carried<A::Value>,
     test: &Cond,
 ) -> Result<A::Test, StepFault>
-    ensures { GivesBy A.truth (truth_in (A.values o.now) (scene_of at.now) (cond_tree test.now) (carried_of state.now)) result }
+    ensures { GivesBy A.truth (truth_in (A.values o.now) (scene_of at.now) (cond_tree test.now) (carried_of state.now))
+        result }
 {
     match test {
         Cond::True => Ok(o.always()),
@@ -54,7 +55,8 @@ fn truths_of<A: Arithmetic>(
     state: &Carried<A::Value>,
     members: &[Cond],
 ) -> Result<Vec<A::Test>, StepFault>
-    ensures { GivesBy (λ tests. map A.truth tests.items) (truths_in (A.values o.now) (scene_of at.now) (cond_trees members.now) (carried_of state.now)) result }
+    ensures { GivesBy (λ tests. map A.truth tests.items)
+        (truths_in (A.values o.now) (scene_of at.now) (cond_trees members.now) (carried_of state.now)) result }
 {
     let mut tests = Vec::new(alloc);
     for member in members {
@@ -73,7 +75,8 @@ fn compare<A: Arithmetic>(
     left: &Expr,
     right: &Expr,
 ) -> Result<A::Test, StepFault>
-    ensures { GivesBy A.truth (compared (A.values o.now) (scene_of at.now) (atom_width (comparison (expr_tree left.now) (expr_tree right.now)))
+    ensures { GivesBy A.truth (compared (A.values o.now) (scene_of at.now)
+        (atom_width (comparison (expr_tree left.now) (expr_tree right.now)))
         rel (expr_tree left.now) (expr_tree right.now) (carried_of state.now)) result }
 {
     let width = compared_width(left, right);
@@ -90,7 +93,8 @@ fn look_up<A: Arithmetic>(
     value: &Expr,
     ranges: &RangeList,
 ) -> Result<A::Test, StepFault>
-    ensures { GivesBy A.truth (looked_up (A.values o.now) (scene_of at.now) (atom_width (membership (expr_tree value.now) ranges.now))
+    ensures { GivesBy A.truth (looked_up (A.values o.now) (scene_of at.now)
+        (atom_width (membership (expr_tree value.now) ranges.now))
         (expr_tree value.now) ranges.now (carried_of state.now)) result }
 {
     let width = or_64(first_width(value));

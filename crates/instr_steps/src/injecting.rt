@@ -51,7 +51,8 @@ fn add_tags<A: Arithmetic>(
     carried: &mut Carried<A::Value>,
     tags: &[(Name, Addr)],
 ) -> Result<(), StepFault>
-    ensures { Leads (with_tags (A.values at.now.values.now) (scene_of at.now.scene) tags.now (carried_of carried.old)) result (carried_of carried.new) }
+    ensures { Leads (with_tags (A.values at.now.values.now) (scene_of at.now.scene) tags.now (carried_of carried.old))
+        result (carried_of carried.new) }
 {
     for (name, addr) in tags {
         set_tag(alloc, &at.scene, carried, name, addr)?;
@@ -65,7 +66,8 @@ fn add_fields<A: Arithmetic>(
     carried: &mut Carried<A::Value>,
     fields: &[RawField],
 ) -> Result<(), StepFault>
-    ensures { Leads (with_fields (A.values at.now.values.now) (scene_of at.now.scene) 0 fields.now (carried_of carried.old)) result (carried_of carried.new) }
+    ensures { Leads (with_fields (A.values at.now.values.now) (scene_of at.now.scene) 0 fields.now
+        (carried_of carried.old)) result (carried_of carried.new) }
 {
     let mut number: u64 = 0;
     for field in fields {
@@ -85,7 +87,8 @@ fn add_field<A: Arithmetic>(
     number: u64,
     field: &RawField,
 ) -> Result<(), StepFault>
-    ensures { Leads (with_field (A.values at.now.values.now) (scene_of at.now.scene) number field.now (carried_of carried.old)) result (carried_of carried.new) }
+    ensures { Leads (with_field (A.values at.now.values.now) (scene_of at.now.scene) number field.now
+        (carried_of carried.old)) result (carried_of carried.new) }
 {
     let width = width_of(&field.target);
     let value = field_value(alloc, at.values, width, number, field.value)?;

@@ -21,7 +21,8 @@ pub fn allocate<V: Drop>(
     state: &mut Carried<V>,
     target: &Target,
 ) -> Result<(), StepFault>
-    ensures { Meets (allocated (scene_of at.now) target.now (carried_of state.old)) result (carried_of state.old) (carried_of state.new) }
+    ensures { Meets (allocated (scene_of at.now) target.now (carried_of state.old)) result (carried_of state.old)
+        (carried_of state.new) }
 {
     match target {
         Target::Header { addr, width } => {
@@ -48,7 +49,8 @@ pub fn deallocate<V: Drop>(
     state: &mut Carried<V>,
     target: &Target,
 ) -> Result<(), StepFault>
-    ensures { Meets (deallocated (scene_of at.now) target.now (carried_of state.old)) result (carried_of state.old) (carried_of state.new) }
+    ensures { Meets (deallocated (scene_of at.now) target.now (carried_of state.old)) result (carried_of state.old)
+        (carried_of state.new) }
 {
     match target {
         Target::Header { addr, width } => {
@@ -76,7 +78,8 @@ pub fn put<V: Drop>(
     target: &Target,
     value: V,
 ) -> Result<(), StepFault>
-    ensures { Meets (assigned (scene_of at.now) target.now value (carried_of state.old)) result (carried_of state.old) (carried_of state.new) }
+    ensures { Meets (assigned (scene_of at.now) target.now value (carried_of state.old)) result (carried_of state.old)
+        (carried_of state.new) }
 {
     match target {
         Target::Header { addr, width } => {
@@ -105,7 +108,8 @@ pub fn assign<A: Arithmetic>(
     target: &Target,
     value: &Expr,
 ) -> Result<(), StepFault>
-    ensures { Meets (evaluated (A.values o.now) (scene_of at.now) target.now (expr_tree value.now) (carried_of state.old)) result (carried_of state.old) (carried_of state.new) }
+    ensures { Meets (evaluated (A.values o.now) (scene_of at.now) target.now (expr_tree value.now)
+        (carried_of state.old)) result (carried_of state.old) (carried_of state.new) }
 {
     let value = value_of(alloc, o, at, state, width_of(target), value)?;
     put(alloc, at, state, target, value)
@@ -119,7 +123,8 @@ pub fn create_tag<V: Drop>(
     name: &Name,
     addr: &Addr,
 ) -> Result<(), StepFault>
-    ensures { Meets (tag_created (scene_of at.now) name.now addr.now (carried_of state.old)) result (carried_of state.old) (carried_of state.new) }
+    ensures { Meets (tag_created (scene_of at.now) name.now addr.now (carried_of state.old)) result
+        (carried_of state.old) (carried_of state.new) }
 {
     state
         .layers
@@ -134,7 +139,8 @@ pub fn set_tag<V: Drop>(
     name: &Name,
     addr: &Addr,
 ) -> Result<(), StepFault>
-    ensures { Meets (tag_set (scene_of at.now) name.now addr.now (carried_of state.old)) result (carried_of state.old) (carried_of state.new) }
+    ensures { Meets (tag_set (scene_of at.now) name.now addr.now (carried_of state.old)) result (carried_of state.old)
+        (carried_of state.new) }
 {
     state
         .layers
@@ -148,7 +154,8 @@ pub fn destroy_tag<V: Drop>(
     state: &mut Carried<V>,
     name: &Name,
 ) -> Result<(), StepFault>
-    ensures { Meets (tag_destroyed (scene_of at.now) name.now (carried_of state.old)) result (carried_of state.old) (carried_of state.new) }
+    ensures { Meets (tag_destroyed (scene_of at.now) name.now (carried_of state.old)) result (carried_of state.old)
+        (carried_of state.new) }
 {
     state.layers.destroy_tag(alloc, at.tag_id(name))
 }

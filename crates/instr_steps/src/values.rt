@@ -57,7 +57,8 @@ pub fn value_of<A: Arithmetic>(
     width: Width,
     expr: &Expr,
 ) -> Result<A::Value, StepFault>
-    ensures { Gives (value_in (A.values o.now) (scene_of at.now) width (expr_tree expr.now) (carried_of state.now)) result }
+    ensures { Gives (value_in (A.values o.now) (scene_of at.now) width (expr_tree expr.now) (carried_of state.now))
+        result }
 {
     match expr {
         Expr::Const(number) => {
@@ -87,7 +88,8 @@ fn sum_of<A: Arithmetic>(
     first: A::Value,
     rest: &[(Sign, Expr)],
 ) -> Result<A::Value, StepFault>
-    ensures { Gives (sum_in (A.values o.now) (scene_of at.now) width first (summand_trees rest.now) (carried_of state.now)) result }
+    ensures { Gives (sum_in (A.values o.now) (scene_of at.now) width first (summand_trees rest.now)
+        (carried_of state.now)) result }
 {
     let mut sum = first;
     for (sign, operand) in rest {

@@ -221,8 +221,10 @@ fn add_summands<'a>(
     constants: &mut Vec<Num>,
     summands: &'a [(Sign, Expr)],
 ) -> Result<(), NoMemory>
-    ensures reads { OnOk result (lent reads.new.items ≡ lent reads.old.items ++ summand_reads (summand_trees summands.now)) }
-    ensures constants { OnOk result (constants.new.items ≡ constants.old.items ++ summand_constants (summand_trees summands.now)) }
+    ensures reads { OnOk result (lent reads.new.items
+        ≡ lent reads.old.items ++ summand_reads (summand_trees summands.now)) }
+    ensures constants { OnOk result (constants.new.items
+        ≡ constants.old.items ++ summand_constants (summand_trees summands.now)) }
 {
     for (_, operand) in summands {
         add_expr(reads, constants, operand)?;

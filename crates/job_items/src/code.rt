@@ -21,7 +21,8 @@ pub(crate) fn check_code<'a>(
     place: Place<'a>,
     code: &'a [Instr],
 ) -> Result<(), Halt>
-    ensures { Follows (outcome_from (progress_of tally.old) (code_items (place_of place.entry) (code_tree code.now))) result (progress_of tally.new) }
+    ensures { Follows (outcome_from (progress_of tally.old) (code_items (place_of place.entry) (code_tree code.now)))
+        result (progress_of tally.new) }
 {
     for instr in code {
         check_instr(alloc, tally, place, instr)?;
@@ -37,7 +38,8 @@ fn check_instr<'a>(
     place: Place<'a>,
     instr: &'a Instr,
 ) -> Result<(), Halt>
-    ensures { Follows (outcome_from (progress_of tally.old) (instr_items (place_of place.entry) (instr_tree instr.now))) result (progress_of tally.new) }
+    ensures { Follows (outcome_from (progress_of tally.old) (instr_items (place_of place.entry) (instr_tree instr.now)))
+        result (progress_of tally.new) }
 {
     begin_instr(alloc, tally, place, instr)?;
     match instr {

@@ -27,7 +27,8 @@ pub(crate) fn check_fields<'a>(
     tags: &BTreeMap<&'a Name, i32>,
     fields: &'a [RawField],
 ) -> Result<(), Halt>
-    ensures { Follows (outcome_from (progress_of tally.old) (field_items (lent_tags tags.now.entries) [] fields.now)) result (progress_of tally.new) }
+    ensures { Follows (outcome_from (progress_of tally.old) (field_items (lent_tags tags.now.entries) [] fields.now))
+        result (progress_of tally.new) }
 {
     for (i, field) in fields.iter().enumerate() {
         let before = fields.split_at(i).0;
@@ -43,7 +44,8 @@ fn check_field<'a>(
     before: &'a [RawField],
     field: &'a RawField,
 ) -> Result<(), Halt>
-    ensures { Follows (outcome_from (progress_of tally.old) (field_item (lent_tags tags.now.entries) before.now field.now ∷ [])) result (progress_of tally.new) }
+    ensures { Follows (outcome_from (progress_of tally.old)
+        (field_item (lent_tags tags.now.entries) before.now field.now ∷ [])) result (progress_of tally.new) }
 {
     let atoms = lone_atom(alloc, &field.target, field.value)?;
     let early = field_breach(tags, before, field, &atoms);

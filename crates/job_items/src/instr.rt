@@ -25,7 +25,8 @@ pub(crate) fn begin_instr<'a>(
     place: Place<'a>,
     instr: &'a Instr,
 ) -> Result<(), Halt>
-    ensures { Begins (progress_of tally.old) (instr_item (place_of place.entry) (instr_tree instr.now)) result (progress_of tally.new) }
+    ensures { Begins (progress_of tally.old) (instr_item (place_of place.entry) (instr_tree instr.now)) result
+        (progress_of tally.new) }
 {
     let atoms = instr_atoms(alloc, instr)?;
     let early = early_breach(place, instr, &atoms);

@@ -39,7 +39,8 @@ pub(crate) fn first_breach_of(alloc: Global, job: &Job) -> Result<Option<(u64, B
 }
 
 fn check_job<'a>(alloc: Global, tally: &mut Tally<'a>, job: &'a Job) -> Result<(), Halt>
-    ensures { Follows (outcome_from (progress_of tally.old) (job_items (job_tree job.now))) result (progress_of tally.new) }
+    ensures { Follows (outcome_from (progress_of tally.old) (job_items (job_tree job.now))) result
+        (progress_of tally.new) }
 {
     let mut nodes = IndexMap::new(alloc);
     check_net(alloc, tally, &mut nodes, &job.net)?;
@@ -54,7 +55,8 @@ fn check_packet<'a>(
     job: &'a Job,
 ) -> Result<(), Halt>
     ensures { Follows (outcome_from (progress_of tally.old)
-        (injection_items (lent_nodes nodes.now.entries) (injection_tree job.now.injection) ++ map ask_item (map ask_tree job.now.asks.items)))
+        (injection_items (lent_nodes nodes.now.entries) (injection_tree job.now.injection)
+        ++ map ask_item (map ask_tree job.now.asks.items)))
         result (progress_of tally.new) }
 {
     check_injection(alloc, tally, nodes, &job.injection)?;
@@ -68,7 +70,8 @@ fn check_net<'a>(
     net: &'a RawNet,
 ) -> Result<(), Halt>
     requires { nodes.old.entries ≡ [] }
-    ensures follows { Follows (outcome_from (progress_of tally.old) (net_items (net_tree net.now))) result (progress_of tally.new) }
+    ensures follows { Follows (outcome_from (progress_of tally.old) (net_items (net_tree net.now))) result
+        (progress_of tally.new) }
     ensures made { OnOk result (lent_nodes nodes.new.entries ≡ nodes_after [] (net_tree net.now).nodes) }
 {
     check_nodes(alloc, tally, nodes, &net.nodes)?;
@@ -82,7 +85,9 @@ fn check_injection<'a>(
     nodes: &IndexMap<&'a Name, Ports>,
     injection: &'a RawInjection,
 ) -> Result<(), Halt>
-    ensures { Follows (outcome_from (progress_of tally.old) (injection_items (lent_nodes nodes.now.entries) (injection_tree injection.now))) result (progress_of tally.new) }
+    ensures { Follows (outcome_from (progress_of tally.old)
+        (injection_items (lent_nodes nodes.now.entries) (injection_tree injection.now))) result
+        (progress_of tally.new) }
 {
     check_entry(tally, nodes, &injection.node, injection.port)?;
     check_lines(alloc, tally, injection)
@@ -95,7 +100,8 @@ fn check_lines<'a>(
     injection: &'a RawInjection,
 ) -> Result<(), Halt>
     ensures { Follows (outcome_from (progress_of tally.old)
-        (tag_items [] injection.now.tags.items ++ value_items (tags_after [] injection.now.tags.items) (injection_tree injection.now)))
+        (tag_items [] injection.now.tags.items ++ value_items (tags_after [] injection.now.tags.items)
+        (injection_tree injection.now)))
         result (progress_of tally.new) }
 {
     let mut tags = BTreeMap::new(alloc);
@@ -110,7 +116,8 @@ fn check_values<'a>(
     tags: &BTreeMap<&'a Name, i32>,
     injection: &'a RawInjection,
 ) -> Result<(), Halt>
-    ensures { Follows (outcome_from (progress_of tally.old) (value_items (lent_tags tags.now.entries) (injection_tree injection.now))) result (progress_of tally.new) }
+    ensures { Follows (outcome_from (progress_of tally.old)
+        (value_items (lent_tags tags.now.entries) (injection_tree injection.now))) result (progress_of tally.new) }
 {
     check_fields(alloc, tally, tags, &injection.fields)?;
     check_tests(alloc, tally, tags, &injection.fields, &injection.tests)

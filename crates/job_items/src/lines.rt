@@ -31,7 +31,9 @@ pub(crate) fn check_tests<'a>(
     fields: &'a [RawField],
     tests: &'a [Cond],
 ) -> Result<(), Halt>
-    ensures { Follows (outcome_from (progress_of tally.old) (map (test_item (lent_tags tags.now.entries) fields.now) (map cond_tree tests.now))) result (progress_of tally.new) }
+    ensures { Follows (outcome_from (progress_of tally.old)
+        (map (test_item (lent_tags tags.now.entries) fields.now) (map cond_tree tests.now))) result
+        (progress_of tally.new) }
 {
     for test in tests {
         check_test(alloc, tally, tags, fields, test)?;
@@ -46,7 +48,8 @@ fn check_test<'a>(
     fields: &'a [RawField],
     test: &'a Cond,
 ) -> Result<(), Halt>
-    ensures { Follows (outcome_from (progress_of tally.old) (test_item (lent_tags tags.now.entries) fields.now (cond_tree test.now) ∷ [])) result (progress_of tally.new) }
+    ensures { Follows (outcome_from (progress_of tally.old)
+        (test_item (lent_tags tags.now.entries) fields.now (cond_tree test.now) ∷ [])) result (progress_of tally.new) }
 {
     let atoms = cond_atoms(alloc, test)?;
     let early = test_breach(tags, fields, test, &atoms);
@@ -100,7 +103,8 @@ fn reads_at_other_width<'a>(
     fields: &'a [RawField],
     reads: &[&'a Target],
 ) -> bool
-    ensures { result ≡ list_any (λ target. differs_from (injected_width (lent_tags tags.now.entries) fields.now target) (width_of target)) (lent reads.now) }
+    ensures { result ≡ list_any (λ target. differs_from (injected_width (lent_tags tags.now.entries) fields.now target)
+        (width_of target)) (lent reads.now) }
 {
     for target in reads {
         if differs_from(injected_width(tags, fields, target), width_of(target)) {
@@ -140,7 +144,8 @@ fn reads_what_is_not_injected<'a>(
     fields: &'a [RawField],
     reads: &[&'a Target],
 ) -> bool
-    ensures { result ≡ list_any (λ target. is_none (injected_width (lent_tags tags.now.entries) fields.now target)) (lent reads.now) }
+    ensures { result ≡ list_any (λ target. is_none (injected_width (lent_tags tags.now.entries) fields.now target))
+        (lent reads.now) }
 {
     for target in reads {
         if injected_width(tags, fields, target).is_none() {
@@ -220,7 +225,8 @@ pub(crate) fn check_asks<'a>(
     tally: &mut Tally<'a>,
     asks: &'a [Ask],
 ) -> Result<(), Halt>
-    ensures { Follows (outcome_from (progress_of tally.old) (map ask_item (map ask_tree asks.now))) result (progress_of tally.new) }
+    ensures { Follows (outcome_from (progress_of tally.old) (map ask_item (map ask_tree asks.now))) result
+        (progress_of tally.new) }
 {
     for ask in asks {
         check_ask(alloc, tally, ask)?;
@@ -229,7 +235,8 @@ pub(crate) fn check_asks<'a>(
 }
 
 fn check_ask<'a>(alloc: Global, tally: &mut Tally<'a>, ask: &'a Ask) -> Result<(), Halt>
-    ensures { Follows (outcome_from (progress_of tally.old) (ask_item (ask_tree ask.now) ∷ [])) result (progress_of tally.new) }
+    ensures { Follows (outcome_from (progress_of tally.old) (ask_item (ask_tree ask.now) ∷ [])) result
+        (progress_of tally.new) }
 {
     let atoms = ask_atoms(alloc, ask)?;
     let early = ask_breach(ask, &atoms);

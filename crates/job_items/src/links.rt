@@ -25,7 +25,9 @@ pub(crate) fn check_links<'a>(
     used: &mut BTreeSet<(&'a Name, u32)>,
     links: &'a [Link],
 ) -> Result<(), Halt>
-    ensures { Follows (outcome_from (progress_of tally.old) (link_items (lent_nodes nodes.now.entries) (lent_outputs used.old.keys) links.now)) result (progress_of tally.new) }
+    ensures { Follows (outcome_from (progress_of tally.old)
+        (link_items (lent_nodes nodes.now.entries) (lent_outputs used.old.keys) links.now)) result
+        (progress_of tally.new) }
 {
     for link in links {
         check_link(tally, nodes, used, link)?;
@@ -40,7 +42,8 @@ fn check_link<'a>(
     link: &'a Link,
 ) -> Result<(), Halt>
     ensures follows { Follows (outcome_from (progress_of tally.old)
-        (link_item (lent_outputs used.old.keys) (node_named (lent_nodes nodes.now.entries) link.now.from) (node_named (lent_nodes nodes.now.entries) link.now.to) link.now ∷ []))
+        (link_item (lent_outputs used.old.keys) (node_named (lent_nodes nodes.now.entries) link.now.from)
+        (node_named (lent_nodes nodes.now.entries) link.now.to) link.now ∷ []))
         result (progress_of tally.new) }
     ensures made { OnOk result (lent_outputs used.new.keys ≡ with_link (lent_outputs used.old.keys) link.now) }
 {
@@ -65,8 +68,10 @@ fn leave<'a>(
     name: &'a Name,
     port: u32,
 ) -> Result<bool, NoMemory>
-    ensures second { IfOk result (λ is_second. is_second ≡ list_any (is_same_output (name.now, port)) (lent_outputs used.old.keys)) }
-    ensures made { OnOk result (lent_outputs used.new.keys ≡ insert_key output_cmp (lent_outputs used.old.keys) (name.now, port)) }
+    ensures second { IfOk result (λ is_second. is_second
+        ≡ list_any (is_same_output (name.now, port)) (lent_outputs used.old.keys)) }
+    ensures made { OnOk result (lent_outputs used.new.keys
+        ≡ insert_key output_cmp (lent_outputs used.old.keys) (name.now, port)) }
 {
     let is_first = used.insert((name, port))?;
     Ok(!is_first)
@@ -79,7 +84,9 @@ pub(crate) fn check_entry<'a>(
     name: &'a Name,
     port: u32,
 ) -> Result<(), Halt>
-    ensures { Follows (outcome_from (progress_of tally.old) (injection_item (node_named (lent_nodes nodes.now.entries) name.now) port ∷ [])) result (progress_of tally.new) }
+    ensures { Follows (outcome_from (progress_of tally.old)
+        (injection_item (node_named (lent_nodes nodes.now.entries) name.now) port ∷ [])) result
+        (progress_of tally.new) }
 {
     let node = node_named(nodes, name);
     let early = first_breach(&[

@@ -29,8 +29,10 @@ pub(crate) fn check_nodes<'a>(
     nodes: &mut IndexMap<&'a Name, Ports>,
     decls: &'a [NodeDecl],
 ) -> Result<(), Halt>
-    ensures follows { Follows (outcome_from (progress_of tally.old) (node_items (lent_nodes nodes.old.entries) (map decl_tree decls.now))) result (progress_of tally.new) }
-    ensures made { OnOk result (lent_nodes nodes.new.entries ≡ nodes_after (lent_nodes nodes.old.entries) (map decl_tree decls.now)) }
+    ensures follows { Follows (outcome_from (progress_of tally.old)
+        (node_items (lent_nodes nodes.old.entries) (map decl_tree decls.now))) result (progress_of tally.new) }
+    ensures made { OnOk result (lent_nodes nodes.new.entries
+        ≡ nodes_after (lent_nodes nodes.old.entries) (map decl_tree decls.now)) }
 {
     for decl in decls {
         check_node(alloc, tally, nodes, decl)?;
@@ -44,8 +46,10 @@ fn check_node<'a>(
     nodes: &mut IndexMap<&'a Name, Ports>,
     decl: &'a NodeDecl,
 ) -> Result<(), Halt>
-    ensures follows { Follows (outcome_from (progress_of tally.old) (decl_items (lent_nodes nodes.old.entries) (decl_tree decl.now))) result (progress_of tally.new) }
-    ensures made { OnOk result (lent_nodes nodes.new.entries ≡ with_node (lent_nodes nodes.old.entries) (decl_tree decl.now)) }
+    ensures follows { Follows (outcome_from (progress_of tally.old)
+        (decl_items (lent_nodes nodes.old.entries) (decl_tree decl.now))) result (progress_of tally.new) }
+    ensures made { OnOk result (lent_nodes nodes.new.entries
+        ≡ with_node (lent_nodes nodes.old.entries) (decl_tree decl.now)) }
 {
     begin_node(tally, nodes, decl)?;
     check_body(alloc, tally, &decl.body)
@@ -57,8 +61,10 @@ fn begin_node<'a>(
     nodes: &mut IndexMap<&'a Name, Ports>,
     decl: &'a NodeDecl,
 ) -> Result<(), Halt>
-    ensures follows { Follows (outcome_from (progress_of tally.old) (node_item (lent_nodes nodes.old.entries) (decl_tree decl.now) ∷ [])) result (progress_of tally.new) }
-    ensures made { OnOk result (lent_nodes nodes.new.entries ≡ with_node (lent_nodes nodes.old.entries) (decl_tree decl.now)) }
+    ensures follows { Follows (outcome_from (progress_of tally.old)
+        (node_item (lent_nodes nodes.old.entries) (decl_tree decl.now) ∷ [])) result (progress_of tally.new) }
+    ensures made { OnOk result (lent_nodes nodes.new.entries
+        ≡ with_node (lent_nodes nodes.old.entries) (decl_tree decl.now)) }
 {
     let ports = Ports::of(&decl.body);
     let is_twice = node_named(nodes, &decl.name).is_some();
@@ -74,7 +80,8 @@ fn name_node<'a>(
     name: &'a Name,
     ports: Ports,
 ) -> Result<(), NoMemory>
-    ensures { OnOk result (lent_nodes nodes.new.entries ≡ insert_entry bytes_eq (lent_nodes nodes.old.entries) name.now ports) }
+    ensures { OnOk result (lent_nodes nodes.new.entries
+        ≡ insert_entry bytes_eq (lent_nodes nodes.old.entries) name.now ports) }
 {
     nodes.insert(name, ports)?;
     Ok(())
@@ -82,7 +89,9 @@ fn name_node<'a>(
 
 /// Passes the code of a node.
 fn check_body<'a>(alloc: Global, tally: &mut Tally<'a>, body: &'a Body) -> Result<(), Halt>
-    ensures { Follows (outcome_from (progress_of tally.old) (port_items (ports_of (body_tree body.now)) [] [] (codes_of (body_tree body.now)))) result (progress_of tally.new) }
+    ensures { Follows (outcome_from (progress_of tally.old)
+        (port_items (ports_of (body_tree body.now)) [] [] (codes_of (body_tree body.now)))) result
+        (progress_of tally.new) }
 {
     match body {
         Body::Table { .. } => Ok(()),
@@ -104,7 +113,8 @@ fn check_ports<'a>(
     ports: Ports,
     codes: &'a [PortCode],
 ) -> Result<(), Halt>
-    ensures { Follows (outcome_from (progress_of tally.old) (port_items ports [] [] (map port_tree codes.now))) result (progress_of tally.new) }
+    ensures { Follows (outcome_from (progress_of tally.old) (port_items ports [] [] (map port_tree codes.now))) result
+        (progress_of tally.new) }
 {
     let mut ins = IndexSet::new(alloc);
     let mut outs = IndexSet::new(alloc);
@@ -122,7 +132,8 @@ fn check_port<'a>(
     outs: &mut IndexSet<u32>,
     code: &'a PortCode,
 ) -> Result<(), Halt>
-    ensures follows { Follows (outcome_from (progress_of tally.old) (one_port_items ports ins.old.keys outs.old.keys (port_tree code.now))) result (progress_of tally.new) }
+    ensures follows { Follows (outcome_from (progress_of tally.old)
+        (one_port_items ports ins.old.keys outs.old.keys (port_tree code.now))) result (progress_of tally.new) }
     ensures inputs { OnOk result (ins.new.keys ≡ with_input code.now.side code.now.port ins.old.keys) }
     ensures outputs { OnOk result (outs.new.keys ≡ with_output code.now.side code.now.port outs.old.keys) }
 {
@@ -143,7 +154,8 @@ fn begin_port<'a>(
     outs: &mut IndexSet<u32>,
     code: &'a PortCode,
 ) -> Result<(), Halt>
-    ensures follows { Follows (outcome_from (progress_of tally.old) (port_item ports ins.old.keys outs.old.keys (port_tree code.now) ∷ [])) result (progress_of tally.new) }
+    ensures follows { Follows (outcome_from (progress_of tally.old)
+        (port_item ports ins.old.keys outs.old.keys (port_tree code.now) ∷ [])) result (progress_of tally.new) }
     ensures inputs { OnOk result (ins.new.keys ≡ with_input code.now.side code.now.port ins.old.keys) }
     ensures outputs { OnOk result (outs.new.keys ≡ with_output code.now.side code.now.port outs.old.keys) }
 {
@@ -166,7 +178,8 @@ fn note_port(
     side: Side,
     port: u32,
 ) -> Result<bool, NoMemory>
-    ensures second { IfOk result (λ is_second. is_second ≡ list_any (nat_eq port) (on_side side ins.old.keys outs.old.keys)) }
+    ensures second { IfOk result (λ is_second. is_second
+        ≡ list_any (nat_eq port) (on_side side ins.old.keys outs.old.keys)) }
     ensures inputs { OnOk result (ins.new.keys ≡ with_input side port ins.old.keys) }
     ensures outputs { OnOk result (outs.new.keys ≡ with_output side port outs.old.keys) }
 {

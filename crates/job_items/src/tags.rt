@@ -21,7 +21,8 @@ pub(crate) fn check_tags<'a>(
     tags: &mut BTreeMap<&'a Name, i32>,
     lines: &'a [(Name, Addr)],
 ) -> Result<(), Halt>
-    ensures follows { Follows (outcome_from (progress_of tally.old) (tag_items (lent_tags tags.old.entries) lines.now)) result (progress_of tally.new) }
+    ensures follows { Follows (outcome_from (progress_of tally.old) (tag_items (lent_tags tags.old.entries) lines.now))
+        result (progress_of tally.new) }
     ensures made { OnOk result (lent_tags tags.new.entries ≡ tags_after (lent_tags tags.old.entries) lines.now) }
 {
     for line in lines {
@@ -35,7 +36,8 @@ fn check_tag<'a>(
     tags: &mut BTreeMap<&'a Name, i32>,
     line: &'a (Name, Addr),
 ) -> Result<(), Halt>
-    ensures follows { Follows (outcome_from (progress_of tally.old) (tag_item (lent_tags tags.old.entries) line.now ∷ [])) result (progress_of tally.new) }
+    ensures follows { Follows (outcome_from (progress_of tally.old)
+        (tag_item (lent_tags tags.old.entries) line.now ∷ [])) result (progress_of tally.new) }
     ensures made { OnOk result (lent_tags tags.new.entries ≡ with_tag (lent_tags tags.old.entries) line.now) }
 {
     let address = resolved(tags, &line.1);
@@ -67,7 +69,8 @@ fn make_tag_at<'a>(
     name: &'a Name,
     number: i64,
 ) -> Result<(), NoMemory>
-    ensures { OnOk result (lent_tags tags.new.entries ≡ with_address (lent_tags tags.old.entries) name.now (Some number)) }
+    ensures { OnOk result (lent_tags tags.new.entries
+        ≡ with_address (lent_tags tags.old.entries) name.now (Some number)) }
 {
     match address_of(number) {
         None => Ok(()),

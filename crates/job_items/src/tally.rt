@@ -50,7 +50,8 @@ impl<'a> Tally<'a> {
 
     /// Passes an item.
     pub(crate) fn step(&mut self) -> Result<(), Halt>
-        ensures passed { OnOk result (progress_of self.new ≡ record (progress_of self.old) { site = self.old.site + 1 }) }
+        ensures passed { OnOk result (progress_of self.new
+            ≡ record (progress_of self.old) { site = self.old.site + 1 }) }
         ensures no_memory { IsNoMemory result }
     {
         self.site = one_more(self.site)?;
@@ -105,7 +106,8 @@ impl<'a> Tally<'a> {
     /// Notes a pattern.
     fn add_pattern(&mut self, pattern: &'a Text) -> Result<(), NoMemory>
         ensures { OnOk result (progress_of self.new ≡ record (progress_of self.old) {
-          counts = record (progress_of self.old).counts { patterns = with_text (progress_of self.old).counts.patterns pattern.now };
+          counts = record (progress_of self.old).counts
+              { patterns = with_text (progress_of self.old).counts.patterns pattern.now };
         }) }
     {
         self.patterns.insert(pattern)?;
@@ -241,7 +243,8 @@ fn note_names<'a>(names: &mut BTreeSet<&'a Name>, atoms: &[Atom<'a>]) -> Result<
 
 /// Adds the names that these references have.
 fn note_reads<'a>(names: &mut BTreeSet<&'a Name>, reads: &[&'a Target]) -> Result<(), NoMemory>
-    ensures { OnOk result (lent_texts names.new.keys ≡ with_names (lent_texts names.old.keys) (flat_map meta_name (lent reads.now))) }
+    ensures { OnOk result (lent_texts names.new.keys
+        ≡ with_names (lent_texts names.old.keys) (flat_map meta_name (lent reads.now))) }
 {
     for target in reads {
         note_target(names, target)?;

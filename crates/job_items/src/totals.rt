@@ -88,7 +88,8 @@ fn count_code<'a>(alloc: Global, tally: &mut Tally<'a>, code: &'a [Instr]) -> Re
 /// Counts an instruction and those in its blocks.
 #[cycle(count_code)]
 fn count_instr<'a>(alloc: Global, tally: &mut Tally<'a>, instr: &'a Instr) -> Result<(), NoMemory>
-    ensures { OnOk result (counts_of tally.new ≡ with_inner (with_own (counts_of tally.old) (instr_tree instr.now)) (instr_tree instr.now)) }
+    ensures { OnOk result (counts_of tally.new ≡ with_inner (with_own (counts_of tally.old) (instr_tree instr.now))
+        (instr_tree instr.now)) }
 {
     count_own(alloc, tally, instr)?;
     match instr {

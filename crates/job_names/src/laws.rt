@@ -13,7 +13,8 @@ ghost use Rattle.job_names.specs.Occurrences.{as_set, meta_names};
 /// Texts as a set ascend by bytes, and are those texts.
 pub fn sets_ascend()
     ensures ascending { (texts : List (List ℕ)) → IsStrictlySortedBy (slice_cmp nat_cmp) (as_set texts) }
-    ensures members { (texts : List (List ℕ)) (text : List ℕ) → list_any (bytes_eq text) (as_set texts) ≡ list_any (bytes_eq text) texts }
+    ensures members { (texts : List (List ℕ)) (text : List ℕ)
+        → list_any (bytes_eq text) (as_set texts) ≡ list_any (bytes_eq text) texts }
 {}
 
 /// The metadata names of a job are those that acceptance counts.

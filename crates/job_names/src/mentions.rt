@@ -185,7 +185,8 @@ fn add_summands<'a>(
     mentions: &mut Mentions<'a>,
     summands: &'a [(Sign, Expr)],
 ) -> Result<(), NoMemory>
-    ensures { OnOk result (noted_by mentions.new ≡ noted_summands (noted_by mentions.old) (summand_trees summands.now)) }
+    ensures { OnOk result (noted_by mentions.new ≡ noted_summands (noted_by mentions.old)
+        (summand_trees summands.now)) }
 {
     for (_, operand) in summands {
         add_expr(mentions, operand)?;

@@ -47,7 +47,8 @@ impl<'a> Survey<'a> {
 
     /// Passes nodes with their code.
     pub(crate) fn pass_nodes(&mut self, nodes: &'a [NodeDecl]) -> Result<(), NoMemory>
-        ensures { OnOk result (surveyed_by self.new ≡ fold surveyed_decl (surveyed_by self.old) (map decl_tree nodes.now)) }
+        ensures { OnOk result (surveyed_by self.new
+            ≡ fold surveyed_decl (surveyed_by self.old) (map decl_tree nodes.now)) }
     {
         for node in nodes {
             self.pass_node(node)?;
@@ -64,7 +65,8 @@ impl<'a> Survey<'a> {
 
     /// Passes the code of a node; a table that has not been read has none.
     fn pass_body(&mut self, body: &'a Body) -> Result<(), NoMemory>
-        ensures { OnOk result (surveyed_by self.new ≡ fold surveyed_port (surveyed_by self.old) (codes_of (body_tree body.now))) }
+        ensures { OnOk result (surveyed_by self.new
+            ≡ fold surveyed_port (surveyed_by self.old) (codes_of (body_tree body.now))) }
     {
         match body {
             Body::Code(node) => self.pass_ports(&node.codes),
@@ -73,7 +75,8 @@ impl<'a> Survey<'a> {
     }
 
     fn pass_ports(&mut self, ports: &'a [PortCode]) -> Result<(), NoMemory>
-        ensures { OnOk result (surveyed_by self.new ≡ fold surveyed_port (surveyed_by self.old) (map port_tree ports.now)) }
+        ensures { OnOk result (surveyed_by self.new
+            ≡ fold surveyed_port (surveyed_by self.old) (map port_tree ports.now)) }
     {
         for port in ports {
             self.pass_port(port)?;

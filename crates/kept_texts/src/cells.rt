@@ -142,7 +142,8 @@ fn put_new<N: OfNet, K: Key>(
     out: &mut String,
 ) -> Result<(), NoMemory>
     requires { network net.now ≡ N.net }
-    ensures { OnOk result (Grows (compact_text (K.shown N.net key cells.now)) (string_bytes out.old) (string_bytes out.new)) }
+    ensures { OnOk result (Grows (compact_text (K.shown N.net key cells.now)) (string_bytes out.old)
+        (string_bytes out.new)) }
 {
     let text = stack_text(alloc, net, key, cells)?;
     put(out, &text)?;
@@ -163,7 +164,8 @@ fn put_stack<N: OfNet, K: Key>(
     out: &mut String,
 ) -> Result<(), NoMemory>
     requires { network net.now ≡ N.net }
-    ensures { OnOk result (Grows (piece later (K.shown N.net key cells.now)) (string_bytes out.old) (string_bytes out.new)) }
+    ensures { OnOk result (Grows (piece later (K.shown N.net key cells.now)) (string_bytes out.old)
+        (string_bytes out.new)) }
 {
     put_comma(out, later)?;
     match found(entries, place, key, cells) {
@@ -182,7 +184,8 @@ pub(crate) fn put_heads<N: OfNet>(
     out: &mut String,
 ) -> Result<(), NoMemory>
     requires { network net.now ≡ N.net }
-    ensures { OnOk result (Grows (record_pieces false (map (λ p. head_data term_data p.0 p.1) (map held_head heads.now)))
+    ensures { OnOk result (Grows (record_pieces false
+        (map (λ p. head_data term_data p.0 p.1) (map held_head heads.now)))
         (string_bytes out.old) (string_bytes out.new)) }
 {
     let mut place: usize = 0;
@@ -204,7 +207,8 @@ pub(crate) fn put_metas<N: OfNet>(
     out: &mut String,
 ) -> Result<(), NoMemory>
     requires { network net.now ≡ N.net }
-    ensures { OnOk result (Grows (record_pieces false (map (λ p. meta_data term_data (network net.now) p.0 p.1 p.2) (map held_meta metas.now)))
+    ensures { OnOk result (Grows (record_pieces false
+        (map (λ p. meta_data term_data (network net.now) p.0 p.1 p.2) (map held_meta metas.now)))
         (string_bytes out.old) (string_bytes out.new)) }
 {
     let mut place: usize = 0;

@@ -75,7 +75,8 @@ fn push_member<T: Member>(
 ) -> Result<(), NoMemory>
     ensures members { OnOk result (members.new.items ≡ members.old.items ++ member ∷ []) }
     ensures starts { OnOk result (starts.new.items ≡ starts.old.items ++ length (string_bytes text.old) ∷ []) }
-    ensures text { OnOk result (Grows (piece (has_some members.old.items) (T.shown (network net.now) member)) (string_bytes text.old) (string_bytes text.new)) }
+    ensures text { OnOk result (Grows (piece (has_some members.old.items) (T.shown (network net.now) member))
+        (string_bytes text.old) (string_bytes text.new)) }
 {
     let own = member_text(alloc, net, member)?;
     starts.push(text.len())?;

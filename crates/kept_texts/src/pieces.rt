@@ -106,7 +106,8 @@ impl<N: OfNet> KeptTexts<N> {
     /// Puts what is carried at the end of a path.
     fn put_fields(&mut self, net: &Net, fields: &Fields, out: &mut String) -> Result<(), NoMemory>
         requires { network net.now ≡ N.net }
-        ensures { OnOk result (Grows (compact_text (fields_data term_data N.net (fields_seen fields.now))) (string_bytes out.old) (string_bytes out.new)) }
+        ensures { OnOk result (Grows (compact_text (fields_data term_data N.net (fields_seen fields.now)))
+            (string_bytes out.old) (string_bytes out.new)) }
     {
         lists_are_joined();
         self.tags.follow(self.alloc, net, &fields.tags)?;
@@ -131,7 +132,8 @@ impl<N: OfNet> KeptTexts<N> {
         out: &mut String,
     ) -> Result<(), NoMemory>
         requires { network net.now ≡ N.net }
-        ensures { OnOk result (Grows (compact_text (path_data N.net decisions.now places.now end.now (fields_seen fields.now) verdict.now))
+        ensures { OnOk result (Grows (compact_text
+            (path_data N.net decisions.now places.now end.now (fields_seen fields.now) verdict.now))
             (string_bytes out.old) (string_bytes out.new)) }
     {
         lists_are_joined();
@@ -162,7 +164,8 @@ impl<N: OfNet> KeptTexts<N> {
         out: &mut String,
     ) -> Result<(), NoMemory>
         requires { network net.now ≡ N.net }
-        ensures { OnOk result (Grows (compact_text (pruned_data before.now decisions.now steps.now)) (string_bytes out.old) (string_bytes out.new)) }
+        ensures { OnOk result (Grows (compact_text (pruned_data before.now decisions.now steps.now))
+            (string_bytes out.old) (string_bytes out.new)) }
     {
         lists_are_joined();
         self.decisions.follow(self.alloc, net, decisions)?;
@@ -185,7 +188,8 @@ impl<N: OfNet> KeptTexts<N> {
         out: &mut String,
     ) -> Result<(), NoMemory>
         requires { network net.now ≡ N.net }
-        ensures { OnOk result (Grows (compact_text (unexplored_data decisions.now)) (string_bytes out.old) (string_bytes out.new)) }
+        ensures { OnOk result (Grows (compact_text (unexplored_data decisions.now)) (string_bytes out.old)
+            (string_bytes out.new)) }
     {
         lists_are_joined();
         self.decisions.follow(self.alloc, net, decisions)?;
@@ -197,7 +201,8 @@ impl<N: OfNet> KeptTexts<N> {
 
     fn put_record(&mut self, net: &Net, item: &Record, out: &mut String) -> Result<(), NoMemory>
         requires { network net.now ≡ N.net }
-        ensures { OnOk result (Grows (compact_text (record_data N.net item.now)) (string_bytes out.old) (string_bytes out.new)) }
+        ensures { OnOk result (Grows (compact_text (record_data N.net item.now)) (string_bytes out.old)
+            (string_bytes out.new)) }
     {
         match item {
             Record::Path {

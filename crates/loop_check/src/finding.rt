@@ -61,7 +61,8 @@ fn found_of(
     decisions: &[Decision],
 ) -> Result<Option<LoopAnswer>, NoMemory>
     requires { AreOfOneJob (net_of subject.now) (entry_of subject.now) }
-    ensures { IfOk result (SaysIfCut (net_of subject.now) (entry_of subject.now) subject.now.hops (found_tree found.now decisions.now)) }
+    ensures { IfOk result (SaysIfCut (net_of subject.now) (entry_of subject.now) subject.now.hops
+        (found_tree found.now decisions.now)) }
 {
     match found {
         Found::Path { state, end, .. } => match end {
@@ -103,11 +104,13 @@ impl<M: Mark> Finding<'_, M> {
         requires { AreOfOneJob (net_of self.old.subject) (entry_of self.old.subject) }
         ensures same { self.new.subject ≡ self.old.subject }
         ensures keeps { IfOk result (λ done. (xs : List RecordTree) → self.old.count ≡ length xs
-            → AreFound (IsAnswerTo (net_of self.old.subject) (entry_of self.old.subject) self.old.subject.hops) 0 xs self.old.found.items
+            → AreFound (IsAnswerTo (net_of self.old.subject) (entry_of self.old.subject) self.old.subject.hops) 0 xs
+            self.old.found.items
             → (self.new.count ≡ length (xs ++ found_tree found.now decisions.now ∷ []))
             × AreFound (IsAnswerTo (net_of self.old.subject) (entry_of self.old.subject) self.old.subject.hops) 0
             (xs ++ found_tree found.now decisions.now ∷ []) self.new.found.items) }
-        ensures stays { IfErr result (λ fault. (self.new.count ≡ self.old.count) × (self.new.found.items ≡ self.old.found.items)) }
+        ensures stays { IfErr result (λ fault. (self.new.count ≡ self.old.count)
+            × (self.new.found.items ≡ self.old.found.items)) }
     {
         let Some(next) = self.count.checked_add(1) else {
             return Err(NoMemory);

@@ -132,7 +132,8 @@ fn compare_values(
     requires base { IfSome base (λ b. IsBaseOf state.now.condition b.now) }
     requires typed { AllByRecursion (λ p. IsTyped state.now.condition.widths (compared Ne p.0 p.1))
         (paired (terms_of earlier.now) (terms_of later.now)) }
-    ensures { IfOk result (FirstTells (map (difference (condition_seen state.now)) (paired (terms_of earlier.now) (terms_of later.now)))) }
+    ensures { IfOk result (FirstTells (map (difference (condition_seen state.now))
+        (paired (terms_of earlier.now) (terms_of later.now)))) }
 {
     let count = earlier.len().min(later.len());
     for place in 0..count {

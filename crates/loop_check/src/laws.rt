@@ -12,7 +12,8 @@ use loop_meaning::laws::loops_are_for_ever;
 /// What is found of the paths that are cut among exact records is right.
 pub fn what_is_found_is_right()
     ensures { (net : Network) (i : Entry) (hops limit : ℕ) (records : List RecordTree) (found : List (ℕ × LoopAnswer))
-        → AreExactFor net i hops limit records → AreFound (IsAnswerTo net i hops) 0 records found → AreRight net i hops 0 records found }
+        → AreExactFor net i hops limit records → AreFound (IsAnswerTo net i hops) 0 records found
+        → AreRight net i hops 0 records found }
 {
     loops_are_for_ever();
 }

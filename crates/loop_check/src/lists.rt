@@ -47,7 +47,8 @@ pub(crate) fn lists_of(alloc: Global, state: &SymState) -> Result<Lists<'_>, NoM
 
 /// Adds the value of a cell that is set.
 fn add_value<'a>(values: &mut Vec<&'a Term>, cell: &Cell<&'a Term>) -> Result<(), NoMemory>
-    ensures { OnOk result (terms_of values.new.items ≡ terms_of values.old.items ++ value_list (lent_cell cell.now).value) }
+    ensures { OnOk result (terms_of values.new.items
+        ≡ terms_of values.old.items ++ value_list (lent_cell cell.now).value) }
 {
     if let Some(value) = cell.value {
         values.push(value)?;
@@ -57,7 +58,8 @@ fn add_value<'a>(values: &mut Vec<&'a Term>, cell: &Cell<&'a Term>) -> Result<()
 
 /// Adds the values of the cells that are set.
 fn add_values<'a>(values: &mut Vec<&'a Term>, cells: &[Cell<&'a Term>]) -> Result<(), NoMemory>
-    ensures { OnOk result (terms_of values.new.items ≡ terms_of values.old.items ++ values_in (map lent_cell cells.now)) }
+    ensures { OnOk result (terms_of values.new.items
+        ≡ terms_of values.old.items ++ values_in (map lent_cell cells.now)) }
 {
     for cell in cells {
         add_value(values, cell)?;
@@ -67,7 +69,8 @@ fn add_values<'a>(values: &mut Vec<&'a Term>, cells: &[Cell<&'a Term>]) -> Resul
 
 /// Adds those of header cells.
 fn add_head_values<'a>(values: &mut Vec<&'a Term>, heads: &[Head<'a>]) -> Result<(), NoMemory>
-    ensures { OnOk result (terms_of values.new.items ≡ terms_of values.old.items ++ head_values (map lent_stack heads.now)) }
+    ensures { OnOk result (terms_of values.new.items
+        ≡ terms_of values.old.items ++ head_values (map lent_stack heads.now)) }
 {
     for (_, cells) in heads {
         add_values(values, cells)?;
@@ -77,7 +80,8 @@ fn add_head_values<'a>(values: &mut Vec<&'a Term>, heads: &[Head<'a>]) -> Result
 
 /// Adds those of metadata.
 fn add_meta_values<'a>(values: &mut Vec<&'a Term>, metas: &[Meta<'a>]) -> Result<(), NoMemory>
-    ensures { OnOk result (terms_of values.new.items ≡ terms_of values.old.items ++ meta_values (map lent_meta metas.now)) }
+    ensures { OnOk result (terms_of values.new.items
+        ≡ terms_of values.old.items ++ meta_values (map lent_meta metas.now)) }
 {
     for (_, _, cells) in metas {
         add_values(values, cells)?;

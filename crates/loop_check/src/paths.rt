@@ -62,7 +62,8 @@ pub(crate) fn answer_of(
     places: &[Place],
 ) -> Result<LoopAnswer, NoMemory>
     requires { AreOfOneJob (net_of subject.now) (entry_of subject.now) }
-    ensures { IfOk result (AnswersFor (net_of subject.now) (entry_of subject.now) subject.now.hops decisions.now places.now) }
+    ensures { IfOk result (AnswersFor (net_of subject.now) (entry_of subject.now) subject.now.hops decisions.now
+        places.now) }
 {
     a_cut_path_ends_at_its_last_port();
     the_first_closed_decision_is_one::<Term, Formulas>();
@@ -94,7 +95,8 @@ pub fn loop_of(
 ) -> Result<LoopAnswer, NoMemory>
     requires job { AreOfOneJob (network net.now) (entry injection.now) }
     requires cut { IsCutPath (network net.now) (entry injection.now) hops (record_tree found.now) }
-    ensures { IfOk result (IsRight (network net.now) (entry injection.now) hops (decisions_of (record_tree found.now))) }
+    ensures { IfOk result (IsRight (network net.now) (entry injection.now) hops
+        (decisions_of (record_tree found.now))) }
 {
     loops_are_for_ever();
     let subject = Subject {

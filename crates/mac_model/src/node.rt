@@ -47,7 +47,8 @@ fn chain(alloc: Global, ports: u32, rows: &[(u64, u32)]) -> Result<RawNode, NoMe
 
 fn grouped(alloc: Global, ports: u32, rows: &[(u64, u32)]) -> Result<RawNode, NoMemory>
     requires { IsMac ports rows.now }
-    ensures { IfOk result (λ node. IsMacNode (record { ports = ports; rows = rows.now }) Style.Grouped (node_tree node)) }
+    ensures { IfOk result (λ node. IsMacNode (record { ports = ports; rows = rows.now }) Style.Grouped
+        (node_tree node)) }
 {
     let sets = own_sets(alloc, ports, rows)?;
     grouped_node(alloc, TableKind::Mac, ports, &sets)
@@ -55,7 +56,8 @@ fn grouped(alloc: Global, ports: u32, rows: &[(u64, u32)]) -> Result<RawNode, No
 
 fn egress(alloc: Global, ports: u32, rows: &[(u64, u32)]) -> Result<RawNode, NoMemory>
     requires { IsMac ports rows.now }
-    ensures { IfOk result (λ node. IsMacNode (record { ports = ports; rows = rows.now }) Style.Egress (node_tree node)) }
+    ensures { IfOk result (λ node. IsMacNode (record { ports = ports; rows = rows.now }) Style.Egress
+        (node_tree node)) }
 {
     let sets = passing_sets(alloc, ports, rows)?;
     egress_node(alloc, TableKind::Mac, ports, &sets)

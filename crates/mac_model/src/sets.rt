@@ -74,7 +74,8 @@ fn own_ranges(alloc: Global, rows: &[(u64, u32)], port: u32) -> Result<Vec<(Num,
     requires addresses { All (λ row. row.0 < 2 ^ 48) rows.now }
     requires apart { NoneTwice rows.now }
     ensures canonical { IfOk result (λ ranges. IsCanonical 48 ranges.items) }
-    ensures members { IfOk result (λ ranges. (a : ℕ) → a < 2 ^ 48 → lies_in a ranges.items ≡ is_port (mac_port rows.now a) port) }
+    ensures members { IfOk result (λ ranges. (a : ℕ) → a < 2 ^ 48
+        → lies_in a ranges.items ≡ is_port (mac_port rows.now a) port) }
 {
     let set = own(alloc, rows, port)?;
     ranges_of(alloc, &set)
@@ -91,7 +92,8 @@ fn passing_ranges(
     requires apart { NoneTwice rows.now }
     requires unknown { IsSetOf 48 (λ a. fits_width 48 a && is_none (mac_port rows.now a)) unknown.now }
     ensures canonical { IfOk result (λ ranges. IsCanonical 48 ranges.items) }
-    ensures members { IfOk result (λ ranges. (a : ℕ) → a < 2 ^ 48 → lies_in a ranges.items ≡ lets Mac (mac_port rows.now a) port) }
+    ensures members { IfOk result (λ ranges. (a : ℕ) → a < 2 ^ 48
+        → lies_in a ranges.items ≡ lets Mac (mac_port rows.now a) port) }
 {
     let own = own(alloc, rows, port)?;
     let set = unknown.join(alloc, &own)?;

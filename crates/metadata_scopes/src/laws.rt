@@ -37,7 +37,8 @@ pub fn assign_then_read<V: Drop>()
     ensures there { (owner : Option NodeId) (name : NameId) (width : ℕ) (value : V) (scopes next : Metadata V)
         → assigned owner name width value scopes ≡ Ok next
         → value_of owner name width next ≡ Ok value }
-    ensures elsewhere { (owner other_owner : Option NodeId) (name other_name : NameId) (width size : ℕ) (value : V) (scopes next : Metadata V)
+    ensures elsewhere { (owner other_owner : Option NodeId) (name other_name : NameId) (width size : ℕ) (value : V)
+        (scopes next : Metadata V)
         → ((other_owner ≡ owner) × (other_name ≡ name) → ⊥)
         → assigned owner name width value scopes ≡ Ok next
         → value_of other_owner other_name size next ≡ value_of other_owner other_name size scopes }

@@ -60,7 +60,8 @@ fn text_of_table(
     name: &str,
     bytes: &[u8],
 ) -> Result<String, OwnFault>
-    ensures text { IfOk result (λ text. (node : NodeTree) × IsNodeOf kind bytes.now style node × (string_bytes text ≡ node_text (kind_text kind) node)) }
+    ensures text { IfOk result (λ text. (node : NodeTree) × IsNodeOf kind bytes.now style node
+        × (string_bytes text ≡ node_text (kind_text kind) node)) }
     ensures refused { IfErr result (IsModelRefusal kind style name.now bytes.now) }
 {
     match file_node(alloc, kind, bytes, style) {

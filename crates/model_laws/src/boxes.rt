@@ -33,8 +33,10 @@ pub fn table_box_run(
     values: &[Num],
 )
     requires fits { address < 2 ^ bits_of kind }
-    requires reads { read_at (scene_at (network net.now) node) (width_of (destination kind)) (destination kind) (carried_of state.now) ≡ Ok address }
-    ensures { (files : Files) (j full : JobTree) (name : List ℕ) (d : DeclTree) → IsFilled files j full → IsNetOf full (network net.now)
+    requires reads { read_at (scene_at (network net.now) node) (width_of (destination kind)) (destination kind)
+        (carried_of state.now) ≡ Ok address }
+    ensures { (files : Files) (j full : JobTree) (name : List ℕ) (d : DeclTree) → IsFilled files j full
+        → IsNetOf full (network net.now)
         → slice_get j.net.nodes node.0 ≡ Some d → d.body ≡ table kind name style
         → LeavesByFile files kind name (network net.now) node values.now (carried_of state.now) address }
 {

@@ -61,8 +61,10 @@ pub fn tee_run(
     state: &State,
     values: &[Num],
 )
-    ensures { (outputs : Option ℕ) → RunsAs config.now element (network net.now) node values.now (carried_of state.now) (class.tee outputs)
-        (λ e unknowns. rows.tee_row (tee_outputs outputs (leads_of e.name config.now.connections)) (carried_of state.now)) }
+    ensures { (outputs : Option ℕ) → RunsAs config.now element (network net.now) node values.now (carried_of state.now)
+        (class.tee outputs)
+        (λ e unknowns. rows.tee_row (tee_outputs outputs (leads_of e.name config.now.connections))
+        (carried_of state.now)) }
 {}
 
 /// DecIPTTL: a packet whose time to live is at most 1 leaves by output 1 if that is connected, and is
@@ -76,7 +78,8 @@ pub fn dec_ip_ttl_run(
     values: &[Num],
 )
     ensures { RunsAs config.now element (network net.now) node values.now (carried_of state.now) class.dec_ip_ttl
-        (λ e unknowns. rows.dec_ip_ttl_row (scene_at (network net.now) node) (leads_of e.name config.now.connections).second (carried_of state.now)) }
+        (λ e unknowns. rows.dec_ip_ttl_row (scene_at (network net.now) node)
+        (leads_of e.name config.now.connections).second (carried_of state.now)) }
 {}
 
 /// EtherMirror: the addresses of the Ethernet header are exchanged. That the metadata are stacks is told by
@@ -138,8 +141,10 @@ pub fn ether_encap_run(
     values: &[Num],
 )
     ensures { (kind source destination : ℕ)
-        → RunsAs config.now element (network net.now) node values.now (carried_of state.now) (class.ether_encap kind source destination)
-        (λ e unknowns. rows.ether_encap_row (scene_at (network net.now) node) kind source destination (carried_of state.now)) }
+        → RunsAs config.now element (network net.now) node values.now (carried_of state.now)
+        (class.ether_encap kind source destination)
+        (λ e unknowns. rows.ether_encap_row (scene_at (network net.now) node) kind source destination
+        (carried_of state.now)) }
 {}
 
 /// IPFilter: the first rule that a packet passes lets it through or drops it, and one that passes none is
@@ -152,7 +157,8 @@ pub fn ip_filter_run(
     state: &State,
     values: &[Num],
 )
-    ensures { (rules : List RuleSeen) → RunsAs config.now element (network net.now) node values.now (carried_of state.now) (class.ip_filter rules)
+    ensures { (rules : List RuleSeen) → RunsAs config.now element (network net.now) node values.now
+        (carried_of state.now) (class.ip_filter rules)
         (λ e unknowns. rows.ip_filter_row (scene_at (network net.now) node) rules (carried_of state.now)) }
 {}
 
@@ -167,6 +173,7 @@ pub fn ip_classifier_run(
     values: &[Num],
 )
     ensures { (patterns : List (List Primitive))
-        → RunsAs config.now element (network net.now) node values.now (carried_of state.now) (class.ip_classifier patterns)
+        → RunsAs config.now element (network net.now) node values.now (carried_of state.now)
+        (class.ip_classifier patterns)
         (λ e unknowns. rows.ip_classifier_row (scene_at (network net.now) node) 0 patterns (carried_of state.now)) }
 {}

@@ -31,10 +31,12 @@ pub fn acl_run(
     values: &[Num],
 )
     requires style { style ≡ Style.Egress → ⊥ }
-    requires codes { (side : Side) (port : ℕ) → code_at (network net.now) node side port ≡ code_in (acl_node style acl.now) side port }
+    requires codes { (side : Side) (port : ℕ) → code_at (network net.now) node side port
+        ≡ code_in (acl_node style acl.now) side port }
     requires reads { AllRead (scene_at (network net.now) node) fields packet (carried_of state.now) }
     ensures { (unknowns begun : ℕ) (choices : List ℕ)
-        → outcome (run_port (network net.now) values.now unknowns node Inward 0 (progress (carried_of state.now) choices begun))
+        → outcome (run_port (network net.now) values.now unknowns node Inward 0
+        (progress (carried_of state.now) choices begun))
         ≡ filter_row acl.now packet (carried_of state.now) }
 {
     let _rules = acl.rules();

@@ -27,10 +27,12 @@ pub fn table_run(
     address: Num,
     values: &[Num],
 )
-    requires reads { read_at (scene_at (network net.now) node) (width_of (destination kind)) (destination kind) (carried_of state.now) ≡ Ok address }
+    requires reads { read_at (scene_at (network net.now) node) (width_of (destination kind)) (destination kind)
+        (carried_of state.now) ≡ Ok address }
     ensures { (tree : NodeTree) → IsTableNode kind tree
         → ((side : Side) (port : ℕ) → code_at (network net.now) node side port ≡ code_in tree side port)
         → (unknowns begun : ℕ) (choices : List ℕ)
-        → leaves_by (network net.now) values.now unknowns node (record { state = carried_of state.now; choices = choices; begun = begun })
+        → leaves_by (network net.now) values.now unknowns node
+        (record { state = carried_of state.now; choices = choices; begun = begun })
         ≡ exits tree address }
 {}

@@ -61,14 +61,18 @@ pub fn accept<P: Patterns>(
     // What is accepted is the job's own, and lists the names for which `find` answered Yes.
     ensures accepted { IfOk result (IsAcceptedAs (job_tree job)) }
     ensures asked { IfOk result (λ a. Asked (IsStep P.told P.find_gives) patterns.old a patterns.new) }
-    ensures found { IfOk result (λ a. ForSome (P.told patterns.old).matches (λ finds. a.net.found ≡ found_by finds (names_of (job_tree job)))) }
+    ensures found { IfOk result (λ a. ForSome (P.told patterns.old).matches
+        (λ finds. a.net.found ≡ found_by finds (names_of (job_tree job)))) }
 
     // A refusal has its cause, and the other way.
     ensures cause { (site : SiteOf) (rule : RuleOf) → result ≡ Err (Refused site rule)
         → IsCause (IsStep P.told P.find_gives) (job_tree job) patterns.old site rule patterns.new }
-    ensures raised { (site : SiteOf) → result ≡ Err (Refused site BadPattern) → (P.told patterns.old).refusals < (P.told patterns.new).refusals }
-    ensures at_refusal { (site : ℕ) (rule : RuleOf) → refusal (job_tree job) ≡ Some (site, rule) → IsRefusedBy site rule result }
-    ensures unasked { (site : ℕ) (rule : RuleOf) → refusal (job_tree job) ≡ Some (site, rule) → patterns.new ≡ patterns.old }
+    ensures raised { (site : SiteOf) → result ≡ Err (Refused site BadPattern)
+        → (P.told patterns.old).refusals < (P.told patterns.new).refusals }
+    ensures at_refusal { (site : ℕ) (rule : RuleOf) → refusal (job_tree job) ≡ Some (site, rule)
+        → IsRefusedBy site rule result }
+    ensures unasked { (site : ℕ) (rule : RuleOf) → refusal (job_tree job) ≡ Some (site, rule)
+        → patterns.new ≡ patterns.old }
     ensures at_bad { IsSound (job_tree job) → ForSome (P.told patterns.old).bad (λ is_bad.
         IsByPatterns (bad_site is_bad (names_of (job_tree job)).metas (names_of (job_tree job)).patterns) result) }
 {
@@ -91,10 +95,12 @@ fn accept_sound<P: Patterns>(
     ensures kept { PatternsKept (P.told patterns.old) (P.told patterns.new) }
     ensures accepted { IfOk result (IsAcceptedAs (job_tree job)) }
     ensures asked { IfOk result (λ a. Asked (IsStep P.told P.find_gives) patterns.old a patterns.new) }
-    ensures found { IfOk result (λ a. ForSome (P.told patterns.old).matches (λ finds. a.net.found ≡ found_by finds (names_of (job_tree job)))) }
+    ensures found { IfOk result (λ a. ForSome (P.told patterns.old).matches
+        (λ finds. a.net.found ≡ found_by finds (names_of (job_tree job)))) }
     ensures cause { (site : SiteOf) (rule : RuleOf) → result ≡ Err (Refused site rule)
         → IsCause (IsStep P.told P.find_gives) (job_tree job) patterns.old site rule patterns.new }
-    ensures raised { (site : SiteOf) → result ≡ Err (Refused site BadPattern) → (P.told patterns.old).refusals < (P.told patterns.new).refusals }
+    ensures raised { (site : SiteOf) → result ≡ Err (Refused site BadPattern)
+        → (P.told patterns.old).refusals < (P.told patterns.new).refusals }
     ensures at_bad { ForSome (P.told patterns.old).bad (λ is_bad.
         IsByPatterns (bad_site is_bad (names_of (job_tree job)).metas (names_of (job_tree job)).patterns) result) }
 {

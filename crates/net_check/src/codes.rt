@@ -38,7 +38,8 @@ impl Codes {
 
 /// Where the codes of nodes stand.
 pub(crate) fn codes_of(alloc: Global, nodes: &[NodeDecl]) -> Result<Codes, NoMemory>
-    ensures { IfOk result (λ codes. (node : NodeId) (side : Side) (port : ℕ) → place_at codes.ins.entries codes.outs.entries node side port
+    ensures { IfOk result (λ codes. (node : NodeId) (side : Side) (port : ℕ)
+        → place_at codes.ins.entries codes.outs.entries node side port
         ≡ place_in (map decl_tree nodes.now) node.0 side port) }
 {
     let mut codes = Codes {
@@ -55,7 +56,8 @@ pub(crate) fn codes_of(alloc: Global, nodes: &[NodeDecl]) -> Result<Codes, NoMem
 /// Enters the codes of a node whose site this is; the site behind them.
 fn enter_node(codes: &mut Codes, id: NodeId, site: u32, node: &NodeDecl) -> Result<u32, NoMemory>
     ensures end { IfOk result (λ end. end ≡ site + decl_size (decl_tree node.now)) }
-    ensures entered { OnOk result ((other : NodeId) (side : Side) (port : ℕ) → place_at codes.new.ins.entries codes.new.outs.entries other side port
+    ensures entered { OnOk result ((other : NodeId) (side : Side) (port : ℕ)
+        → place_at codes.new.ins.entries codes.new.outs.entries other side port
         ≡ option_or (place_at codes.old.ins.entries codes.old.outs.entries other side port)
         (of_node id other (place_among (site + 1) 0 side port (codes_of (decl_tree node.now).body)))) }
 {
@@ -74,7 +76,8 @@ fn enter_ports(
     ports: &[PortCode],
 ) -> Result<u32, NoMemory>
     ensures end { IfOk result (λ end. end ≡ first + codes_size (map port_tree ports.now)) }
-    ensures entered { OnOk result ((other : NodeId) (side : Side) (port : ℕ) → place_at codes.new.ins.entries codes.new.outs.entries other side port
+    ensures entered { OnOk result ((other : NodeId) (side : Side) (port : ℕ)
+        → place_at codes.new.ins.entries codes.new.outs.entries other side port
         ≡ option_or (place_at codes.old.ins.entries codes.old.outs.entries other side port)
         (of_node id other (place_among first 0 side port (map port_tree ports.now)))) }
 {
@@ -97,7 +100,8 @@ fn enter_port(
     code: &PortCode,
     place: CodePlace,
 ) -> Result<(), NoMemory>
-    ensures { OnOk result ((other : NodeId) (side : Side) (port : ℕ) → place_at codes.new.ins.entries codes.new.outs.entries other side port
+    ensures { OnOk result ((other : NodeId) (side : Side) (port : ℕ)
+        → place_at codes.new.ins.entries codes.new.outs.entries other side port
         ≡ option_or (place_at codes.old.ins.entries codes.old.outs.entries other side port)
         (of_node id other (cond (is_port side port (port_tree code.now)) (Some (site_and_index place)) None))) }
 {

@@ -47,7 +47,8 @@ impl Drop for Injection {
 impl Injection {
     /// The injection of the job that the net is of.
     pub(crate) fn of(net: &Net, raw: RawInjection) -> Injection
-        requires sound { (node : NodeOf) → node_position (network net.now).own raw.node ≡ Some node.0 → IsAcceptedEntry (entry (record { raw = raw; node = node })) }
+        requires sound { (node : NodeOf) → node_position (network net.now).own raw.node ≡ Some node.0
+            → IsAcceptedEntry (entry (record { raw = raw; node = node })) }
         requires named { node_position (network net.now).own raw.node ≡ None → ⊥ }
         ensures raw { result.raw ≡ raw }
         ensures node { node_position (network net.now).own raw.node ≡ Some result.node.0 }

@@ -22,7 +22,8 @@ use job_names::laws::sets_ascend;
 pub fn sound_jobs_keep_the_rules()
     ensures items { (j : JobTree) → IsSound j → AllByRecursion KeepsRules (job_items j) }
     ensures limits { (j : JobTree) → IsSound j → KeepsLimits (fold counted no_counts (job_items j)) }
-    ensures sound { (j : JobTree) → AllByRecursion KeepsRules (job_items j) → KeepsLimits (fold counted no_counts (job_items j)) → IsSound j }
+    ensures sound { (j : JobTree) → AllByRecursion KeepsRules (job_items j)
+        → KeepsLimits (fold counted no_counts (job_items j)) → IsSound j }
 {}
 
 /// The nodes, codes and links of an accepted net keep the rules, and so do the lines of an accepted
@@ -47,24 +48,29 @@ pub fn packets_enter_a_node()
 /// The names in an accepted net and in the lines of its job's injection are among those of the net.
 pub fn names_are_known()
     ensures net { (net : Network) → IsAcceptedNet net → AllByRecursion (HasNamesOf net.names) (net_items net.own) }
-    ensures injection { (net : Network) (i : Entry) → AreOfOneJob net i → AllByRecursion (HasNamesOf net.names) (line_items i.own) }
+    ensures injection { (net : Network) (i : Entry) → AreOfOneJob net i
+        → AllByRecursion (HasNamesOf net.names) (line_items i.own) }
 {
     sets_ascend();
 }
 
 /// What a pattern finds in an accepted net are ids of the net's metadata names, ascending.
 pub fn found_names_ascend()
-    ensures { (net : Network) → IsAcceptedNet net → (pattern : List ℕ) → AreIds (length net.names.metas) (names_found net pattern) }
+    ensures { (net : Network) → IsAcceptedNet net → (pattern : List ℕ)
+        → AreIds (length net.names.metas) (names_found net pattern) }
 {}
 
 /// The questions that are accepted are those of the job that the net and the injection are of. They
 /// keep the rules, each of their atoms has one width, and their names are among those of the net.
 pub fn questions_keep_the_rules()
-    ensures told { (j : JobTree) (a : Accepted) → IsAcceptedAs j a → (index : ℕ) (ask : Ask) → slice_get a.asks.items index ≡ Some ask
+    ensures told { (j : JobTree) (a : Accepted) → IsAcceptedAs j a → (index : ℕ) (ask : Ask)
+        → slice_get a.asks.items index ≡ Some ask
         → IsAskOf (network a.net) (entry a.injection) (ask_tree ask) }
     ensures rules { (net : Network) (i : Entry) (ask : AskTree) → IsAskOf net i ask → KeepsRules (ask_item ask) }
-    ensures widths { (net : Network) (i : Entry) (ask : AskTree) → IsAskOf net i ask → AllByRecursion KeepsWidth (ask_atoms ask) }
-    ensures names { (net : Network) (i : Entry) (ask : AskTree) → IsAskOf net i ask → HasNamesOf net.names (ask_item ask) }
+    ensures widths { (net : Network) (i : Entry) (ask : AskTree) → IsAskOf net i ask
+        → AllByRecursion KeepsWidth (ask_atoms ask) }
+    ensures names { (net : Network) (i : Entry) (ask : AskTree) → IsAskOf net i ask
+        → HasNamesOf net.names (ask_item ask) }
 {
     sets_ascend();
 }

@@ -14,7 +14,8 @@ use std::collections::BTreeMap;
 
 /// The ids of nodes by their names. Of nodes of one name the first counts.
 pub(crate) fn ids_of(alloc: Global, nodes: &[NodeDecl]) -> Result<BTreeMap<Name, NodeId>, NoMemory>
-    ensures { IfOk result (λ ids. (name : List ℕ) → position_at ids.entries name ≡ position (has_name name) (map decl_tree nodes.now)) }
+    ensures { IfOk result (λ ids. (name : List ℕ) → position_at ids.entries name
+        ≡ position (has_name name) (map decl_tree nodes.now)) }
 {
     let mut ids = BTreeMap::new(alloc);
     for (number, node) in nodes.iter().enumerate() {

@@ -70,8 +70,18 @@ impl Net {
         names: JobNames,
         found: Vec<Vec<NameId>>,
     ) -> Result<Net, NoMemory>
-        requires { IsAcceptedNet (network (record { raw = raw; names = names; found = map (λ ids. ids.items) found.items })) }
-        ensures { IfOk result (λ net. net ≡ record { raw = raw; names = names; found = map (λ ids. ids.items) found.items }) }
+        requires { IsAcceptedNet (network (record {
+          raw = raw;
+          names = names;
+          found = map (λ ids. ids.items)
+              found.items;
+        })) }
+        ensures { IfOk result (λ net. net ≡ record {
+          raw = raw;
+          names = names;
+          found = map (λ ids. ids.items)
+              found.items;
+        }) }
     {
         let Ok(node_count) = u32::try_from(raw.nodes.len()) else {
             return Err(NoMemory);

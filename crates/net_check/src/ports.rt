@@ -19,7 +19,8 @@ pub(crate) fn enter<V: Drop>(
     value: V,
 ) -> Result<(), NoMemory>
     ensures { OnOk result ((node : NodeId) (at : ℕ) → at_port table.new.entries node at
-        ≡ option_or (at_port table.old.entries node at) (cond (is_same_port (port_of port) (node.0, at)) (Some value) None)) }
+        ≡ option_or (at_port table.old.entries node at)
+        (cond (is_same_port (port_of port) (node.0, at)) (Some value) None)) }
 {
     if table.contains_key(&port) {
         return Ok(());

@@ -20,7 +20,8 @@ pub fn codes_have_places()
 /// The site of an instruction is that of its port's code, plus one, plus the number of the code's
 /// instructions that begin before it.
 pub fn instrs_have_sites()
-    ensures sites { (net : NetTree) (node port : ℕ) (side : Side) (place : ℕ × ℕ) (code : CodeTree) (found : IsCodePlace net node side port place code)
+    ensures sites { (net : NetTree) (node port : ℕ) (side : Side) (place : ℕ × ℕ) (code : CodeTree)
+        (found : IsCodePlace net node side port place code)
         → AreInstrSites net place.0 (place_on (ports_of found.decl.body) side) code }
     ensures count { (place : Place) (code : CodeTree) → length (code_items place code) ≡ code_size code }
 {}

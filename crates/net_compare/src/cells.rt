@@ -40,7 +40,8 @@ fn add_cell_equalities(
     others: &[Cell<Term>],
     formulas: &mut Vec<Formula>,
 ) -> Result<(), NoMemory>
-    ensures { IfOk result (λ done. Adds (AreCellEqualities cells.now others.now) formulas.old.items formulas.new.items) }
+    ensures { IfOk result (λ done. Adds (AreCellEqualities cells.now others.now) formulas.old.items
+        formulas.new.items) }
 {
     let count = cells.len().min(others.len());
     for at in 0..count {

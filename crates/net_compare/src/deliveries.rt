@@ -39,9 +39,11 @@ pub(crate) fn deliveries_of<'a>(
     records: &'a [Record],
 ) -> Result<Vec<Delivery<'a>>, NoMemory>
     requires job { AreOfOneJob (network net.now) (entry injection.now) }
-    requires exact { (limit : ℕ) × AreExactFor (network net.now) (entry injection.now) hops limit (record_trees records.now) }
+    requires exact { (limit : ℕ) × AreExactFor (network net.now) (entry injection.now) hops limit
+        (record_trees records.now) }
     ensures paths { IfOk result (λ list. map seen_path list.items
-        ≡ delivered_from (network net.now) (explored (network net.now) (entry injection.now) hops) 0 (record_trees records.now)) }
+        ≡ delivered_from (network net.now) (explored (network net.now) (entry injection.now) hops) 0
+        (record_trees records.now)) }
     ensures sound { IfOk result (λ list. AllByRecursion IsSound list.items) }
 {
     let mut list = Vec::new(alloc);
@@ -70,7 +72,8 @@ fn delivery_of<'a>(
     requires job { AreOfOneJob (network net.now) (entry injection.now) }
     requires meaning { HasMeaning (explored (network net.now) (entry injection.now) hops) (record_tree one.now) }
     ensures path { IfOk result (λ found. option_map seen_path found
-        ≡ delivered (network net.now) (explored (network net.now) (entry injection.now) hops) number (record_tree one.now)) }
+        ≡ delivered (network net.now) (explored (network net.now) (entry injection.now) hops) number
+        (record_tree one.now)) }
     ensures sound { IfOk result (λ found. IfSome found IsSound) }
 {
     match one {

@@ -126,7 +126,8 @@ fn join(alloc: Global, path: &Delivery<'_>, other: &Delivery<'_>) -> Result<Deci
     requires ready { AreDomainsOf path.now.condition path.now.domains }
     requires agree { Agree (seen_path path.now) (seen_path other.now) }
     ensures ready { IfOk result IsReady }
-    ensures joined { IfOk result (λ both. seen view both.condition ≡ joined (seen_path path.now) (seen_path other.now)) }
+    ensures joined { IfOk result (λ both. seen view both.condition
+        ≡ joined (seen_path path.now) (seen_path other.now)) }
 {
     more_symbols_keep_types();
     other.condition.formulas_are_typed();

@@ -19,7 +19,8 @@ pub(crate) fn missing(
     had: &PathCond,
     of: &PathCond,
 ) -> Result<Vec<Formula>, NoMemory>
-    ensures { IfOk result (λ formulas. AreMissing (formulas_in had.now) (formulas_in of.now) (map view formulas.items)) }
+    ensures { IfOk result (λ formulas. AreMissing (formulas_in had.now) (formulas_in of.now)
+        (map view formulas.items)) }
 {
     let mut formulas = Vec::new(alloc);
     for pick in 0..of.len() {

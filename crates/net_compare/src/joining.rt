@@ -45,7 +45,8 @@ pub fn denied(alloc: Global, start: Decidable, formulas: &[Formula]) -> Result<D
     requires ready { IsReady start }
     requires typed { AllByRecursion (λ f. IsTyped start.condition.widths (view f)) formulas.now }
     ensures ready { IfOk result IsReady }
-    ensures denied { IfOk result (λ next. seen view next.condition ≡ denied_by (seen view start.condition) (map view formulas.now)) }
+    ensures denied { IfOk result (λ next. seen view next.condition
+        ≡ denied_by (seen view start.condition) (map view formulas.now)) }
 {
     let mut now = start;
     for formula in formulas {
@@ -60,7 +61,8 @@ pub fn joined_with(alloc: Global, start: Decidable, other: &PathCond) -> Result<
     requires ready { IsReady start }
     requires typed { AllTyped view start.condition.widths other.now.entries }
     ensures ready { IfOk result IsReady }
-    ensures joined { IfOk result (λ next. seen view next.condition ≡ with_all_of (seen view start.condition) (seen view other.now)) }
+    ensures joined { IfOk result (λ next. seen view next.condition
+        ≡ with_all_of (seen view start.condition) (seen view other.now)) }
 {
     let mut now = start;
     for pick in 0..other.len() {

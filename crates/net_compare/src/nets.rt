@@ -53,8 +53,10 @@ pub fn compare(
     right_records: &[Record],
     hops: u32,
 ) -> Result<Compared, CompareFault>
-    requires left { IsWhole hops (half_of hops (network left.now.net) (entry left.now.injection) (record_trees left_records.now)) }
-    requires right { IsWhole hops (half_of hops (network right.now.net) (entry right.now.injection) (record_trees right_records.now)) }
+    requires left { IsWhole hops (half_of hops (network left.now.net) (entry left.now.injection)
+        (record_trees left_records.now)) }
+    requires right { IsWhole hops (half_of hops (network right.now.net) (entry right.now.injection)
+        (record_trees right_records.now)) }
     ensures { ComparedAs hops
         (half_of hops (network left.now.net) (entry left.now.injection) (record_trees left_records.now))
         (half_of hops (network right.now.net) (entry right.now.injection) (record_trees right_records.now)) result }

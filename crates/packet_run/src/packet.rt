@@ -35,7 +35,12 @@ pub struct Packet<'a> {
 impl<'a> Packet<'a> {
     /// The walk that has ended so, over these ports.
     pub fn into_walk(self, places: Vec<Place>, end: End) -> Walk
-        ensures { trail_of result ≡ record { decisions = self.entry.decisions.items; places = places.items; end' = end; state = carried_of self.entry.state } }
+        ensures { trail_of result ≡ record {
+          decisions = self.entry.decisions.items;
+          places = places.items;
+          end' = end;
+          state = carried_of self.entry.state;
+        } }
     {
         let Packet {
             numbers: _,
@@ -150,7 +155,8 @@ fn choose(
     choices: &mut Vec<Width>,
     target: &Target,
 ) -> Result<(), StepFault>
-    ensures { Meets (done_by (numbers o.now.numbers.now o.now.unknowns) (scene_of at.now) (assign_any target.now) (carried_of state.old, choices.old.items))
+    ensures { Meets (done_by (numbers o.now.numbers.now o.now.unknowns) (scene_of at.now) (assign_any target.now)
+        (carried_of state.old, choices.old.items))
         result (carried_of state.old, choices.old.items) (carried_of state.new, choices.new.items) }
 {
     let width = width_of(target);
@@ -176,7 +182,8 @@ pub fn run_code<'a, L: Ledger>(
     steps: &mut Steps<L>,
 ) -> Result<Exit<'a>, NoMemory>
     ensures run { IfOk result (λ exit. RunsAs packet.new exit (noting packet.old.decisions.items
-        (run_code packet.old.numbers.numbers.now packet.old.numbers.unknowns (scene_at (network net.now) node) site (code_tree code.now) (progress_of packet.old)))) }
+        (run_code packet.old.numbers.numbers.now packet.old.numbers.unknowns (scene_at (network net.now) node) site
+        (code_tree code.now) (progress_of packet.old)))) }
     ensures given { OnOk result (given_of packet.new ≡ given_of packet.old) }
 {
     runs_are_ways();

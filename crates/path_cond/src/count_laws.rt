@@ -11,7 +11,8 @@ use path_formula::case_laws::an_inside_formula_has_cases;
 
 /// The coupled symbols of a condition have at most 64 bits.
 pub fn coupled_symbols_have_at_most_64_bits()
-    ensures { (cond : Condition) → AllTyped cond.widths cond.entries → All (IsNarrow cond.widths) (coupled_symbols cond) }
+    ensures { (cond : Condition) → AllTyped cond.widths cond.entries
+        → All (IsNarrow cond.widths) (coupled_symbols cond) }
 {
     an_inside_formula_has_cases();
 }
@@ -21,5 +22,6 @@ pub fn coupled_symbols_have_at_most_64_bits()
 pub fn the_first_of_the_picks_is_the_first_of_the_formulas()
     ensures { (chosen other test : Entry → Bool) (entries : List Entry)
         → ((e : Entry) → chosen e ≡ true → other e ≡ test e) → ((e : Entry) → chosen e ≡ false → test e ≡ false)
-        → first_where (λ p. passes other (slice_get entries p)) (picks_where chosen 0 entries) ≡ position_from test 0 entries }
+        → first_where (λ p. passes other (slice_get entries p)) (picks_where chosen 0 entries)
+        ≡ position_from test 0 entries }
 {}

@@ -75,7 +75,8 @@ pub trait Engine {
 
     /// The place before the injection's port.
     fn begin(&self, alloc: Global) -> Result<Self::Place, NoMemory>
-        ensures { IfOk result (λ place. point_at 0 ((views self.now).place_at place) ≡ first_point (views self.now).start) };
+        ensures { IfOk result (λ place. point_at 0 ((views self.now).place_at place)
+            ≡ first_point (views self.now).start) };
 
     /// The same, with the decision of the injection's condition.
     fn try_begin(&self, alloc: Global) -> Result<Tried<Self::Place, Self::Finding>, NoMemory>
@@ -84,7 +85,8 @@ pub trait Engine {
     /// The same place.
     fn fork(&self, place: &Self::Place) -> Result<Self::Place, NoMemory>
         ensures stands { IfOk result (λ copy. (views self.now).place_at copy ≡ (views self.now).place_at place.now) }
-        ensures carries { IfOk result (λ copy. (views self.now).carried_at copy ≡ (views self.now).carried_at place.now) };
+        ensures carries { IfOk result (λ copy. (views self.now).carried_at copy
+            ≡ (views self.now).carried_at place.now) };
 
     /// Whether the last port that it arrived at is this one.
     fn stands_at(&self, place: &Self::Place, port: Place) -> bool
@@ -130,8 +132,10 @@ pub trait Engine {
     /// A path that is over where its decisions lead, and this was found of its condition.
     fn path(&self, over: Self::Over, finding: Rc<Self::Finding>) -> Self::Found
         ensures { IsListed ((views self.now).over_at over).decisions → (begun : ℕ)
-            → IsLed (views self.now).start ((views self.now).over_at over).decisions (point_at begun ((views self.now).over_at over))
-            → IsPathOf (views self.now) (point_at begun ((views self.now).over_at over)) ((views self.now).verdict_of finding.value)
+            → IsLed (views self.now).start ((views self.now).over_at over).decisions
+            (point_at begun ((views self.now).over_at over))
+            → IsPathOf (views self.now) (point_at begun ((views self.now).over_at over))
+            ((views self.now).verdict_of finding.value)
             (handed ((views self.now).over_at over).decisions result) };
 
     /// A refuted injection.
@@ -146,7 +150,8 @@ pub trait Engine {
         refutation: Refutation,
     ) -> Self::Found
         ensures { (ds : List ADecision) → IsListed ds → IsMade (views self.now)
-            (pruned ds (Some (filled_verdict (length ((views self.now).node_at node.now).widths) ((views self.now).verdict_of before.value)))
+            (pruned ds (Some (filled_verdict (length ((views self.now).node_at node.now).widths)
+            ((views self.now).verdict_of before.value)))
             refutation)
             (handed ds result) };
 

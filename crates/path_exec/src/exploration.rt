@@ -51,9 +51,11 @@ fn begin<E: Engine, L: Ledger>(
     steps: &mut Steps<L>,
 ) -> Result<Option<E::Found>, NoMemory>
     requires splits { Splits (E.views engine.now).start.tree }
-    ensures keeps { IfOk result (λ made. Keeps (E.views engine.now) ((first_point (E.views engine.now).start, to_decide None) ∷ [])
+    ensures keeps { IfOk result (λ made. Keeps (E.views engine.now)
+        ((first_point (E.views engine.now).start, to_decide None) ∷ [])
         open_nodes.old.items open_nodes.new.items (handed_if [] made) steps.old steps.new) }
-    ensures course { IfOk result (λ made. StaysOnCourse (E.views engine.now) [] open_nodes.old.items [] open_nodes.new.items) }
+    ensures course { IfOk result (λ made. StaysOnCourse (E.views engine.now) [] open_nodes.old.items []
+        open_nodes.new.items) }
 {
     steps_keep_what_stands();
     verdicts_stay();
@@ -83,7 +85,8 @@ fn start<E: Engine, K: Observer<Found = E::Found>, L: Ledger>(
     requires stands { (K.seen out.old).StandsFor [] }
     requires takes { TakesOwn (E.views engine.now) (K.seen out.old) }
     ensures same { IsSame (K.seen out.old) (K.seen out.new) }
-    ensures begun { BegunAs (E.views engine.now) limit (K.seen out.old).stops (K.seen out.new) open_nodes.new.items steps.old steps.new result }
+    ensures begun { BegunAs (E.views engine.now) limit (K.seen out.old).stops (K.seen out.new) open_nodes.new.items
+        steps.old steps.new result }
     ensures course { IfOk result (λ count. AreOnCourse (E.views engine.now) [] open_nodes.new.items) }
 {
     steps_keep_what_stands();
@@ -119,7 +122,8 @@ fn run<E: Engine, K: Observer<Found = E::Found>, L: Ledger>(
     ensures same { IsSame (K.seen out.old) (K.seen out.new) }
     ensures ran { (before : ℕ) → Runs (E.views engine.now) limit first (K.seen out.old)
         (all_obligations (E.views engine.now) open_nodes.old.items) before steps.old
-        → RanAs (E.views engine.now) limit (K.seen out.old).stops (K.seen out.new) open_nodes.new.items before steps.new result }
+        → RanAs (E.views engine.now) limit (K.seen out.old).stops (K.seen out.new) open_nodes.new.items before steps.new
+        result }
     ensures course { MetOnCourse (E.views engine.now) course.new.items open_nodes.new.items result }
 {
     records_that_stand_are_exact();
@@ -189,7 +193,8 @@ pub fn explore_into<E: Engine, K: Observer<Found = E::Found>, L: Ledger>(
     requires stands { (K.seen out.old).StandsFor [] }
     requires takes { TakesOwn (E.views engine.now) (K.seen out.old) }
     ensures same { IsSame (K.seen out.old) (K.seen out.new) }
-    ensures explored { Explored (E.views engine.now) limit (K.seen out.old).stops (K.seen out.new) steps.old steps.new result }
+    ensures explored { Explored (E.views engine.now) limit (K.seen out.old).stops (K.seen out.new) steps.old steps.new
+        result }
 {
     steps_keep_what_stands();
     records_that_stand_are_exact();

@@ -75,7 +75,8 @@ pub(crate) fn arrived<E: Engine, L: Ledger>(
     place: E::Place,
     steps: &mut Steps<L>,
 ) -> Result<Next<E::Over, E::Node>, NoMemory>
-    requires { IsAt (E.views engine.now).start (behind_last (E.views engine.now).start ((E.views engine.now).place_at place)) }
+    requires { IsAt (E.views engine.now).start (behind_last (E.views engine.now).start
+        ((E.views engine.now).place_at place)) }
     ensures { IfOk result (LeadsTo (E.views engine.now) ((E.views engine.now).place_at place).decisions) }
 {
     advance(alloc, engine, place, steps)

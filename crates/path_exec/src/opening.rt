@@ -85,7 +85,8 @@ pub(crate) fn put_back<N: Drop, D: Drop>(
     open_nodes: &mut Vec<OpenNode<N, D>>,
 ) -> Result<(), NoMemory>
     requires { open_node.taken < offer_count open_node.offer }
-    ensures { OnOk result (IsPut (record open_node { taken = suc open_node.taken }) open_nodes.old.items open_nodes.new.items) }
+    ensures { OnOk result (IsPut (record open_node { taken = suc open_node.taken }) open_nodes.old.items
+        open_nodes.new.items) }
 {
     let OpenNode {
         node,
@@ -115,9 +116,11 @@ pub(crate) fn go_on<E: Engine, L: Ledger>(
     steps: &mut Steps<L>,
 ) -> Result<Option<E::Found>, NoMemory>
     requires splits { Splits (E.views engine.now).start.tree }
-    requires at { IsAt (E.views engine.now).start (behind_last (E.views engine.now).start ((E.views engine.now).place_at place)) }
+    requires at { IsAt (E.views engine.now).start (behind_last (E.views engine.now).start
+        ((E.views engine.now).place_at place)) }
     requires known { IsKnown
-        (condition_at (E.views engine.now).start (behind_last (E.views engine.now).start ((E.views engine.now).place_at place)))
+        (condition_at (E.views engine.now).start (behind_last (E.views engine.now).start
+        ((E.views engine.now).place_at place)))
         ((E.views engine.now).verdict_of finding.value) }
     requires behind { course.now ≡ ((E.views engine.now).place_at place).decisions }
     requires listed { IsListed course.now }
@@ -127,7 +130,8 @@ pub(crate) fn go_on<E: Engine, L: Ledger>(
           decided ((E.views engine.now).verdict_of finding.value),
         ) ∷ [])
         open_nodes.old.items open_nodes.new.items (handed_if course.now made) steps.old steps.new) }
-    ensures course { IfOk result (λ made. StaysOnCourse (E.views engine.now) course.now open_nodes.old.items course.now open_nodes.new.items) }
+    ensures course { IfOk result (λ made. StaysOnCourse (E.views engine.now) course.now open_nodes.old.items course.now
+        open_nodes.new.items) }
 {
     steps_keep_what_stands();
     verdicts_stay();
@@ -161,12 +165,15 @@ fn take_copy<E: Engine, L: Ledger>(
     requires splits { Splits (E.views engine.now).start.tree }
     requires fork { IsFork open_node.offer }
     requires open_node { IsOpenNode (E.views engine.now) open_node }
-    requires pending { AllByRecursion (λ obligation. IsPending (E.views engine.now).start obligation.0 obligation.1) (obligations_of (E.views engine.now) open_node) }
+    requires pending { AllByRecursion (λ obligation. IsPending (E.views engine.now).start obligation.0 obligation.1)
+        (obligations_of (E.views engine.now) open_node) }
     requires on_course { IsOnCourse (E.views engine.now) course.old.items open_node }
     requires numbered { AllByRecursion IsNumbered course.old.items }
-    ensures keeps { IfOk result (λ made. Keeps (E.views engine.now) (obligations_of (E.views engine.now) open_node) open_nodes.old.items open_nodes.new.items
+    ensures keeps { IfOk result (λ made. Keeps (E.views engine.now) (obligations_of (E.views engine.now) open_node)
+        open_nodes.old.items open_nodes.new.items
         (handed_if course.new.items made) steps.old steps.new) }
-    ensures course { IfOk result (λ made. StaysOnCourse (E.views engine.now) ((E.views engine.now).node_at open_node.node).decisions
+    ensures course { IfOk result (λ made. StaysOnCourse (E.views engine.now)
+        ((E.views engine.now).node_at open_node.node).decisions
         open_nodes.old.items course.new.items open_nodes.new.items) }
 {
     steps_keep_what_stands();
@@ -192,12 +199,15 @@ fn try_side<E: Engine, L: Ledger>(
     requires splits { Splits (E.views engine.now).start.tree }
     requires test { IsFork open_node.offer → ⊥ }
     requires open_node { IsOpenNode (E.views engine.now) open_node }
-    requires pending { AllByRecursion (λ obligation. IsPending (E.views engine.now).start obligation.0 obligation.1) (obligations_of (E.views engine.now) open_node) }
+    requires pending { AllByRecursion (λ obligation. IsPending (E.views engine.now).start obligation.0 obligation.1)
+        (obligations_of (E.views engine.now) open_node) }
     requires on_course { IsOnCourse (E.views engine.now) course.old.items open_node }
     requires numbered { AllByRecursion IsNumbered course.old.items }
-    ensures keeps { IfOk result (λ made. Keeps (E.views engine.now) (obligations_of (E.views engine.now) open_node) open_nodes.old.items open_nodes.new.items
+    ensures keeps { IfOk result (λ made. Keeps (E.views engine.now) (obligations_of (E.views engine.now) open_node)
+        open_nodes.old.items open_nodes.new.items
         (handed_if course.new.items made) steps.old steps.new) }
-    ensures course { IfOk result (λ made. StaysOnCourse (E.views engine.now) ((E.views engine.now).node_at open_node.node).decisions
+    ensures course { IfOk result (λ made. StaysOnCourse (E.views engine.now)
+        ((E.views engine.now).node_at open_node.node).decisions
         open_nodes.old.items course.new.items open_nodes.new.items) }
 {
     steps_keep_what_stands();
@@ -232,12 +242,15 @@ pub(crate) fn take_next<E: Engine, L: Ledger>(
 ) -> Result<Option<E::Found>, NoMemory>
     requires splits { Splits (E.views engine.now).start.tree }
     requires open_node { IsOpenNode (E.views engine.now) open_node }
-    requires pending { AllByRecursion (λ obligation. IsPending (E.views engine.now).start obligation.0 obligation.1) (obligations_of (E.views engine.now) open_node) }
+    requires pending { AllByRecursion (λ obligation. IsPending (E.views engine.now).start obligation.0 obligation.1)
+        (obligations_of (E.views engine.now) open_node) }
     requires on_course { IsOnCourse (E.views engine.now) course.old.items open_node }
     requires numbered { AllByRecursion IsNumbered course.old.items }
-    ensures keeps { IfOk result (λ made. Keeps (E.views engine.now) (obligations_of (E.views engine.now) open_node) open_nodes.old.items open_nodes.new.items
+    ensures keeps { IfOk result (λ made. Keeps (E.views engine.now) (obligations_of (E.views engine.now) open_node)
+        open_nodes.old.items open_nodes.new.items
         (handed_if course.new.items made) steps.old steps.new) }
-    ensures course { IfOk result (λ made. StaysOnCourse (E.views engine.now) ((E.views engine.now).node_at open_node.node).decisions
+    ensures course { IfOk result (λ made. StaysOnCourse (E.views engine.now)
+        ((E.views engine.now).node_at open_node.node).decisions
         open_nodes.old.items course.new.items open_nodes.new.items) }
 {
     match open_node.offer {

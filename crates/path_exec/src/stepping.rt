@@ -35,7 +35,8 @@ pub fn next_behind<E: Engine, L: Ledger>(
     steps: &mut Steps<L>,
 ) -> Result<Option<Next<E::Over, E::Node>>, NoMemory>
     requires { IsLedThere (E.views engine.now) next.now }
-    ensures { IfOk result (LeadsOn (E.views engine.now) ((location_of (E.views engine.now) next.now).decisions ++ decision ∷ [])) }
+    ensures { IfOk result (LeadsOn (E.views engine.now)
+        ((location_of (E.views engine.now) next.now).decisions ++ decision ∷ [])) }
 {
     routes_compose::<Term, Formulas>();
     let Some(place) = turn(alloc, engine, next, decision)? else {

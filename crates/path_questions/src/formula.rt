@@ -102,7 +102,8 @@ fn difference(
     field: &InjectedField<'_>,
     state: &SymState,
 ) -> Result<Formula, NoMemory>
-    ensures { IfOk result (λ f. view f ≡ differs (terms unknowns) (network net.now) node (field_seen field.now) state.now.carried) }
+    ensures { IfOk result (λ f. view f ≡ differs (terms unknowns) (network net.now) node (field_seen field.now)
+        state.now.carried) }
 {
     let o = Terms { unknowns };
     let width = width_of(field.target);
@@ -123,7 +124,8 @@ pub(crate) fn formula_of(
     question: &Question<'_>,
     state: &SymState,
 ) -> Result<Formula, NoMemory>
-    ensures { IfOk result (λ f. view f ≡ formula_of (net_of subject.now) (entry_of subject.now) subject.now.hops (question_seen question.now) state.now.carried) }
+    ensures { IfOk result (λ f. view f ≡ formula_of (net_of subject.now) (entry_of subject.now) subject.now.hops
+        (question_seen question.now) state.now.carried) }
 {
     let unknowns = subject.injection.unknowns() as u64;
     match question {

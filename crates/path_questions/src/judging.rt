@@ -107,9 +107,11 @@ fn judge_state(
     state: &SymState,
 ) -> Result<Judged, NoMemory>
     requires domains { AreDomainsOf condition.now domains.now }
-    requires typed { IsTyped condition.now.widths (formula_of (net_of subject.now) (entry_of subject.now) subject.now.hops (question_seen question.now) state.now.carried) }
+    requires typed { IsTyped condition.now.widths (formula_of (net_of subject.now) (entry_of subject.now)
+        subject.now.hops (question_seen question.now) state.now.carried) }
     ensures { IfOk result (Says (with_test (seen view condition.now)
-        (formula_of (net_of subject.now) (entry_of subject.now) subject.now.hops (question_seen question.now) state.now.carried) true)) }
+        (formula_of (net_of subject.now) (entry_of subject.now) subject.now.hops (question_seen question.now)
+        state.now.carried) true)) }
 {
     one_formula_more_may_be_met();
     let formula = formula_of(alloc, subject, question, state)?;
@@ -131,7 +133,8 @@ pub fn judge_states(
 ) -> Result<Judged, NoMemory>
     requires domains { AreDomainsOf condition.now domains.now }
     requires typed { AllByRecursion (λ x. IsTyped condition.now.widths
-        (formula_of (net_of subject.now) (entry_of subject.now) subject.now.hops (question_seen question.now) x.carried)) states.now }
+        (formula_of (net_of subject.now) (entry_of subject.now) subject.now.hops (question_seen question.now)
+        x.carried)) states.now }
     ensures { IfOk result (IsJudged (conditions_with (net_of subject.now) (entry_of subject.now) subject.now.hops
         (question_seen question.now) (seen view condition.now) states.now)) }
 {

@@ -107,7 +107,8 @@ fn invariant_of<'a>(
     raw: &RawPlace,
 ) -> Result<Question<'a>, AskFault>
     ensures asked { IfOk result (IsAsked (network net.now) (entry injection.now) (trees.invariant target.now raw.now)) }
-    ensures refused { IfErr result (IsFault (network net.now) (entry injection.now) (trees.invariant target.now raw.now)) }
+    ensures refused { IfErr result (IsFault (network net.now) (entry injection.now)
+        (trees.invariant target.now raw.now)) }
 {
     match output_of(net, raw) {
         None => Err(AskFault::NoPlace),
@@ -126,7 +127,8 @@ fn visible_of<'a>(
     raw: &RawPlace,
 ) -> Result<Question<'a>, AskFault>
     ensures asked { IfOk result (IsAsked (network net.now) (entry injection.now) (trees.visible target.now raw.now)) }
-    ensures refused { IfErr result (IsFault (network net.now) (entry injection.now) (trees.visible target.now raw.now)) }
+    ensures refused { IfErr result (IsFault (network net.now) (entry injection.now)
+        (trees.visible target.now raw.now)) }
 {
     match place_of(net, raw) {
         None => Err(AskFault::NoPlace),
@@ -179,8 +181,10 @@ pub fn questions_of<'a>(
     injection: &'a Injection,
     asks: &'a [Ask],
 ) -> Result<Vec<Question<'a>>, BadAsk>
-    ensures asked { IfOk result (λ questions. AreAsked (network net.now) (entry injection.now) (map ask_tree asks.now) questions.items) }
-    ensures refused { IfErr result (λ bad. IsBadAsk (network net.now) (entry injection.now) (map ask_tree asks.now) bad.number bad.fault) }
+    ensures asked { IfOk result (λ questions. AreAsked (network net.now) (entry injection.now) (map ask_tree asks.now)
+        questions.items) }
+    ensures refused { IfErr result (λ bad. IsBadAsk (network net.now) (entry injection.now) (map ask_tree asks.now)
+        bad.number bad.fault) }
 {
     let mut questions = Vec::new(alloc);
     let mut number: u64 = 0;

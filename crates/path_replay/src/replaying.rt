@@ -37,7 +37,8 @@ pub fn confirm(
     requires { AreOfOneJob (network net.now) (entry injection.now) }
     ensures confirms { ConfirmsFor (network net.now) (entry injection.now) hops (record_trees records.now) result }
     ensures back { IsConfirmedBackFor (network net.now) (entry injection.now) hops (record_trees records.now) result }
-    ensures packets { IfOk result (λ counts. TellPackets (network net.now) (entry injection.now) hops (record_trees records.now)) }
+    ensures packets { IfOk result (λ counts. TellPackets (network net.now) (entry injection.now) hops
+        (record_trees records.now)) }
 {
     one_answer_for_a_net();
     confirmed_records_tell_packets();

@@ -90,7 +90,8 @@ fn go_on<'a, B: Origin, L: Ledger>(
     requires parts { blank.parts ≡ L.parts }
     requires some { 0 < blank.parts }
     requires led { IsLedThere (views_of B.start B.net) next.now }
-    ensures { IfOk result (LeadsOn (views_of B.start B.net) ((here_of (views_of B.start B.net) next.now).decisions ++ decision ∷ [])) }
+    ensures { IfOk result (LeadsOn (views_of B.start B.net)
+        ((here_of (views_of B.start B.net) next.now).decisions ++ decision ∷ [])) }
 {
     let mut steps = Steps::<L>::new(blank);
     next_behind(alloc, engine, next, decision, &mut steps)

@@ -58,7 +58,8 @@ impl Decoder<'_> {
     #[tactic(auto, unfolding(run_text::specs::Forms::meta_data))]
     fn meta(&self, alloc: Global, value: &Value) -> Result<Meta, NoMemory>
         requires { IsRow (network self.now.net.now) (part.Owner ∷ part.MetaName ∷ part.Cells ∷ []) (view value.now) }
-        ensures shown { IfOk result (λ meta. meta_data term_data (network self.now.net.now) meta.0 meta.1 meta.2.items ≡ view value.now) }
+        ensures shown { IfOk result (λ meta. meta_data term_data (network self.now.net.now) meta.0 meta.1 meta.2.items
+            ≡ view value.now) }
         ensures fits { IfOk result (λ meta. MetaFits (network self.now.net.now) (held_meta meta)) }
     {
         let owner = self.owner(alloc, item(value, 0))?;
@@ -70,8 +71,10 @@ impl Decoder<'_> {
     #[tactic(auto, unfolding(run_text::specs::Forms::metas_data))]
     fn metas(&self, alloc: Global, value: &Value) -> Result<Vec<Meta>, NoMemory>
         requires { HasForm (network self.now.net.now) part.Metas (view value.now) }
-        ensures shown { IfOk result (λ found. metas_data term_data (network self.now.net.now) (map held_meta found.items) ≡ view value.now) }
-        ensures fits { IfOk result (λ found. AllByRecursion (MetaFits (network self.now.net.now)) (map held_meta found.items)) }
+        ensures shown { IfOk result (λ found. metas_data term_data (network self.now.net.now)
+            (map held_meta found.items) ≡ view value.now) }
+        ensures fits { IfOk result (λ found. AllByRecursion (MetaFits (network self.now.net.now))
+            (map held_meta found.items)) }
     {
         let Value::Array(items) = value else {
             unreachable!();
@@ -112,7 +115,8 @@ impl Decoder<'_> {
     #[tactic(auto, unfolding(run_text::specs::Forms::fields_data))]
     fn fields_of(&self, alloc: Global, members: &Map<String, Value>) -> Result<Fields, NoMemory>
         requires { Holds (network self.now.net.now) carried_fields (members_view members.now.entries) }
-        ensures shown { IfOk result (λ fields. fields_data term_data (network self.now.net.now) (fields_seen fields) ≡ object (members_view members.now.entries)) }
+        ensures shown { IfOk result (λ fields. fields_data term_data (network self.now.net.now) (fields_seen fields)
+            ≡ object (members_view members.now.entries)) }
         ensures fits { IfOk result (λ fields. FieldsFit (network self.now.net.now) (fields_seen fields)) }
     {
         let heads = self.heads(alloc, field(members, "heads"))?;
@@ -123,7 +127,8 @@ impl Decoder<'_> {
 
     pub(crate) fn fields(&self, alloc: Global, value: &Value) -> Result<Fields, NoMemory>
         requires { HasForm (network self.now.net.now) part.Fields (view value.now) }
-        ensures shown { IfOk result (λ fields. fields_data term_data (network self.now.net.now) (fields_seen fields) ≡ view value.now) }
+        ensures shown { IfOk result (λ fields. fields_data term_data (network self.now.net.now) (fields_seen fields)
+            ≡ view value.now) }
         ensures fits { IfOk result (λ fields. FieldsFit (network self.now.net.now) (fields_seen fields)) }
     {
         let Value::Object(members) = value else {

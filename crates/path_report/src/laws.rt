@@ -18,7 +18,8 @@ use report_forms::laws::{lines_have_their_form, reports_have_their_form};
 /// What is read of the line of a report is that report, where its ids are found by their names and its numbers are in
 /// range: so the line is that of no other report, and is refused for want of memory alone.
 pub fn lines_are_read_back()
-    ensures { (net : Network) (hops limit : ℕ) (records : List Record) (refuted : ℕ) (complete : Bool) (answer : Result ReportOf FaultOf)
+    ensures { (net : Network) (hops limit : ℕ) (records : List Record) (refuted : ℕ) (complete : Bool)
+        (answer : Result ReportOf FaultOf)
         → LineFits net hops limit records refuted → IsUtf8 (report_line net hops limit records refuted complete)
         → ReadsReport net (report_line net hops limit records refuted complete) answer
         → Shows (line_seen hops limit records refuted complete) answer }

@@ -12,7 +12,8 @@ use run_text::json_laws::lines_are_read;
 /// The compact text of a value that has its form, with a line feed behind it, is read as that value: its numbers are
 /// whole and of 64 bits, its keys ascend, and it nests to ten at most.
 pub fn shaped_lines_are_read()
-    ensures { (knows : Part → List ℕ → Bool) (part : Part) (d : Data) → fault knows part d ≡ None → read (compact_text d ++ 10 ∷ []) ≡ Some d }
+    ensures { (knows : Part → List ℕ → Bool) (part : Part) (d : Data) → fault knows part d ≡ None
+        → read (compact_text d ++ 10 ∷ []) ≡ Some d }
 {
     lines_are_read();
 }

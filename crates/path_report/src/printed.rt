@@ -189,7 +189,8 @@ fn first_record<'b, N: OfNet>(
     text: &'b [u8],
 ) -> Result<Option<(Record, &'b [u8])>, NoMemory>
     requires { network net.now ≡ N.net }
-    ensures begins { IfOk result (λ found. IfSome found (λ first. BeginsWith N.net later first.0 text.now first.1.now)) }
+    ensures begins { IfOk result (λ found. IfSome found
+        (λ first. BeginsWith N.net later first.0 text.now first.1.now)) }
     ensures shorter { IfOk result (λ found. IfSome found (λ first. length first.1.now < length text.now)) }
 {
     let bare = text.strip_prefix(b",").unwrap_or(text);

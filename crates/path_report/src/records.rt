@@ -23,7 +23,8 @@ impl Decoder<'_> {
     fn path(&self, alloc: Global, members: &Map<String, Value>) -> Result<Record, NoMemory>
         requires form { Holds (network self.now.net.now) path_fields (members_view members.now.entries) }
         requires word { get_member (codes "kind") (members_view members.now.entries) ≡ Some (string (codes "path")) }
-        ensures shown { IfOk result (λ record'. record_data (network self.now.net.now) record' ≡ object (members_view members.now.entries)) }
+        ensures shown { IfOk result (λ record'. record_data (network self.now.net.now) record'
+            ≡ object (members_view members.now.entries)) }
         ensures fits { IfOk result (λ record'. RecordFits (network self.now.net.now) record') }
     {
         let decisions = self.decisions(alloc, field(members, "decisions"))?;
@@ -44,7 +45,8 @@ impl Decoder<'_> {
     fn pruned(&self, alloc: Global, members: &Map<String, Value>) -> Result<Record, NoMemory>
         requires form { Holds (network self.now.net.now) pruned_fields (members_view members.now.entries) }
         requires word { get_member (codes "kind") (members_view members.now.entries) ≡ Some (string (codes "pruned")) }
-        ensures shown { IfOk result (λ record'. record_data (network self.now.net.now) record' ≡ object (members_view members.now.entries)) }
+        ensures shown { IfOk result (λ record'. record_data (network self.now.net.now) record'
+            ≡ object (members_view members.now.entries)) }
         ensures fits { IfOk result (λ record'. RecordFits (network self.now.net.now) record') }
     {
         let before = self.before(alloc, field(members, "before"))?;
@@ -60,8 +62,10 @@ impl Decoder<'_> {
     #[tactic(auto, unfolding(record_text::specs::Records::unexplored_data))]
     fn unexplored(&self, alloc: Global, members: &Map<String, Value>) -> Result<Record, NoMemory>
         requires form { Holds (network self.now.net.now) unexplored_fields (members_view members.now.entries) }
-        requires word { get_member (codes "kind") (members_view members.now.entries) ≡ Some (string (codes "unexplored")) }
-        ensures shown { IfOk result (λ record'. record_data (network self.now.net.now) record' ≡ object (members_view members.now.entries)) }
+        requires word { get_member (codes "kind") (members_view members.now.entries)
+            ≡ Some (string (codes "unexplored")) }
+        ensures shown { IfOk result (λ record'. record_data (network self.now.net.now) record'
+            ≡ object (members_view members.now.entries)) }
         ensures fits { IfOk result (λ record'. RecordFits (network self.now.net.now) record') }
     {
         let decisions = self.decisions(alloc, field(members, "decisions"))?;

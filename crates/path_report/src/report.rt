@@ -59,7 +59,8 @@ impl Decoder<'_> {
     #[tactic(auto, unfolding(record_text::specs::Reports::report_data))]
     fn report_of(&self, alloc: Global, members: &Map<String, Value>) -> Result<Report, NoMemory>
         requires { Holds (network self.now.net.now) report_fields (members_view members.now.entries) }
-        ensures shown { IfOk result (λ report. data_of (network self.now.net.now) report ≡ object (members_view members.now.entries)) }
+        ensures shown { IfOk result (λ report. data_of (network self.now.net.now) report
+            ≡ object (members_view members.now.entries)) }
         ensures fits { IfOk result (λ report. ReportFits (network self.now.net.now) report) }
     {
         let hops = self.hops(field(members, "hops"));
@@ -115,7 +116,8 @@ fn read(alloc: Global, net: &Net, bytes: &[u8]) -> Result<Report, ReportFault>
 /// The report that the bytes show, by the names of the net; or the first place that has not its shape.
 pub fn read_report(alloc: Global, net: &Net, bytes: &[u8]) -> Result<Report, ReportFault>
     ensures reads { ReadsReport (network net.now) bytes.now result }
-    ensures back { (report : Report) → ReportFits (network net.now) report → IsUtf8 bytes.now → bytes.now ≡ report_text (network net.now) report
+    ensures back { (report : Report) → ReportFits (network net.now) report → IsUtf8 bytes.now
+        → bytes.now ≡ report_text (network net.now) report
         → GivesBack report result }
 {
     reports_have_their_form();

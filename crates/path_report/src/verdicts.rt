@@ -20,7 +20,8 @@ use std::alloc::Global;
 impl Decoder<'_> {
     fn outside(&self, alloc: Global, members: &Map<String, Value>) -> Result<Cause, NoMemory>
         requires form { Holds (network self.now.net.now) outside_fields (members_view members.now.entries) }
-        requires word { get_member (codes "cause") (members_view members.now.entries) ≡ Some (string (codes "outside")) }
+        requires word { get_member (codes "cause") (members_view members.now.entries)
+            ≡ Some (string (codes "outside")) }
         ensures shown { IfOk result (λ cause. cause_data cause ≡ object (members_view members.now.entries)) }
         ensures fits { IfOk result (λ cause. CauseFits cause) }
     {

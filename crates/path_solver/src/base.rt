@@ -127,7 +127,8 @@ fn is_broken_at(cond: &PathCond, pick: u32, values: &[Num]) -> bool
 /// The first outside formula from a pick on that the values break.
 fn first_broken_from(cond: &PathCond, first: u32, values: &[Num]) -> Result<Option<u32>, NoMemory>
     requires { first ≤ length cond.now.entries }
-    ensures { IfOk result (λ found. found ≡ position_from (is_broken_outside values.now) first (drop first cond.now.entries)) }
+    ensures { IfOk result (λ found. found ≡ position_from (is_broken_outside values.now) first
+        (drop first cond.now.entries)) }
 {
     for pick in first..formula_count(cond)? {
         if is_broken_at(cond, pick, values) {

@@ -63,7 +63,8 @@ pub fn decide_after(
     ensures decision { IfOk result (IsDecisionOn cond.now) }
     ensures sat { IfOk result (λ decided. (values : List ℕ) → IsSat values decided ↔ IsMetBy cond.now values) }
     ensures unsat { IfOk result (λ decided. IsUnsat decided ↔ IsRefuted cond.now) }
-    ensures undecided { IfOk result (λ decided. (cause : CauseOf) → IsUndecided cause decided ↔ IsUndecidedBy cond.now cause) }
+    ensures undecided { IfOk result (λ decided. (cause : CauseOf)
+        → IsUndecided cause decided ↔ IsUndecidedBy cond.now cause) }
     ensures settled { IfOk result (λ decided. IsInFragment cond.now → IsSettled decided) }
     ensures least { IfOk result (λ decided. HasNoInside cond.now → HasLeastValues cond.now decided) }
     ensures never { IfOk result (λ decided. IsUnsat decided → (values : List ℕ) → holds_at cond.now values ≡ false) }
@@ -85,7 +86,8 @@ pub fn decide(alloc: Global, cond: &PathCond, domains: &Domains) -> Result<Decid
     ensures decision { IfOk result (IsDecisionOn cond.now) }
     ensures sat { IfOk result (λ decided. (values : List ℕ) → IsSat values decided ↔ IsMetBy cond.now values) }
     ensures unsat { IfOk result (λ decided. IsUnsat decided ↔ IsRefuted cond.now) }
-    ensures undecided { IfOk result (λ decided. (cause : CauseOf) → IsUndecided cause decided ↔ IsUndecidedBy cond.now cause) }
+    ensures undecided { IfOk result (λ decided. (cause : CauseOf)
+        → IsUndecided cause decided ↔ IsUndecidedBy cond.now cause) }
     ensures settled { IfOk result (λ decided. IsInFragment cond.now → IsSettled decided) }
     ensures least { IfOk result (λ decided. HasNoInside cond.now → HasLeastValues cond.now decided) }
     ensures never { IfOk result (λ decided. IsUnsat decided → (values : List ℕ) → holds_at cond.now values ≡ false) }

@@ -83,7 +83,8 @@ fn moved_symbol(cond: &PathCond, formulas: u32) -> Option<SymId>
 
 /// The least value of the domain of a symbol.
 fn least_in(domains: &Domains, symbol: SymId) -> Option<Num>
-    ensures { IfSome result (λ value. (cond : Condition) → AreDomainsOf cond domains.now → IsLeastPossible cond symbol value) }
+    ensures { IfSome result (λ value. (cond : Condition) → AreDomainsOf cond domains.now
+        → IsLeastPossible cond symbol value) }
 {
     match domains.get(symbol) {
         None => None,

@@ -34,11 +34,14 @@ pub fn found_names<P: Patterns>(
     // Each answer is one that `find` may give at that state.
     ensures asked { IfOk result (λ answers. AnswersAll (IsStep P.told P.find_gives)
         names.now.metas names.now.patterns patterns.old answers patterns.new) }
-    ensures refused { IfOk result (λ answers. OnRefused answers ((P.told patterns.old).refusals < (P.told patterns.new).refusals)) }
+    ensures refused { IfOk result (λ answers. OnRefused answers
+        ((P.told patterns.old).refusals < (P.told patterns.new).refusals)) }
 
     // Where the object tells it.
-    ensures found { IfOk result (λ answers. ForSome (P.told patterns.old).matches (λ finds. IfAnswered answers (λ lists. lists ≡ found_by finds names.now))) }
-    ensures bad { IfOk result (λ answers. ForSome (P.told patterns.old).bad (λ is_bad. refused_site answers ≡ bad_site is_bad names.now.metas names.now.patterns)) }
+    ensures found { IfOk result (λ answers. ForSome (P.told patterns.old).matches
+        (λ finds. IfAnswered answers (λ lists. lists ≡ found_by finds names.now))) }
+    ensures bad { IfOk result (λ answers. ForSome (P.told patterns.old).bad
+        (λ is_bad. refused_site answers ≡ bad_site is_bad names.now.metas names.now.patterns)) }
 {
     ask_patterns(alloc, names, patterns)
 }

@@ -66,7 +66,8 @@ impl<M: Mark> Asking<'_, M> {
     /// Takes what was found behind these decisions into account for each question. Where each has its hit no path is followed any more.
     pub(crate) fn keep(&mut self, found: Found, decisions: &[Decision]) -> Result<(), NoMemory>
         requires ready { IsReady self.old.subject self.old.questions.items self.old.kept.items }
-        requires found { IsHandedBy (net_of self.old.subject) (entry_of self.old.subject) self.old.subject.hops (handed decisions.now found) }
+        requires found { IsHandedBy (net_of self.old.subject) (entry_of self.old.subject) self.old.subject.hops
+            (handed decisions.now found) }
         ensures same { IsSameAsking self.old.subject self.new.subject self.old.questions.items self.new.questions.items
             self.old.failed self.new.failed }
         ensures one_each { length self.new.kept.items ≡ length self.old.kept.items }

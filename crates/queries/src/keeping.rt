@@ -58,8 +58,10 @@ pub(crate) fn keep(
     requires path { IsWellSeen (net_of subject.now) (entry_of subject.now) subject.now.hops seen.now }
     ensures { IfOk result (λ done. (items : List RecordTree) (x : RecordTree) → number ≡ length items
         → IsSeenOf (net_of subject.now) (entry_of subject.now) subject.now.hops x seen.now
-        → IsKeptOf (net_of subject.now) (entry_of subject.now) subject.now.hops items (question_seen question.now) kept.old
-        → IsKeptOf (net_of subject.now) (entry_of subject.now) subject.now.hops (items ++ x ∷ []) (question_seen question.now) kept.new) }
+        → IsKeptOf (net_of subject.now) (entry_of subject.now) subject.now.hops items (question_seen question.now)
+        kept.old
+        → IsKeptOf (net_of subject.now) (entry_of subject.now) subject.now.hops (items ++ x ∷ [])
+        (question_seen question.now) kept.new) }
 {
     verdicts_on_trees_are_exact();
     if kept.is_found() {
@@ -86,7 +88,8 @@ pub(crate) fn keep_all(
     ensures keeps { IfOk result (λ done. (items : List RecordTree) (x : RecordTree) → number ≡ length items
         → IsSeenOf (net_of subject.now) (entry_of subject.now) subject.now.hops x seen.now
         → AreKept (net_of subject.now) (entry_of subject.now) subject.now.hops items questions.now kept.old
-        → AreKept (net_of subject.now) (entry_of subject.now) subject.now.hops (items ++ x ∷ []) questions.now kept.new) }
+        → AreKept (net_of subject.now) (entry_of subject.now) subject.now.hops (items ++ x ∷ []) questions.now
+        kept.new) }
 {
     for i in 0..questions.len() {
         keep(alloc, subject, &questions[i], number, seen, &mut kept[i])?;

@@ -56,7 +56,8 @@ fn judge_at(
     requires job { AreOfOneJob (net_of subject.now) (entry_of subject.now) }
     requires own { IsOfInjection (net_of subject.now) (entry_of subject.now) (question_seen question.now) }
     requires path { IsPathRun (net_of subject.now) (entry_of subject.now) subject.now.hops run.now }
-    requires stops { AreNoted (net_of subject.now) (entry_of subject.now) subject.now.hops run.now.decisions.now stops.now }
+    requires stops { AreNoted (net_of subject.now) (entry_of subject.now) subject.now.hops run.now.decisions.now
+        stops.now }
     requires looks { look_of (question_seen question.now) ≡ OnArrivals place }
     ensures { IfOk result (IsJudgedOn (net_of subject.now) (entry_of subject.now) subject.now.hops
         (question_seen question.now) run.now.decisions.now) }
@@ -97,7 +98,8 @@ fn judge_path(
     requires job { AreOfOneJob (net_of subject.now) (entry_of subject.now) }
     requires own { IsOfInjection (net_of subject.now) (entry_of subject.now) (question_seen question.now) }
     requires path { IsPathRun (net_of subject.now) (entry_of subject.now) subject.now.hops run.now }
-    requires stops { AreNoted (net_of subject.now) (entry_of subject.now) subject.now.hops run.now.decisions.now stops.now }
+    requires stops { AreNoted (net_of subject.now) (entry_of subject.now) subject.now.hops run.now.decisions.now
+        stops.now }
     ensures { IfOk result (IsJudgedOn (net_of subject.now) (entry_of subject.now) subject.now.hops
         (question_seen question.now) run.now.decisions.now) }
 {
@@ -117,7 +119,8 @@ pub(crate) fn judge(
     requires job { AreOfOneJob (net_of subject.now) (entry_of subject.now) }
     requires own { IsOfInjection (net_of subject.now) (entry_of subject.now) (question_seen question.now) }
     requires path { IsWellSeen (net_of subject.now) (entry_of subject.now) subject.now.hops seen.now }
-    ensures { IfOk result (SaysOf (net_of subject.now) (entry_of subject.now) subject.now.hops (question_seen question.now) seen.now) }
+    ensures { IfOk result (SaysOf (net_of subject.now) (entry_of subject.now) subject.now.hops
+        (question_seen question.now) seen.now) }
 {
     match seen {
         Seen::Path { run, stops } => judge_path(alloc, subject, question, run, stops),

@@ -172,7 +172,8 @@ fn see_run<'a>(
     requires job { AreOfOneJob (net_of subject.now) (entry_of subject.now) }
     requires path { IsPathRun (net_of subject.now) (entry_of subject.now) subject.now.hops run }
     ensures path { IfOk result (IsWellSeen (net_of subject.now) (entry_of subject.now) subject.now.hops) }
-    ensures seen { IfOk result (IsPathSeen (net_of subject.now) (entry_of subject.now) subject.now.hops run.entry.decisions.now) }
+    ensures seen { IfOk result (IsPathSeen (net_of subject.now) (entry_of subject.now) subject.now.hops
+        run.entry.decisions.now) }
 {
     let stops = stops_of(alloc, subject, questions, kept, &run)?;
     Ok(Seen::Path { run, stops })
@@ -208,7 +209,8 @@ pub(crate) fn see<'a>(
     requires one_each { length questions.now ≡ length kept.now }
     requires job { AreOfOneJob (net_of subject.now) (entry_of subject.now) }
     ensures path { IfOk result (IsWellSeen (net_of subject.now) (entry_of subject.now) subject.now.hops) }
-    ensures seen { IfOk result (IsSeenOf (net_of subject.now) (entry_of subject.now) subject.now.hops (record_tree item.now)) }
+    ensures seen { IfOk result (IsSeenOf (net_of subject.now) (entry_of subject.now) subject.now.hops
+        (record_tree item.now)) }
 {
     match item {
         Record::Path { decisions, .. } => see_path(alloc, subject, questions, kept, decisions),
@@ -228,9 +230,11 @@ pub(crate) fn see_found<'a>(
 ) -> Result<Seen<'a>, NoMemory>
     requires one_each { length questions.now ≡ length kept.now }
     requires job { AreOfOneJob (net_of subject.now) (entry_of subject.now) }
-    requires found { IsHandedBy (net_of subject.now) (entry_of subject.now) subject.now.hops (handed decisions.now found) }
+    requires found { IsHandedBy (net_of subject.now) (entry_of subject.now) subject.now.hops
+        (handed decisions.now found) }
     ensures path { IfOk result (IsWellSeen (net_of subject.now) (entry_of subject.now) subject.now.hops) }
-    ensures seen { IfOk result (IsSeenOf (net_of subject.now) (entry_of subject.now) subject.now.hops (found_tree found decisions.now)) }
+    ensures seen { IfOk result (IsSeenOf (net_of subject.now) (entry_of subject.now) subject.now.hops
+        (found_tree found decisions.now)) }
 {
     match found {
         Found::Path {

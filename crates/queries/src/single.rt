@@ -36,7 +36,8 @@ fn keep_one(
     requires job { AreOfOneJob (net_of subject.now) (entry_of subject.now) }
     requires own { IsOfInjection (net_of subject.now) (entry_of subject.now) (question_seen question.now) }
     ensures { IfOk result (λ done. (items : List RecordTree) → number ≡ length items
-        → IsKeptOf (net_of subject.now) (entry_of subject.now) subject.now.hops items (question_seen question.now) kept.old
+        → IsKeptOf (net_of subject.now) (entry_of subject.now) subject.now.hops items (question_seen question.now)
+        kept.old
         → IsKeptOf (net_of subject.now) (entry_of subject.now) subject.now.hops (items ++ record_tree item.now ∷ [])
         (question_seen question.now) kept.new) }
 {
@@ -81,7 +82,8 @@ pub fn ask(
     words: &Ask,
 ) -> Result<Answer, AskFault>
     requires job { AreOfOneJob (network net.now) (entry injection.now) }
-    requires exact { (limit : ℕ) × AreExactFor (network net.now) (entry injection.now) hops limit (record_trees records.now) }
+    requires exact { (limit : ℕ) × AreExactFor (network net.now) (entry injection.now) hops limit
+        (record_trees records.now) }
     ensures answered { IfOk result (λ answer. IsAnswerTo (network net.now) (entry injection.now) hops
         (record_trees records.now) (ask_tree words.now) (answer_seen answer)) }
     ensures refused { IfErr result (IsFault (network net.now) (entry injection.now) (ask_tree words.now)) }

@@ -57,7 +57,8 @@ fn is_shown_by(
     how: &End,
     path: &PathParts<'_>,
 ) -> Result<bool, NoMemory>
-    ensures { IfOk result (λ yes. IsTrue yes ↔ IsShownBy state.now how.now path.now.places.now path.now.how.now (fields_seen path.now.fields.now)) }
+    ensures { IfOk result (λ yes. IsTrue yes ↔ IsShownBy state.now how.now path.now.places.now path.now.how.now
+        (fields_seen path.now.fields.now)) }
 {
     if !is_same_end(how, path.how) {
         return Ok(false);
@@ -130,7 +131,8 @@ fn is_first_refuted<G: Guide>(
     decisions: &[Decision],
     refutation: &Refutation,
 ) -> Result<bool, NoMemory>
-    ensures { IfOk result (λ yes. IsTrue yes ↔ ((decisions.now ≡ []) × IsRefutedBy (first_condition G.start) refutation.now)) }
+    ensures { IfOk result (λ yes. IsTrue yes ↔ ((decisions.now ≡ [])
+        × IsRefutedBy (first_condition G.start) refutation.now)) }
 {
     if !decisions.is_empty() {
         return Ok(false);

@@ -37,7 +37,8 @@ pub trait Guide {
         stop: &Self::Stop,
         decision: Decision,
     ) -> Result<Option<Self::Stop>, NoMemory>
-        ensures { IfOk result (λ next. (ds : List DecisionOf) → LeadsTo start ds (seen stop.now) → LeadsOn start (ds ++ decision ∷ []) (option_map seen next)) };
+        ensures { IfOk result (λ next. (ds : List DecisionOf) → LeadsTo start ds (seen stop.now)
+            → LeadsOn start (ds ++ decision ∷ []) (option_map seen next)) };
 
     /// The condition behind a decision of an If or of a Constrain, before the run goes on; None exactly where no such
     /// instruction offers it.
@@ -47,7 +48,8 @@ pub trait Guide {
         stop: &Self::Stop,
         decision: Decision,
     ) -> Result<Option<PathCond>, NoMemory>
-        ensures { IfOk result (λ side. (ds : List DecisionOf) → LeadsTo start ds (seen stop.now) → SideOf start (ds ++ decision ∷ []) side) };
+        ensures { IfOk result (λ side. (ds : List DecisionOf) → LeadsTo start ds (seen stop.now)
+            → SideOf start (ds ++ decision ∷ []) side) };
 
     /// The state there.
     fn state<'a>(&self, stop: &'a Self::Stop) -> &'a SymState

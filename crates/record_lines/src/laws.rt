@@ -9,7 +9,8 @@ ghost use Rattle.record_lines.specs.declared.lines.RefutedSides.{RefutedSides};
 /// With one more record that is written, its piece comes behind those of the others.
 #[tactic(auto, using(crate::proofs::LineLemmas::written_behind))]
 pub fn a_record_comes_behind_the_others()
-    ensures { (net : Network) (sides : RefutedSides) (items : List Record) (item : Record) → is_written sides item ≡ true
+    ensures { (net : Network) (sides : RefutedSides) (items : List Record) (item : Record)
+        → is_written sides item ≡ true
         → records_text net (written_of sides (items ++ item ∷ []))
         ≡ records_text net (written_of sides items) ++ piece_text net (has_some (written_of sides items)) item }
 {}

@@ -13,7 +13,8 @@ ghost use Rattle.record_text.specs.Reports.{head_text, record_pieces, tail_text,
 /// The head, the records, each but the first behind a comma, and the tail are the text of the report.
 pub fn pieces_join()
     ensures { (net : Network) (report : Report) → report_text net report
-        ≡ head_text report.hops report.limit ++ (record_pieces false (map (record_data net) report.records.items) ++ tail_text report.refuted report.complete) }
+        ≡ head_text report.hops report.limit ++ (record_pieces false (map (record_data net) report.records.items)
+        ++ tail_text report.refuted report.complete) }
 {}
 
 /// The items of a list, with its end, are their texts, each but the first behind a comma, and the closing bracket.
@@ -25,6 +26,7 @@ pub fn lists_are_joined()
 /// The same of the line of a report of any records.
 #[tactic(auto, using(crate::proofs::Pieces::lines_join))]
 pub fn lines_join()
-    ensures { (net : Network) (hops limit : ℕ) (records : List Record) (refuted : ℕ) (complete : Bool) → report_line net hops limit records refuted complete
+    ensures { (net : Network) (hops limit : ℕ) (records : List Record) (refuted : ℕ) (complete : Bool)
+        → report_line net hops limit records refuted complete
         ≡ head_text hops limit ++ (record_pieces false (map (record_data net) records) ++ tail_text refuted complete) }
 {}

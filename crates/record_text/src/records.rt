@@ -51,7 +51,8 @@ fn write_path(
     fields: &Fields,
     verdict: &Verdict,
 ) -> Result<(), NoMemory>
-    ensures { Gains (path_data (network net.now) course.entry.decisions.now course.entry.places.now end.now (fields_seen fields.now) verdict.now)
+    ensures { Gains (path_data (network net.now) course.entry.decisions.now course.entry.places.now end.now
+        (fields_seen fields.now) verdict.now)
         result out.old out.new }
 {
     objects_are_written();

@@ -64,7 +64,8 @@ impl Agenda {
     /// Adds an alternative for each case, the first case the next one.
     fn push_cases(&mut self, mut cases: Vec<Vec<SymBound>>) -> Result<(), NoMemory>
         ensures alternatives { OnOk result (reverse self.new.alternatives.items
-            ≡ map (alternative_with (length self.old.gathered.items)) cases.items ++ reverse self.old.alternatives.items) }
+            ≡ map (alternative_with (length self.old.gathered.items)) cases.items
+            ++ reverse self.old.alternatives.items) }
         ensures gathered { self.new.gathered ≡ self.old.gathered }
     {
         let kept = self.gathered.len();

@@ -10,7 +10,8 @@ use report_forms::laws::reports_have_their_form;
 
 /// What `replay` comes to of the bytes of a report is one thing: a text, or one refusal.
 pub fn replays_have_one_outcome()
-    ensures { (net : Network) (i : Entry) (bytes : List ℕ) (a b : Outcome) → ReplayOf net i bytes a → ReplayOf net i bytes b → a ≡ b }
+    ensures { (net : Network) (i : Entry) (bytes : List ℕ) (a b : Outcome) → ReplayOf net i bytes a
+        → ReplayOf net i bytes b → a ≡ b }
 {
     reports_have_their_form();
     one_answer_for_a_net();

@@ -52,8 +52,10 @@ fn text_of_counts(
     records: &[Record],
 ) -> Result<String, OwnFault>
     requires { AreOfOneJob (network job.now.net) (entry job.now.injection) }
-    ensures text { IfOk result (λ text. IsCountsText (network job.now.net) (entry job.now.injection) hops (record_trees records.now) (string_bytes text)) }
-    ensures refused { IfErr result (IsReplayRefusal (network job.now.net) (entry job.now.injection) hops (record_trees records.now)) }
+    ensures text { IfOk result (λ text. IsCountsText (network job.now.net) (entry job.now.injection) hops
+        (record_trees records.now) (string_bytes text)) }
+    ensures refused { IfErr result (IsReplayRefusal (network job.now.net) (entry job.now.injection) hops
+        (record_trees records.now)) }
 {
     let answer = confirm(alloc, &job.net, &job.injection, hops, records);
     text_of_answer(alloc, answer)
@@ -62,7 +64,8 @@ fn text_of_counts(
 /// The text of the counts of the report that the bytes show, which is read whole.
 fn text_of_whole(alloc: Global, job: &Accepted, bytes: &[u8]) -> Result<String, OwnFault>
     requires { AreOfOneJob (network job.now.net) (entry job.now.injection) }
-    ensures text { IfOk result (λ text. CountsCome (network job.now.net) (entry job.now.injection) bytes.now (string_bytes text)) }
+    ensures text { IfOk result (λ text. CountsCome (network job.now.net) (entry job.now.injection) bytes.now
+        (string_bytes text)) }
     ensures refused { IfErr result (NoCountsCome (network job.now.net) (entry job.now.injection) bytes.now) }
 {
     let report = report_of(alloc, &job.net, bytes)?;
@@ -108,7 +111,8 @@ fn text_of_printed<N: OfNet>(
     requires net { network job.now.net ≡ N.net }
     requires job { AreOfOneJob (network job.now.net) (entry job.now.injection) }
     requires short { length bytes.now < 2 ^ 63 }
-    ensures text { IfOk result (λ found. IfSome found (λ text. CountsCome (network job.now.net) (entry job.now.injection) bytes.now (string_bytes text))) }
+    ensures text { IfOk result (λ found. IfSome found
+        (λ text. CountsCome (network job.now.net) (entry job.now.injection) bytes.now (string_bytes text))) }
     ensures refused { IfErr result (NoCountsCome (network job.now.net) (entry job.now.injection) bytes.now) }
 {
     printed_records_are_read();
@@ -130,7 +134,8 @@ fn text_of_printed<N: OfNet>(
 fn text_of_report(alloc: Global, job: &Accepted, bytes: &[u8]) -> Result<String, OwnFault>
     requires job { AreOfOneJob (network job.now.net) (entry job.now.injection) }
     requires short { length bytes.now < 2 ^ 63 }
-    ensures text { IfOk result (λ text. CountsCome (network job.now.net) (entry job.now.injection) bytes.now (string_bytes text)) }
+    ensures text { IfOk result (λ text. CountsCome (network job.now.net) (entry job.now.injection) bytes.now
+        (string_bytes text)) }
     ensures refused { IfErr result (NoCountsCome (network job.now.net) (entry job.now.injection) bytes.now) }
 {
     match text_of_printed::<Brand>(alloc, job, bytes)? {
@@ -142,8 +147,10 @@ fn text_of_report(alloc: Global, job: &Accepted, bytes: &[u8]) -> Result<String,
 /// The text of the counts of the report of the file.
 fn text_of(alloc: Global, given: &Two<Accepted, Vec<u8>>) -> Result<(Ending, String), OwnFault>
     requires { AreOfOneJob (network given.now.first.net) (entry given.now.first.injection) }
-    ensures text { IfOk result (λ t. ReplayComes (given_of given.now.first ∷ some_bytes given.now.second.items ∷ []) (a_text t.0 (string_bytes t.1))) }
-    ensures refused { IfErr result (IsRefusal (ReplayComes (given_of given.now.first ∷ some_bytes given.now.second.items ∷ []))) }
+    ensures text { IfOk result (λ t. ReplayComes (given_of given.now.first ∷ some_bytes given.now.second.items ∷ [])
+        (a_text t.0 (string_bytes t.1))) }
+    ensures refused { IfErr result (IsRefusal (ReplayComes
+        (given_of given.now.first ∷ some_bytes given.now.second.items ∷ []))) }
 {
     let text = text_of_report(alloc, &given.first, &given.second)?;
     Ok((Ending::Done, text))

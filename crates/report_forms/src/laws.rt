@@ -19,8 +19,10 @@ use report_shape::laws::large_numbers_have_digits;
 /// The JSON of a report whose names are the net's and whose numbers are in range has the shape of a report, and it is
 /// that of no other such report.
 pub fn reports_have_their_form()
-    ensures form { (net : Network) (report : Report) → ReportFits net report → fault (knows net) part.Report (data_of net report) ≡ None }
-    ensures one { (net : Network) (report found : Report) → ReportFits net report → ReportFits net found → data_of net report ≡ data_of net found
+    ensures form { (net : Network) (report : Report) → ReportFits net report
+        → fault (knows net) part.Report (data_of net report) ≡ None }
+    ensures one { (net : Network) (report found : Report) → ReportFits net report → ReportFits net found
+        → data_of net report ≡ data_of net found
         → report_seen report ≡ report_seen found }
 {
     large_numbers_have_digits();
@@ -29,10 +31,13 @@ pub fn reports_have_their_form()
 
 /// The same of the JSON of any records.
 pub fn lines_have_their_form()
-    ensures form { (net : Network) (hops limit : ℕ) (records : List Record) (refuted : ℕ) (complete : Bool) → LineFits net hops limit records refuted
+    ensures form { (net : Network) (hops limit : ℕ) (records : List Record) (refuted : ℕ) (complete : Bool)
+        → LineFits net hops limit records refuted
         → fault (knows net) part.Report (report_data hops limit (records_data net records) refuted complete) ≡ None }
-    ensures one { (net : Network) (hops limit : ℕ) (records : List Record) (refuted : ℕ) (complete : Bool) (found : Report)
-        → LineFits net hops limit records refuted → ReportFits net found → report_data hops limit (records_data net records) refuted complete ≡ data_of net found
+    ensures one { (net : Network) (hops limit : ℕ) (records : List Record) (refuted : ℕ) (complete : Bool)
+        (found : Report)
+        → LineFits net hops limit records refuted → ReportFits net found
+        → report_data hops limit (records_data net records) refuted complete ≡ data_of net found
         → report_seen found ≡ line_seen hops limit records refuted complete }
 {
     large_numbers_have_digits();

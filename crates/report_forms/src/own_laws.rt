@@ -21,9 +21,12 @@ use net_check::laws::accepted_parts_keep_the_rules;
 
 /// Each node, each name of metadata and each tag of an accepted net is found by its name.
 pub fn ids_are_found()
-    ensures nodes { (net : Network) → IsAcceptedNet net → AreSpelled net → (node : NodeOf) → node.0 < length net.own.nodes → IsOwnNode net node }
-    ensures metas { (net : Network) → IsAcceptedNet net → AreSpelled net → (name : NameOf) → name.0 < length net.names.metas → IsOwnName net name }
-    ensures tags { (net : Network) → IsAcceptedNet net → AreSpelled net → (tag : TagOf) → tag.0 < length net.names.tags → IsOwnTag net tag }
+    ensures nodes { (net : Network) → IsAcceptedNet net → AreSpelled net → (node : NodeOf)
+        → node.0 < length net.own.nodes → IsOwnNode net node }
+    ensures metas { (net : Network) → IsAcceptedNet net → AreSpelled net → (name : NameOf)
+        → name.0 < length net.names.metas → IsOwnName net name }
+    ensures tags { (net : Network) → IsAcceptedNet net → AreSpelled net → (tag : TagOf) → tag.0 < length net.names.tags
+        → IsOwnTag net tag }
 {
     accepted_parts_keep_the_rules();
     sets_ascend();
@@ -32,7 +35,8 @@ pub fn ids_are_found()
 /// Exact records whose numbers are of their types fit the net that they are of.
 pub fn exact_records_fit()
     ensures { (net : Network) (i : Entry) (hops limit : ℕ) (records : List Record) → AreOfOneJob net i → AreSpelled net
-        → AreExactFor net i hops limit (record_trees records) → AllByRecursion RecordInRange records → AllByRecursion (RecordFits net) records }
+        → AreExactFor net i hops limit (record_trees records) → AllByRecursion RecordInRange records
+        → AllByRecursion (RecordFits net) records }
 {
     ids_are_found();
     names_and_widths();

@@ -11,5 +11,6 @@ ghost use Rattle.report_names.specs.Own.{IsOwnPlace};
 /// A place of the net is found by its text.
 pub fn places_are_found()
     ensures { (net : Network) (place : Place) → IsOwnPlace net place
-        → place_named net (side_text place.side ++ (node_name net place.node ++ (codes "." ++ decimal place.port))) ≡ Some place }
+        → place_named net (side_text place.side ++ (node_name net place.node ++ (codes "." ++ decimal place.port)))
+        ≡ Some place }
 {}

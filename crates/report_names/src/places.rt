@@ -71,7 +71,8 @@ fn placed_by(
     side: &str,
     port: Option<(&str, &str)>,
 ) -> Result<Option<Place>, NoMemory>
-    ensures { IfOk result (λ place. place ≡ placed_by (network net.now) side.now (option_map (λ p. (p.0.now, p.1.now)) port.entry)) }
+    ensures { IfOk result (λ place. place ≡ placed_by (network net.now) side.now
+        (option_map (λ p. (p.0.now, p.1.now)) port.entry)) }
 {
     let Some((name, digits)) = port else {
         return Ok(None);

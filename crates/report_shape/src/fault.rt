@@ -132,7 +132,8 @@ fn items_fault<N: Names>(
     names: &N,
     parts: Parts,
 ) -> Result<Option<String>, NoMemory>
-    ensures { IfOk result (λ found. option_map string_bytes found ≡ items_fault (N.knows names.now) (parts_of parts) 0 (items_view items.now.items)) }
+    ensures { IfOk result (λ found. option_map string_bytes found
+        ≡ items_fault (N.knows names.now) (parts_of parts) 0 (items_view items.now.items)) }
 {
     let mut number = 0;
     for item in items {
@@ -151,7 +152,8 @@ fn members_fault<N: Names>(
     names: &N,
     fields: &[Field],
 ) -> Result<Option<String>, NoMemory>
-    ensures { IfOk result (λ found. option_map string_bytes found ≡ members_fault (N.knows names.now) (map field_of fields.now) (members_view members.now.entries)) }
+    ensures { IfOk result (λ found. option_map string_bytes found
+        ≡ members_fault (N.knows names.now) (map field_of fields.now) (members_view members.now.entries)) }
 {
     for (key, value) in members {
         if let Some(found) = first_fault(value, alloc, names, part_of(fields, key))? {

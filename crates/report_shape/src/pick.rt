@@ -145,7 +145,8 @@ fn for_word(
     name: &str,
     members: &Map<String, Value>,
 ) -> Result<&'static [Field], Refused>
-    ensures { told_fields result ≡ for_word key.now (map word_of forms.now) name.now (members_view members.now.entries) }
+    ensures { told_fields result ≡ for_word key.now (map word_of forms.now) name.now
+        (members_view members.now.entries) }
 {
     for (word, fields) in forms {
         if *word == name {
@@ -161,7 +162,8 @@ fn for_number(
     number: u64,
     members: &Map<String, Value>,
 ) -> Result<&'static [Field], Refused>
-    ensures { told_fields result ≡ for_number key.now (map number_of forms.now) number (members_view members.now.entries) }
+    ensures { told_fields result ≡ for_number key.now (map number_of forms.now) number
+        (members_view members.now.entries) }
 {
     for (least, greatest, fields) in forms {
         if *least <= number && number <= *greatest {
@@ -182,7 +184,8 @@ fn by_word(
     forms: &'static [(&'static str, &'static [Field])],
     members: &Map<String, Value>,
 ) -> Result<&'static [Field], Refused>
-    ensures { told_fields result ≡ object_fields (by_word key.now (map word_of forms.now)) (members_view members.now.entries) }
+    ensures { told_fields result ≡ object_fields (by_word key.now (map word_of forms.now))
+        (members_view members.now.entries) }
 {
     match member(members, key) {
         None => Err(None),
@@ -198,7 +201,8 @@ fn by_number(
     forms: &'static [(u64, u64, &'static [Field])],
     members: &Map<String, Value>,
 ) -> Result<&'static [Field], Refused>
-    ensures { told_fields result ≡ object_fields (by_number key.now (map number_of forms.now)) (members_view members.now.entries) }
+    ensures { told_fields result ≡ object_fields (by_number key.now (map number_of forms.now))
+        (members_view members.now.entries) }
 {
     match member(members, key) {
         None => Err(None),

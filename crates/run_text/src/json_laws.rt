@@ -14,11 +14,15 @@ ghost use Rattle.run_text.specs.Plain.{IsPlain};
 /// A list is its beginning, its items and its end.
 pub fn lists_are_written()
     ensures closed { (a b : List Token) → Puts json_token.end_array a b → EndsList no_items a b }
-    ensures item { (a b c : List Token) (d : Data) (ds : Items) → Adds d a b → EndsList ds b c → EndsList (item d ds) a c }
-    ensures opened { (a b c : List Token) (ds : Items) → Puts json_token.begin_array a b → EndsList ds b c → Adds (array ds) a c }
+    ensures item { (a b c : List Token) (d : Data) (ds : Items) → Adds d a b → EndsList ds b c
+        → EndsList (item d ds) a c }
+    ensures opened { (a b c : List Token) (ds : Items) → Puts json_token.begin_array a b → EndsList ds b c
+        → Adds (array ds) a c }
     ensures none { (a : List Token) → AddsAll [] a a }
-    ensures more { (a b c : List Token) (d : Data) (ds : List Data) → Adds d a b → AddsAll ds b c → AddsAll (d ∷ ds) a c }
-    ensures last { (a b c : List Token) (ds : List Data) → AddsAll ds a b → Puts json_token.end_array b c → EndsList (items_of ds) a c }
+    ensures more { (a b c : List Token) (d : Data) (ds : List Data) → Adds d a b → AddsAll ds b c
+        → AddsAll (d ∷ ds) a c }
+    ensures last { (a b c : List Token) (ds : List Data) → AddsAll ds a b → Puts json_token.end_array b c
+        → EndsList (items_of ds) a c }
 {}
 
 /// An object is its beginning, its members and its end.
@@ -26,7 +30,8 @@ pub fn objects_are_written()
     ensures closed { (a b : List Token) → Puts json_token.end_object a b → EndsObject no_members a b }
     ensures member { (a b c e : List Token) (k : List ℕ) (d : Data) (ms : Members)
         → Puts (json_token.key k) a b → Adds d b c → EndsObject ms c e → EndsObject (member k d ms) a e }
-    ensures opened { (a b c : List Token) (ms : Members) → Puts json_token.begin_object a b → EndsObject ms b c → Adds (object ms) a c }
+    ensures opened { (a b c : List Token) (ms : Members) → Puts json_token.begin_object a b → EndsObject ms b c
+        → Adds (object ms) a c }
 {}
 
 /// The compact text of a value of whole numbers of 64 bits whose keys ascend, with a line feed behind it, is read as

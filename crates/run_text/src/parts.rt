@@ -70,7 +70,8 @@ fn place_text(
     node: NodeId,
     port: u32,
 ) -> Result<String, NoMemory>
-    ensures { IfOk result (λ text. string_bytes text ≡ side.now ++ (node_name (network net.now) node ++ (codes "." ++ decimal port))) }
+    ensures { IfOk result (λ text. string_bytes text
+        ≡ side.now ++ (node_name (network net.now) node ++ (codes "." ++ decimal port))) }
 {
     let name = node_text(net, node);
     Ok(format!(in alloc; "{side}{name}.{port}")?)

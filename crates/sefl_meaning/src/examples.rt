@@ -56,11 +56,13 @@ pub fn for_goes_over_its_snapshot()
 /// A local of one box is there when the packet comes back, and is not read by another box.
 pub fn locals_belong_to_their_box()
     ensures comes_back { (hops : ℕ)
-        → walks_from (examples.local_net examples.onward_code) (examples.injection (codes "a") []) [] (suc (suc (suc hops))) nothing
+        → walks_from (examples.local_net examples.onward_code) (examples.injection (codes "a") []) []
+        (suc (suc (suc hops))) nothing
         ≡ examples.walk (Pass ∷ []) (examples.place 0 Inward 0 ∷ examples.place 0 Outward 0 ∷ examples.place 1 Inward 0
         ∷ examples.place 1 Outward 0 ∷ examples.place 0 Inward 1 ∷ []) Stopped examples.local_of_a ∷ [] }
     ensures elsewhere { (hops : ℕ)
-        → walks_from (examples.local_net examples.local_test) (examples.injection (codes "a") []) [] (suc (suc (suc hops))) nothing
+        → walks_from (examples.local_net examples.local_test) (examples.injection (codes "a") []) []
+        (suc (suc (suc hops))) nothing
         ≡ examples.walk [] (examples.place 0 Inward 0 ∷ examples.place 0 Outward 0 ∷ examples.place 1 Inward 0 ∷ [])
         (Failed (Layout NoMeta) (record { 0 = 9 })) examples.local_of_a ∷ [] }
 {}

@@ -62,24 +62,31 @@ pub fn runs_are_ways()
 /// Functions that respect the operations commute with the values of expressions, the truths of
 /// conditions, the state of an injection, the courses of code and the trees of whole runs.
 pub fn valuing_commutes<V: Drop, F: Truths, W: Drop, G: Truths>()
-    ensures values { (fits : ℕ → V → Bool) (o : Values V F.Truth) (p : Values W G.Truth) (f : V → W) (g : F.Truth → G.Truth) → Respects fits o p f g
+    ensures values { (fits : ℕ → V → Bool) (o : Values V F.Truth) (p : Values W G.Truth) (f : V → W)
+        (g : F.Truth → G.Truth) → Respects fits o p f g
         → (at : Scene) (width : ℕ) (e : ExprTree) (s : Carried V) → CarriedFits fits s
         → value_in p at width e (carried_valued f s) ≡ outcome.on_ok f (value_in o at width e s) }
-    ensures truths { (fits : ℕ → V → Bool) (o : Values V F.Truth) (p : Values W G.Truth) (f : V → W) (g : F.Truth → G.Truth) → Respects fits o p f g
+    ensures truths { (fits : ℕ → V → Bool) (o : Values V F.Truth) (p : Values W G.Truth) (f : V → W)
+        (g : F.Truth → G.Truth) → Respects fits o p f g
         → (at : Scene) (test : CondTree) (s : Carried V) → CarriedFits fits s
         → truth_in p at test (carried_valued f s) ≡ outcome.on_ok g (truth_in o at test s) }
-    ensures evaluated { (fits : ℕ → V → Bool) (o : Values V F.Truth) (p : Values W G.Truth) (f : V → W) (g : F.Truth → G.Truth) → Respects fits o p f g
+    ensures evaluated { (fits : ℕ → V → Bool) (o : Values V F.Truth) (p : Values W G.Truth) (f : V → W)
+        (g : F.Truth → G.Truth) → Respects fits o p f g
         → (at : Scene) (target : Target) (e : ExprTree) (s : Carried V) → CarriedFits fits s
         → evaluated p at target e (carried_valued f s) ≡ outcome.on_ok (carried_valued f) (evaluated o at target e s) }
-    ensures injection { (fits : ℕ → V → Bool) (o : Values V F.Truth) (p : Values W G.Truth) (f : V → W) (g : F.Truth → G.Truth) → Respects fits o p f g
+    ensures injection { (fits : ℕ → V → Bool) (o : Values V F.Truth) (p : Values W G.Truth) (f : V → W)
+        (g : F.Truth → G.Truth) → Respects fits o p f g
         → (at : Scene) (i : InjectionTree)
         → injected p at i ≡ outcome.on_ok (carried_valued f) (injected o at i) }
-    ensures courses { (fits : ℕ → V → Bool) (o : Values V F.Truth) (p : Values W G.Truth) (f : V → W) (g : F.Truth → G.Truth) → Respects fits o p f g
+    ensures courses { (fits : ℕ → V → Bool) (o : Values V F.Truth) (p : Values W G.Truth) (f : V → W)
+        (g : F.Truth → G.Truth) → Respects fits o p f g
         → (at : Scene) (site : ℕ) (code : CodeTree) (from : Progress V) → CarriedFits fits from.state
         → course_code p at site code (progress_valued f from) ≡ course_valued f g (course_code o at site code from) }
-    ensures trees { (fits : ℕ → V → Bool) (o : Values V F.Truth) (p : Values W G.Truth) (f : V → W) (g : F.Truth → G.Truth) → Respects fits o p f g
+    ensures trees { (fits : ℕ → V → Bool) (o : Values V F.Truth) (p : Values W G.Truth) (f : V → W)
+        (g : F.Truth → G.Truth) → Respects fits o p f g
         → (net : Network) (hops port : ℕ) (node : NodeId) (from : Progress V) → CarriedFits fits from.state
-        → trees.enter p net hops node port (progress_valued f from) ≡ tree_valued f g (trees.enter o net hops node port from) }
+        → trees.enter p net hops node port (progress_valued f from)
+        ≡ tree_valued f g (trees.enter o net hops node port from) }
 {
     state_laws::<V, W>();
 }
@@ -112,7 +119,8 @@ pub fn expressions_keep<V: Drop, F: Truths>()
         → (at : Scene) (width : ℕ) (e : ExprTree) (s : Carried V) → CarriedFits fits s
         → IfOk (value_in o at width e s) (Fits fits width) }
     ensures truths { (fits : ℕ → V → Bool) (good : F.Truth → Bool) (o : Values V F.Truth) → KeepsTests fits good o
-        → (at : Scene) (test : CondTree) (s : Carried V) → AllByRecursion HasSomeWidth (cond_atoms test) → CarriedFits fits s
+        → (at : Scene) (test : CondTree) (s : Carried V) → AllByRecursion HasSomeWidth (cond_atoms test)
+        → CarriedFits fits s
         → IfOk (truth_in o at test s) (IsGood good) }
 {
     state_laws::<V, V>();
@@ -120,15 +128,18 @@ pub fn expressions_keep<V: Drop, F: Truths>()
 
 /// The steps that only touch what is carried keep what holds of its values.
 pub fn steps_keep<V: Drop>()
-    ensures weaker { (closer fits : ℕ → V → Bool) (s : Carried V) → ((width : ℕ) (value : V) → Fits closer width value → Fits fits width value)
+    ensures weaker { (closer fits : ℕ → V → Bool) (s : Carried V)
+        → ((width : ℕ) (value : V) → Fits closer width value → Fits fits width value)
         → CarriedFits closer s → CarriedFits fits s }
     ensures allocated { (fits : ℕ → V → Bool) (at : Scene) (target : Target) (s : Carried V) → CarriedFits fits s
         → IfOk (allocated at target s) (CarriedFits fits) }
     ensures deallocated { (fits : ℕ → V → Bool) (at : Scene) (target : Target) (s : Carried V) → CarriedFits fits s
         → IfOk (deallocated at target s) (CarriedFits fits) }
-    ensures assigned { (fits : ℕ → V → Bool) (at : Scene) (target : Target) (value : V) (s : Carried V) → CarriedFits fits s
+    ensures assigned { (fits : ℕ → V → Bool) (at : Scene) (target : Target) (value : V) (s : Carried V)
+        → CarriedFits fits s
         → Fits fits (width_of target) value → IfOk (assigned at target value s) (CarriedFits fits) }
-    ensures created { (fits : ℕ → V → Bool) (at : Scene) (name : List ℕ) (addr : Addr) (s : Carried V) → CarriedFits fits s
+    ensures created { (fits : ℕ → V → Bool) (at : Scene) (name : List ℕ) (addr : Addr) (s : Carried V)
+        → CarriedFits fits s
         → IfOk (tag_created at name addr s) (CarriedFits fits) }
     ensures set { (fits : ℕ → V → Bool) (at : Scene) (name : List ℕ) (addr : Addr) (s : Carried V) → CarriedFits fits s
         → IfOk (tag_set at name addr s) (CarriedFits fits) }
@@ -140,18 +151,26 @@ pub fn steps_keep<V: Drop>()
 
 /// A function of values commutes with the steps that only touch what is carried.
 pub fn steps_commute<V: Drop, W: Drop>()
-    ensures allocated { (fits : ℕ → V → Bool) (f : V → W) (at : Scene) (target : Target) (s : Carried V) → CarriedFits fits s
+    ensures allocated { (fits : ℕ → V → Bool) (f : V → W) (at : Scene) (target : Target) (s : Carried V)
+        → CarriedFits fits s
         → allocated at target (carried_valued f s) ≡ outcome.on_ok (carried_valued f) (allocated at target s) }
-    ensures deallocated { (fits : ℕ → V → Bool) (f : V → W) (at : Scene) (target : Target) (s : Carried V) → CarriedFits fits s
+    ensures deallocated { (fits : ℕ → V → Bool) (f : V → W) (at : Scene) (target : Target) (s : Carried V)
+        → CarriedFits fits s
         → deallocated at target (carried_valued f s) ≡ outcome.on_ok (carried_valued f) (deallocated at target s) }
-    ensures assigned { (fits : ℕ → V → Bool) (f : V → W) (at : Scene) (target : Target) (value : V) (s : Carried V) → CarriedFits fits s
+    ensures assigned { (fits : ℕ → V → Bool) (f : V → W) (at : Scene) (target : Target) (value : V) (s : Carried V)
+        → CarriedFits fits s
         → Fits fits (width_of target) value
-        → assigned at target (f value) (carried_valued f s) ≡ outcome.on_ok (carried_valued f) (assigned at target value s) }
-    ensures created { (fits : ℕ → V → Bool) (f : V → W) (at : Scene) (name : List ℕ) (addr : Addr) (s : Carried V) → CarriedFits fits s
-        → tag_created at name addr (carried_valued f s) ≡ outcome.on_ok (carried_valued f) (tag_created at name addr s) }
-    ensures set { (fits : ℕ → V → Bool) (f : V → W) (at : Scene) (name : List ℕ) (addr : Addr) (s : Carried V) → CarriedFits fits s
+        → assigned at target (f value) (carried_valued f s)
+        ≡ outcome.on_ok (carried_valued f) (assigned at target value s) }
+    ensures created { (fits : ℕ → V → Bool) (f : V → W) (at : Scene) (name : List ℕ) (addr : Addr) (s : Carried V)
+        → CarriedFits fits s
+        → tag_created at name addr (carried_valued f s)
+        ≡ outcome.on_ok (carried_valued f) (tag_created at name addr s) }
+    ensures set { (fits : ℕ → V → Bool) (f : V → W) (at : Scene) (name : List ℕ) (addr : Addr) (s : Carried V)
+        → CarriedFits fits s
         → tag_set at name addr (carried_valued f s) ≡ outcome.on_ok (carried_valued f) (tag_set at name addr s) }
-    ensures destroyed { (fits : ℕ → V → Bool) (f : V → W) (at : Scene) (name : List ℕ) (s : Carried V) → CarriedFits fits s
+    ensures destroyed { (fits : ℕ → V → Bool) (f : V → W) (at : Scene) (name : List ℕ) (s : Carried V)
+        → CarriedFits fits s
         → tag_destroyed at name (carried_valued f s) ≡ outcome.on_ok (carried_valued f) (tag_destroyed at name s) }
 {
     state_laws::<V, W>();
@@ -160,13 +179,18 @@ pub fn steps_commute<V: Drop, W: Drop>()
 /// Symbols are typed along the way: each unknown field and each choice has the width that it is made
 /// at, in the injection, in courses and in whole trees.
 pub fn symbols_are_typed<V: Drop, F: Truths>()
-    ensures injection { (fits : List ℕ → ℕ → V → Bool) (o : Values V F.Truth) (i : InjectionTree) → KeepsSymbols fits (unknown_widths i.fields) o
+    ensures injection { (fits : List ℕ → ℕ → V → Bool) (o : Values V F.Truth) (i : InjectionTree)
+        → KeepsSymbols fits (unknown_widths i.fields) o
         → (at : Scene) → IfOk (injected o at i) (CarriedFits (fits (unknown_widths i.fields))) }
-    ensures courses { (fits : List ℕ → ℕ → V → Bool) (unknowns : List ℕ) (o : Values V F.Truth) → KeepsSymbols fits unknowns o
-        → (at : Scene) (site : ℕ) (code : CodeTree) (p : Progress V) → CarriedFits (fits (unknowns ++ p.choices)) p.state
+    ensures courses { (fits : List ℕ → ℕ → V → Bool) (unknowns : List ℕ) (o : Values V F.Truth)
+        → KeepsSymbols fits unknowns o
+        → (at : Scene) (site : ℕ) (code : CodeTree) (p : Progress V)
+        → CarriedFits (fits (unknowns ++ p.choices)) p.state
         → CourseTyped fits unknowns (course_code o at site code p) }
-    ensures trees { (fits : List ℕ → ℕ → V → Bool) (unknowns : List ℕ) (o : Values V F.Truth) → KeepsSymbols fits unknowns o
-        → (net : Network) (hops port : ℕ) (node : NodeId) (p : Progress V) → CarriedFits (fits (unknowns ++ p.choices)) p.state
+    ensures trees { (fits : List ℕ → ℕ → V → Bool) (unknowns : List ℕ) (o : Values V F.Truth)
+        → KeepsSymbols fits unknowns o
+        → (net : Network) (hops port : ℕ) (node : NodeId) (p : Progress V)
+        → CarriedFits (fits (unknowns ++ p.choices)) p.state
         → TreeTyped fits unknowns (trees.enter o net hops node port p) }
 {
     state_laws::<V, V>();
@@ -187,7 +211,8 @@ pub fn numbers_fit()
     ensures operations { (v : List ℕ) (unknowns : ℕ) → Keeps number_fits (numbers v unknowns) }
     ensures choices { (v : List ℕ) (unknowns width number : ℕ)
         → (numbers v unknowns).choice width number ≡ (numbers v unknowns).unknown width (unknowns + number) }
-    ensures runs { (v : List ℕ) (unknowns site : ℕ) (at : Scene) (code : CodeTree) (p : Progress ℕ) → CarriedFits number_fits p.state
+    ensures runs { (v : List ℕ) (unknowns site : ℕ) (at : Scene) (code : CodeTree) (p : Progress ℕ)
+        → CarriedFits number_fits p.state
         → CarriedFits number_fits (run_code v unknowns at site code p).progress.state }
     ensures walks { (net : Network) (v : List ℕ) (unknowns hops port : ℕ) (node : NodeId) (p : Progress ℕ)
         → CarriedFits number_fits p.state
@@ -225,7 +250,8 @@ pub fn sequences_associate<V: Drop, F: Truths>()
 pub fn walks_are_routes()
     ensures ways { (t : Tree ℕ Bool) → AllByRecursion (IsWay (route t)) (walks_of t) }
     ensures walks { (t : Tree ℕ Bool) (w : Passage) → IsWay (route t) w → Has (walks_of t) w }
-    ensures shown { (ws : List Passage) (t : Trail) → (Has (map shown ws) t ↔ (w : Passage) × Has ws w × (shown w ≡ t)) }
+    ensures shown { (ws : List Passage) (t : Trail)
+        → (Has (map shown ws) t ↔ (w : Passage) × Has ws w × (shown w ≡ t)) }
 {}
 
 /// Functions of values and truths commute with routes.
@@ -251,15 +277,18 @@ pub fn offers_go_on<V: Drop, F: Truths>()
 
 /// Decisions lead along a route, or one of them is the first that is not offered.
 pub fn the_first_closed_decision_is_one<V: Drop, F: Truths>()
-    ensures found { (t : Tree V F.Truth) (ds : List Decision) → route t ds ≡ None → (index : ℕ) × IsFirstClosed t ds index }
-    ensures closed { (t : Tree V F.Truth) (ds : List Decision) (index : ℕ) → IsFirstClosed t ds index → route t ds ≡ None }
+    ensures found { (t : Tree V F.Truth) (ds : List Decision) → route t ds ≡ None
+        → (index : ℕ) × IsFirstClosed t ds index }
+    ensures closed { (t : Tree V F.Truth) (ds : List Decision) (index : ℕ) → IsFirstClosed t ds index
+        → route t ds ≡ None }
     ensures one { (t : Tree V F.Truth) (ds : List Decision) (first second : ℕ)
         → IsFirstClosed t ds first → IsFirstClosed t ds second → first ≡ second }
 {}
 
 /// In the tree of an accepted net each split has a copy.
 pub fn accepted_forks_have_copies<V: Drop, F: Truths>()
-    ensures { (o : Values V F.Truth) (net : Network) (hops port : ℕ) (node : NodeId) (p : Progress V) → IsAcceptedNet net
+    ensures { (o : Values V F.Truth) (net : Network) (hops port : ℕ) (node : NodeId) (p : Progress V)
+        → IsAcceptedNet net
         → Splits (trees.enter o net hops node port p) }
 {
     accepted_parts_keep_the_rules();
@@ -268,11 +297,14 @@ pub fn accepted_forks_have_copies<V: Drop, F: Truths>()
 /// The injection of a job that breaks no rule puts what it says into the packet, whatever the values
 /// are, and each of its tests is true or false.
 pub fn accepted_injections_go<V: Drop, F: Truths>()
-    ensures carries { (o : Values V F.Truth) (net : Network) (i : Entry) → AreOfOneJob net i → AllByRecursion HasWidth i.own.fields
+    ensures carries { (o : Values V F.Truth) (net : Network) (i : Entry) → AreOfOneJob net i
+        → AllByRecursion HasWidth i.own.fields
         → (s : Carried V) × (injected o (scene_at net i.node) i.own ≡ Ok s) }
-    ensures tests { (o : Values V F.Truth) (net : Network) (i : Entry) → AreOfOneJob net i → AllByRecursion HasWidth i.own.fields
+    ensures tests { (o : Values V F.Truth) (net : Network) (i : Entry) → AreOfOneJob net i
+        → AllByRecursion HasWidth i.own.fields
         → (s : Carried V) → injected o (scene_at net i.node) i.own ≡ Ok s
-        → AllByRecursion (λ test. (truth : F.Truth) × (truth_in o (scene_at net i.node) test s ≡ Ok truth)) i.own.tests }
+        → AllByRecursion (λ test. (truth : F.Truth) × (truth_in o (scene_at net i.node) test s ≡ Ok truth))
+        i.own.tests }
 {
     stack_laws::<V>();
     accepted_parts_keep_the_rules();

@@ -30,10 +30,14 @@ use net_check::table_laws::{codes_have_places, links_are_told, positions_have_na
 pub fn injections_have_a_start<V: Drop, F: Truths, W: Drop, G: Truths>()
     ensures walks { (net : Network) (i : Entry) (v : List ℕ) (hops : ℕ) (s : Carried ℕ)
         → walks_of (tree_from (numbers v (unknown_count i)) net i hops s) ≡ passages_from net i v hops s }
-    ensures starts { (net : Network) (i : Entry) (v : List ℕ) (hops : ℕ) (s : Carried ℕ) → Starts net i v s ↔ StartsAt net i v hops s }
-    ensures valued { (fits : ℕ → V → Bool) (o : Values V F.Truth) (p : Values W G.Truth) (f : V → W) (g : F.Truth → G.Truth) → Respects fits o p f g
-        → (net : Network) (i : Entry) (hops : ℕ) → start_of p net i hops ≡ outcome.on_ok (start_valued f g) (start_of o net i hops) }
-    ensures goes { (o : Values V F.Truth) (net : Network) (i : Entry) (hops : ℕ) → AreOfOneJob net i → AllByRecursion HasWidth i.own.fields
+    ensures starts { (net : Network) (i : Entry) (v : List ℕ) (hops : ℕ) (s : Carried ℕ)
+        → Starts net i v s ↔ StartsAt net i v hops s }
+    ensures valued { (fits : ℕ → V → Bool) (o : Values V F.Truth) (p : Values W G.Truth) (f : V → W)
+        (g : F.Truth → G.Truth) → Respects fits o p f g
+        → (net : Network) (i : Entry) (hops : ℕ) → start_of p net i hops
+        ≡ outcome.on_ok (start_valued f g) (start_of o net i hops) }
+    ensures goes { (o : Values V F.Truth) (net : Network) (i : Entry) (hops : ℕ) → AreOfOneJob net i
+        → AllByRecursion HasWidth i.own.fields
         → (start : Start V F.Truth) × (start_of o net i hops ≡ Ok start) }
 {
     runs_are_ways();
@@ -51,7 +55,8 @@ pub fn ids_are_the_nets_own<V: Drop, F: Truths>()
         → (hops port : ℕ) (node : NodeId) (p : Progress V) → IsNode net node → CarriesOwn net p.state
         → HasOwnIds net (trees.enter o net hops node port p) }
     ensures walks { (net : Network) → IsAcceptedNet net
-        → (v : List ℕ) (unknowns hops port : ℕ) (node : NodeId) (p : Progress ℕ) → IsNode net node → CarriesOwn net p.state
+        → (v : List ℕ) (unknowns hops port : ℕ) (node : NodeId) (p : Progress ℕ) → IsNode net node
+        → CarriesOwn net p.state
         → AllByRecursion (IsOwnWalk net) (walks.enter net v unknowns hops node port p) }
 {
     runs_are_ways();

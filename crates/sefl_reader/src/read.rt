@@ -21,7 +21,8 @@ use std::alloc::Global;
 pub fn read_job(alloc: Global, bytes: &[u8]) -> Result<Job, ReadFault>
     ensures answer { IsAnswer bytes.now result }
     ensures only { (outcome : Outcome) → IsOutcome bytes.now outcome → IsOf outcome result }
-    ensures read_back { (j : JobTree) → IsSpellable j → IsUtf8 bytes.now → bytes.now ≡ job_text j → IsOf (a_job j) result }
+    ensures read_back { (j : JobTree) → IsSpellable j → IsUtf8 bytes.now → bytes.now ≡ job_text j
+        → IsOf (a_job j) result }
 {
     canonical_text_is_read();
     read_bytes(alloc, bytes)

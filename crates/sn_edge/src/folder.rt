@@ -44,10 +44,13 @@ pub trait Folder {
         ensures within { IfBytes result (λ bytes. length bytes ≤ limit) }
         ensures bytes { IfBytes result (λ bytes. ForSome (told self.old).files (λ at. at name.now ≡ Some bytes)) }
         ensures no_file { OnAbsent result (ForSome (told self.old).files (λ at. at name.now ≡ None)) }
-        ensures long_file { OnTooBig result (ForSome (told self.old).files (λ at. IsSomeAnd (at name.now) (λ bytes. limit < length bytes))) }
+        ensures long_file { OnTooBig result (ForSome (told self.old).files
+            (λ at. IsSomeAnd (at name.now) (λ bytes. limit < length bytes))) }
 
         // And the other way: which answer comes where the load is not stopped by a failure or for want of memory.
         ensures at_none { ForSome (told self.old).files (λ at. at name.now ≡ None → IsAbsentUnlessStopped result) }
-        ensures at_long { ForSome (told self.old).files (λ at. ForSome (at name.now) (λ bytes. limit < length bytes → IsTooBigUnlessStopped result)) }
-        ensures at_file { ForSome (told self.old).files (λ at. ForSome (at name.now) (λ bytes. length bytes ≤ limit → IsBytesUnlessStopped result)) };
+        ensures at_long { ForSome (told self.old).files
+            (λ at. ForSome (at name.now) (λ bytes. limit < length bytes → IsTooBigUnlessStopped result)) }
+        ensures at_file { ForSome (told self.old).files
+            (λ at. ForSome (at name.now) (λ bytes. length bytes ≤ limit → IsBytesUnlessStopped result)) };
 }

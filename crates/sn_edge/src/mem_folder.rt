@@ -72,7 +72,8 @@ impl Folder for MemFolder {
     ghost load_gives = { IsLoad };
 
     fn load(&mut self, alloc: Global, name: &str, limit: u64) -> Loaded
-        ensures failing { (result ≡ Loaded.Failed) ↔ (Contains self.old.failing self.old.calls × (self.old.calls < 2 ^ 64 - 1)) }
+        ensures failing { (result ≡ Loaded.Failed) ↔
+            (Contains self.old.failing self.old.calls × (self.old.calls < 2 ^ 64 - 1)) }
         ensures next { self.new ≡ after_load self.old result }
         ensures answer { IsAnswerAt (file_at self.old.entries name.now) limit result }
     {

@@ -40,7 +40,8 @@ impl<R: Print> Output for Printed<'_, R> {
 // Writes the piece, and answers whether all of it was taken. A write that takes nothing has failed.
 pub(crate) fn write_whole<W: Output>(output: &mut W, piece: &[u8]) -> bool
     ensures all { IsTrue result → W.contents output.new ≡ append_known (W.contents output.old) piece.now }
-    ensures part { (part : List ℕ) × IsPrefix part piece.now × (W.contents output.new ≡ append_known (W.contents output.old) part) }
+    ensures part { (part : List ℕ) × IsPrefix part piece.now
+        × (W.contents output.new ≡ append_known (W.contents output.old) part) }
 {
     let mut rest = piece;
     while !rest.is_empty() {

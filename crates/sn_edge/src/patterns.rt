@@ -34,5 +34,6 @@ pub trait Patterns {
         ensures no { OnNo result (ForSome (told self.old).matches (λ finds. IsFalse (finds pattern.now name.now))) }
         ensures bad { OnBad result (ForSome (told self.old).bad (λ is_bad. IsTrue (is_bad pattern.now))) }
         ensures gives { find_gives self.old pattern.now name.now result self.new }
-        ensures at_bad { ForSome (told self.old).bad (λ is_bad. IsTrue (is_bad pattern.now) → IsBadUnlessStopped result) };
+        ensures at_bad { ForSome (told self.old).bad
+            (λ is_bad. IsTrue (is_bad pattern.now) → IsBadUnlessStopped result) };
 }

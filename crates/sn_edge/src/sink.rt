@@ -34,5 +34,6 @@ pub trait Sink {
         // What was taken is a prefix of the piece: all of it at All, nothing at NoMemory.
         ensures all { OnAll result ((told self.new).taken ≡ append_known (told self.old).taken piece.now) }
         ensures nothing { OnNoMemory result ((told self.new).taken ≡ (told self.old).taken) }
-        ensures part { (part : List ℕ) × IsPrefix part piece.now × ((told self.new).taken ≡ append_known (told self.old).taken part) };
+        ensures part { (part : List ℕ) × IsPrefix part piece.now
+            × ((told self.new).taken ≡ append_known (told self.old).taken part) };
 }

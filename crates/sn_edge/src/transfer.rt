@@ -13,8 +13,10 @@ const CHUNK: usize = 8192;
 // All the bytes that a reader has left. It ends after `limit + 1` bytes.
 pub(crate) fn read_whole<R: Read>(alloc: Global, reader: &mut R, limit: u64) -> Loaded
     ensures within { IfBytes result (λ bytes. length bytes ≤ limit) }
-    ensures bytes { IfBytes result (λ bytes. Consumes (R.remaining reader.old) (R.remaining reader.new) bytes × IsAtEnd (R.remaining reader.new)) }
-    ensures too_big { OnTooBig result ((bytes : List ℕ) × (length bytes ≡ limit + 1) × Consumes (R.remaining reader.old) (R.remaining reader.new) bytes) }
+    ensures bytes { IfBytes result (λ bytes. Consumes (R.remaining reader.old) (R.remaining reader.new) bytes
+        × IsAtEnd (R.remaining reader.new)) }
+    ensures too_big { OnTooBig result ((bytes : List ℕ) × (length bytes ≡ limit + 1)
+        × Consumes (R.remaining reader.old) (R.remaining reader.new) bytes) }
     ensures present { OnAbsent result ⊥ }
 {
     let mut bytes = Vec::new(alloc);

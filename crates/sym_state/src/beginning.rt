@@ -41,7 +41,8 @@ impl SymState {
     ) -> Result<SymState, NoMemory>
         requires { AreOfOneJob (network net.now) (entry injection.now) }
         ensures begins { IfOk result (Begins (network net.now) (entry injection.now)) }
-        ensures start { IfOk result (λ s. (hops : ℕ) → start_of (terms (unknown_count (entry injection.now))) (network net.now) (entry injection.now) hops
+        ensures start { IfOk result (λ s. (hops : ℕ)
+            → start_of (terms (unknown_count (entry injection.now))) (network net.now) (entry injection.now) hops
             ≡ Ok (start_in (network net.now) (entry injection.now) hops s)) }
     {
         injection.keeps_the_rules();
@@ -106,7 +107,11 @@ fn carrying(alloc: Global, at: &Origin<'_>, raw: &RawInjection) -> Result<SymSta
 
 /// The unknown fields as symbols, before anything is met.
 fn unmet(alloc: Global, fields: &[RawField]) -> Result<Trace, NoMemory>
-    ensures { IfOk result (λ t. t ≡ record { condition = record { widths = unknown_widths fields.now; entries = [] }; decisions = []; places = [] }) }
+    ensures { IfOk result (λ t. t ≡ record {
+      condition = record { widths = unknown_widths fields.now; entries = [] };
+      decisions = [];
+      places = [];
+    }) }
 {
     let widths = widths_of(alloc, fields)?;
     let condition = PathCond::new(alloc, widths)?;

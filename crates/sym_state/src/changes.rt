@@ -50,7 +50,8 @@ fn apply(
     carried: &mut Carried<Term>,
     change: Change<'_>,
 ) -> Result<(), StepFault>
-    ensures { Meets (changed (terms o.now.unknowns) (scene_of at.now) change.entry (carried_of carried.old)) result (carried_of carried.old) (carried_of carried.new) }
+    ensures { Meets (changed (terms o.now.unknowns) (scene_of at.now) change.entry (carried_of carried.old)) result
+        (carried_of carried.old) (carried_of carried.new) }
 {
     match change {
         Change::Allocate(target) => allocate(alloc, at, carried, target),
@@ -70,8 +71,11 @@ impl SymState {
         at: &Scene<'_>,
         change: Change<'_>,
     ) -> Result<(), StepFault>
-        ensures step { Meets (on_ok (with_carried self.old) (changed (terms self.old.unknowns) (scene_of at.now) change.entry self.old.carried)) result self.old self.new }
-        ensures commutes { (v : List ℕ) → Meets (changed (numbers v self.old.unknowns) (scene_of at.now) change.entry (numbers_in v self.old))
+        ensures step { Meets (on_ok (with_carried self.old)
+            (changed (terms self.old.unknowns) (scene_of at.now) change.entry self.old.carried)) result self.old
+            self.new }
+        ensures commutes { (v : List ℕ) → Meets (changed (numbers v self.old.unknowns) (scene_of at.now) change.entry
+            (numbers_in v self.old))
             result (numbers_in v self.old) (numbers_in v self.new) }
     {
         valuing_commutes::<Term, Formulas, Num, bool>();
@@ -95,8 +99,11 @@ impl SymState {
         bound: &Shared<Iteration>,
         change: Change<'_>,
     ) -> Result<(), StepFault>
-        ensures step { Meets (on_ok (with_carried self.old) (changed (terms self.old.unknowns) (scene_in (network net.now) bound.now self.old) change.entry self.old.carried)) result self.old self.new }
-        ensures commutes { (v : List ℕ) → Meets (changed (numbers v self.old.unknowns) (scene_in (network net.now) bound.now self.old) change.entry (numbers_in v self.old))
+        ensures step { Meets (on_ok (with_carried self.old)
+            (changed (terms self.old.unknowns) (scene_in (network net.now) bound.now self.old) change.entry
+            self.old.carried)) result self.old self.new }
+        ensures commutes { (v : List ℕ) → Meets (changed (numbers v self.old.unknowns)
+            (scene_in (network net.now) bound.now self.old) change.entry (numbers_in v self.old))
             result (numbers_in v self.old) (numbers_in v self.new) }
     {
         let at = self.scene(net, bound);
@@ -110,9 +117,13 @@ impl SymState {
         at: &Scene<'_>,
         target: &Target,
     ) -> Result<(), StepFault>
-        ensures step { Meets (on_ok (with_symbol self.old (width_of target.now)) (assigned (scene_of at.now) target.now (symbol_term (width_of target.now) (length self.old.condition.widths)) self.old.carried)) result
+        ensures step { Meets (on_ok (with_symbol self.old (width_of target.now))
+            (assigned (scene_of at.now) target.now
+            (symbol_term (width_of target.now) (length self.old.condition.widths)) self.old.carried)) result
             self.old self.new }
-        ensures commutes { (v : List ℕ) → Meets (assigned (scene_of at.now) target.now ((numbers v self.old.unknowns).choice (width_of target.now) (length (choices_of self.old))) (numbers_in v self.old))
+        ensures commutes { (v : List ℕ) → Meets (assigned (scene_of at.now) target.now
+            ((numbers v self.old.unknowns).choice (width_of target.now) (length (choices_of self.old)))
+            (numbers_in v self.old))
             result (numbers_in v self.old) (numbers_in v self.new) }
         ensures known { self.old.unknowns ≤ length self.old.condition.widths }
     {
@@ -129,7 +140,9 @@ impl SymState {
         at: &Scene<'_>,
         target: &Target,
     ) -> Result<(), StepFault>
-        ensures step { Meets (on_ok (with_symbol self.old (width_of target.now)) (assigned (scene_of at.now) target.now (symbol_term (width_of target.now) (length self.old.condition.widths)) self.old.carried)) result
+        ensures step { Meets (on_ok (with_symbol self.old (width_of target.now))
+            (assigned (scene_of at.now) target.now
+            (symbol_term (width_of target.now) (length self.old.condition.widths)) self.old.carried)) result
             self.old self.new }
         ensures typed { CarriedFits (typed_fits self.old.condition.widths) self.old.carried }
         ensures known { self.old.unknowns ≤ length self.old.condition.widths }
@@ -152,9 +165,13 @@ impl SymState {
         bound: &Shared<Iteration>,
         target: &Target,
     ) -> Result<(), StepFault>
-        ensures step { Meets (on_ok (with_symbol self.old (width_of target.now)) (assigned (scene_in (network net.now) bound.now self.old) target.now (symbol_term (width_of target.now) (length self.old.condition.widths)) self.old.carried)) result
+        ensures step { Meets (on_ok (with_symbol self.old (width_of target.now))
+            (assigned (scene_in (network net.now) bound.now self.old) target.now
+            (symbol_term (width_of target.now) (length self.old.condition.widths)) self.old.carried)) result
             self.old self.new }
-        ensures commutes { (v : List ℕ) → Meets (assigned (scene_in (network net.now) bound.now self.old) target.now ((numbers v self.old.unknowns).choice (width_of target.now) (length (choices_of self.old))) (numbers_in v self.old))
+        ensures commutes { (v : List ℕ) → Meets (assigned (scene_in (network net.now) bound.now self.old) target.now
+            ((numbers v self.old.unknowns).choice (width_of target.now) (length (choices_of self.old)))
+            (numbers_in v self.old))
             result (numbers_in v self.old) (numbers_in v self.new) }
     {
         let at = self.scene(net, bound);

@@ -42,8 +42,11 @@ impl SymState {
         test: &Cond,
         steps: &mut Steps<L>,
     ) -> Result<Formula, StepFault>
-        ensures test { GivesBy view (truth_in (terms self.now.unknowns) (scene_in (network net.now) bound.now self.now) (cond_tree test.now) self.now.carried) result }
-        ensures truth { IfOk result (λ f. (v : List ℕ) → truth_in (numbers v self.now.unknowns) (scene_in (network net.now) bound.now self.now) (cond_tree test.now) (numbers_in v self.now) ≡ Ok (truth_at (view f) v)) }
+        ensures test { GivesBy view (truth_in (terms self.now.unknowns) (scene_in (network net.now) bound.now self.now)
+            (cond_tree test.now) self.now.carried) result }
+        ensures truth { IfOk result (λ f. (v : List ℕ)
+            → truth_in (numbers v self.now.unknowns) (scene_in (network net.now) bound.now self.now)
+            (cond_tree test.now) (numbers_in v self.now) ≡ Ok (truth_at (view f) v)) }
         ensures typed { IfOk result (λ f. IsTyped self.now.condition.widths (view f)) }
         ensures counted { steps.new ≡ steps.old + 1 }
     {
@@ -59,8 +62,11 @@ impl SymState {
         at: &Scene<'_>,
         test: &Cond,
     ) -> Result<Formula, StepFault>
-        ensures test { GivesBy view (truth_in (terms self.now.unknowns) (scene_of at.now) (cond_tree test.now) self.now.carried) result }
-        ensures truth { IfOk result (λ f. (v : List ℕ) → truth_in (numbers v self.now.unknowns) (scene_of at.now) (cond_tree test.now) (numbers_in v self.now) ≡ Ok (truth_at (view f) v)) }
+        ensures test { GivesBy view (truth_in (terms self.now.unknowns) (scene_of at.now) (cond_tree test.now)
+            self.now.carried) result }
+        ensures truth { IfOk result (λ f. (v : List ℕ)
+            → truth_in (numbers v self.now.unknowns) (scene_of at.now) (cond_tree test.now) (numbers_in v self.now)
+            ≡ Ok (truth_at (view f) v)) }
         ensures typed { IfOk result (λ f. IsTyped self.now.condition.widths (view f)) }
     {
         valuing_commutes::<Term, Formulas, Num, bool>();
@@ -74,7 +80,8 @@ impl SymState {
     }
 
     fn evaluated(&self, alloc: Global, at: &Scene<'_>, test: &Cond) -> Result<Formula, StepFault>
-        ensures { GivesBy view (truth_in (terms self.now.unknowns) (scene_of at.now) (cond_tree test.now) self.now.carried) result }
+        ensures { GivesBy view (truth_in (terms self.now.unknowns) (scene_of at.now) (cond_tree test.now)
+            self.now.carried) result }
     {
         let o = Terms {
             unknowns: self.unknowns,
@@ -90,8 +97,10 @@ impl SymState {
         names: &[NameId],
         steps: &mut Steps<L>,
     ) -> Result<Vec<(Option<NodeId>, NameId)>, NoMemory>
-        ensures keys { IfOk result (λ keys. keys.items ≡ snapshot (node_of self.now.places) names.now self.now.carried.scopes) }
-        ensures commutes { IfOk result (λ keys. (v : List ℕ) → keys.items ≡ snapshot (node_of self.now.places) names.now (numbers_in v self.now).scopes) }
+        ensures keys { IfOk result (λ keys. keys.items
+            ≡ snapshot (node_of self.now.places) names.now self.now.carried.scopes) }
+        ensures commutes { IfOk result (λ keys. (v : List ℕ)
+            → keys.items ≡ snapshot (node_of self.now.places) names.now (numbers_in v self.now).scopes) }
         ensures counted { steps.new ≡ steps.old + 1 }
     {
         metadata_commute::<Term, Num>();

@@ -33,8 +33,11 @@ impl SymState {
         target: &Target,
         steps: &mut Steps<L>,
     ) -> Result<(), StepFault>
-        ensures step { Meets (on_ok (with_carried self.old) (allocated (scene_in (network net.now) bound.now self.old) target.now self.old.carried)) result self.old self.new }
-        ensures commutes { (v : List ℕ) → Meets (allocated (scene_in (network net.now) bound.now self.old) target.now (numbers_in v self.old))
+        ensures step { Meets (on_ok (with_carried self.old)
+            (allocated (scene_in (network net.now) bound.now self.old) target.now self.old.carried)) result self.old
+            self.new }
+        ensures commutes { (v : List ℕ) → Meets (allocated (scene_in (network net.now) bound.now self.old) target.now
+            (numbers_in v self.old))
             result (numbers_in v self.old) (numbers_in v self.new) }
         ensures counted { steps.new ≡ steps.old + 1 }
     {
@@ -51,8 +54,11 @@ impl SymState {
         target: &Target,
         steps: &mut Steps<L>,
     ) -> Result<(), StepFault>
-        ensures step { Meets (on_ok (with_carried self.old) (deallocated (scene_in (network net.now) bound.now self.old) target.now self.old.carried)) result self.old self.new }
-        ensures commutes { (v : List ℕ) → Meets (deallocated (scene_in (network net.now) bound.now self.old) target.now (numbers_in v self.old))
+        ensures step { Meets (on_ok (with_carried self.old)
+            (deallocated (scene_in (network net.now) bound.now self.old) target.now self.old.carried)) result self.old
+            self.new }
+        ensures commutes { (v : List ℕ) → Meets (deallocated (scene_in (network net.now) bound.now self.old) target.now
+            (numbers_in v self.old))
             result (numbers_in v self.old) (numbers_in v self.new) }
         ensures counted { steps.new ≡ steps.old + 1 }
     {
@@ -70,8 +76,11 @@ impl SymState {
         value: &Expr,
         steps: &mut Steps<L>,
     ) -> Result<(), StepFault>
-        ensures step { Meets (on_ok (with_carried self.old) (evaluated (terms self.old.unknowns) (scene_in (network net.now) bound.now self.old) target.now (expr_tree value.now) self.old.carried)) result self.old self.new }
-        ensures commutes { (v : List ℕ) → Meets (evaluated (numbers v self.old.unknowns) (scene_in (network net.now) bound.now self.old) target.now (expr_tree value.now) (numbers_in v self.old))
+        ensures step { Meets (on_ok (with_carried self.old)
+            (evaluated (terms self.old.unknowns) (scene_in (network net.now) bound.now self.old) target.now
+            (expr_tree value.now) self.old.carried)) result self.old self.new }
+        ensures commutes { (v : List ℕ) → Meets (evaluated (numbers v self.old.unknowns)
+            (scene_in (network net.now) bound.now self.old) target.now (expr_tree value.now) (numbers_in v self.old))
             result (numbers_in v self.old) (numbers_in v self.new) }
         ensures counted { steps.new ≡ steps.old + 1 }
     {
@@ -88,9 +97,13 @@ impl SymState {
         target: &Target,
         steps: &mut Steps<L>,
     ) -> Result<(), StepFault>
-        ensures step { Meets (on_ok (with_symbol self.old (width_of target.now)) (assigned (scene_in (network net.now) bound.now self.old) target.now (symbol_term (width_of target.now) (length self.old.condition.widths)) self.old.carried)) result
+        ensures step { Meets (on_ok (with_symbol self.old (width_of target.now))
+            (assigned (scene_in (network net.now) bound.now self.old) target.now
+            (symbol_term (width_of target.now) (length self.old.condition.widths)) self.old.carried)) result
             self.old self.new }
-        ensures commutes { (v : List ℕ) → Meets (assigned (scene_in (network net.now) bound.now self.old) target.now ((numbers v self.old.unknowns).choice (width_of target.now) (length (choices_of self.old))) (numbers_in v self.old))
+        ensures commutes { (v : List ℕ) → Meets (assigned (scene_in (network net.now) bound.now self.old) target.now
+            ((numbers v self.old.unknowns).choice (width_of target.now) (length (choices_of self.old)))
+            (numbers_in v self.old))
             result (numbers_in v self.old) (numbers_in v self.new) }
         ensures counted { steps.new ≡ steps.old + 1 }
     {
@@ -107,8 +120,11 @@ impl SymState {
         addr: &Addr,
         steps: &mut Steps<L>,
     ) -> Result<(), StepFault>
-        ensures step { Meets (on_ok (with_carried self.old) (tag_created (scene_in (network net.now) [] self.old) name.now addr.now self.old.carried)) result self.old self.new }
-        ensures commutes { (v : List ℕ) → Meets (tag_created (scene_in (network net.now) [] self.old) name.now addr.now (numbers_in v self.old))
+        ensures step { Meets (on_ok (with_carried self.old)
+            (tag_created (scene_in (network net.now) [] self.old) name.now addr.now self.old.carried)) result self.old
+            self.new }
+        ensures commutes { (v : List ℕ) → Meets (tag_created (scene_in (network net.now) [] self.old) name.now addr.now
+            (numbers_in v self.old))
             result (numbers_in v self.old) (numbers_in v self.new) }
         ensures counted { steps.new ≡ steps.old + 1 }
     {
@@ -126,8 +142,11 @@ impl SymState {
         addr: &Addr,
         steps: &mut Steps<L>,
     ) -> Result<(), StepFault>
-        ensures step { Meets (on_ok (with_carried self.old) (tag_set (scene_in (network net.now) [] self.old) name.now addr.now self.old.carried)) result self.old self.new }
-        ensures commutes { (v : List ℕ) → Meets (tag_set (scene_in (network net.now) [] self.old) name.now addr.now (numbers_in v self.old))
+        ensures step { Meets (on_ok (with_carried self.old)
+            (tag_set (scene_in (network net.now) [] self.old) name.now addr.now self.old.carried)) result self.old
+            self.new }
+        ensures commutes { (v : List ℕ) → Meets (tag_set (scene_in (network net.now) [] self.old) name.now addr.now
+            (numbers_in v self.old))
             result (numbers_in v self.old) (numbers_in v self.new) }
         ensures counted { steps.new ≡ steps.old + 1 }
     {
@@ -144,8 +163,11 @@ impl SymState {
         name: &Name,
         steps: &mut Steps<L>,
     ) -> Result<(), StepFault>
-        ensures step { Meets (on_ok (with_carried self.old) (tag_destroyed (scene_in (network net.now) [] self.old) name.now self.old.carried)) result self.old self.new }
-        ensures commutes { (v : List ℕ) → Meets (tag_destroyed (scene_in (network net.now) [] self.old) name.now (numbers_in v self.old))
+        ensures step { Meets (on_ok (with_carried self.old)
+            (tag_destroyed (scene_in (network net.now) [] self.old) name.now self.old.carried)) result self.old
+            self.new }
+        ensures commutes { (v : List ℕ) → Meets (tag_destroyed (scene_in (network net.now) [] self.old) name.now
+            (numbers_in v self.old))
             result (numbers_in v self.old) (numbers_in v self.new) }
         ensures counted { steps.new ≡ steps.old + 1 }
     {

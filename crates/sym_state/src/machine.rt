@@ -23,7 +23,8 @@ use std::sync::ledger::Ledger;
 impl SymState {
     /// What `change` does with what is carried and the choices.
     fn take(&mut self, alloc: Global, at: &Scene<'_>, change: Change<'_>) -> Result<(), StepFault>
-        ensures step { Meets (on_ok (with_choices (terms self.old.unknowns) (scene_of at.now) (choices_of self.old)) (changed (terms self.old.unknowns) (scene_of at.now) change.entry self.old.carried))
+        ensures step { Meets (on_ok (with_choices (terms self.old.unknowns) (scene_of at.now) (choices_of self.old))
+            (changed (terms self.old.unknowns) (scene_of at.now) change.entry self.old.carried))
             result (held_of self.old) (held_of self.new) }
         ensures unknowns { self.new.unknowns ≡ self.old.unknowns }
         ensures rest { rest_of self.new ≡ rest_of self.old }
@@ -38,7 +39,8 @@ impl SymState {
         at: &Scene<'_>,
         target: &Target,
     ) -> Result<(), StepFault>
-        ensures step { Meets (done_by (terms self.old.unknowns) (scene_of at.now) (assign_any target.now) (held_of self.old)) result (held_of self.old) (held_of self.new) }
+        ensures step { Meets (done_by (terms self.old.unknowns) (scene_of at.now) (assign_any target.now)
+            (held_of self.old)) result (held_of self.old) (held_of self.new) }
         ensures unknowns { self.new.unknowns ≡ self.old.unknowns }
         ensures rest { rest_of self.new ≡ rest_of self.old }
     {

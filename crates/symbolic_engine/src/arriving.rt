@@ -40,7 +40,8 @@ fn port_frames<'a>(
     port: u32,
 ) -> Result<Vec<Frame<'a>>, NoMemory>
     ensures { IfOk result (λ frames. (o : Values LinearTerm FormulaTree) (p : Progress LinearTerm)
-        → course_frames o (network net.now) node (reverse frames.items) p ≡ port_course o (network net.now) node side port p) }
+        → course_frames o (network net.now) node (reverse frames.items) p
+        ≡ port_course o (network net.now) node side port p) }
 {
     let site = first_site(net, node, side, port)?;
     let code = code_of(net, node, side, port);
@@ -80,7 +81,8 @@ pub(crate) fn arrive<'a, B: Origin>(
     hops: u32,
 ) -> Result<Standing<'a, B>, NoMemory>
     ensures { IfOk result (λ there. (begun : ℕ) → Reaches B.start
-        (point_at begun (location_of B.start run (λ n. from_port (network net.now) run.unknowns side hops node port (progress_in run n))))
+        (point_at begun (location_of B.start run (λ n.
+        from_port (network net.now) run.unknowns side hops node port (progress_in run n))))
         (point_at begun (standing_at B.start (network net.now) there.run there.stage)) there.run.carried) }
 {
     run.is_own();
@@ -127,7 +129,8 @@ fn forked<'a, B: Origin>(
     ports: &'a [u32],
 ) -> Result<Moved<Standing<'a, B>, Finished<B>, Waiting<'a, B>>, NoMemory>
     ensures { IfOk result (λ moved. (own : Network) (begun : ℕ) → IsMove (views_of B.start own)
-        (point_at begun (location_of B.start run (λ n. wait_tree own (ForkedAt node hops ports.entry) run n))) begun moved) }
+        (point_at begun (location_of B.start run (λ n. wait_tree own (ForkedAt node hops ports.entry) run n))) begun
+        moved) }
 {
     let Ok(copies) = u32::try_from(ports.len()) else {
         return Err(NoMemory);
@@ -149,7 +152,8 @@ pub(crate) fn behind<'a, B: Origin>(
     exit: Exit<'a>,
 ) -> Result<Moved<Standing<'a, B>, Finished<B>, Waiting<'a, B>>, NoMemory>
     ensures { IfOk result (λ moved. (begun : ℕ) → IsMove (views_of B.start (network net.now))
-        (point_at begun (location_of B.start run (λ n. behind_running (network net.now) run.unknowns running (exit_of exit.entry)
+        (point_at begun (location_of B.start run (λ n.
+        behind_running (network net.now) run.unknowns running (exit_of exit.entry)
         (progress_in run n)))) begun moved) }
 {
     match running.side {
@@ -167,7 +171,8 @@ fn passed<'a, B: Origin>(
     exit: Exit<'a>,
 ) -> Result<Moved<Standing<'a, B>, Finished<B>, Waiting<'a, B>>, NoMemory>
     ensures { IfOk result (λ moved. (begun : ℕ) → IsMove (views_of B.start (network net.now))
-        (point_at begun (location_of B.start run (λ n. behind_side (network net.now) run.unknowns running.node running.port running.hops AtInput
+        (point_at begun (location_of B.start run (λ n.
+        behind_side (network net.now) run.unknowns running.node running.port running.hops AtInput
         (exit_of exit.entry) (progress_in run n)))) begun moved) }
 {
     match exit {
@@ -198,7 +203,8 @@ fn crossed<'a, B: Origin>(
     exit: Exit<'a>,
 ) -> Result<Moved<Standing<'a, B>, Finished<B>, Waiting<'a, B>>, NoMemory>
     ensures { IfOk result (λ moved. (begun : ℕ) → IsMove (views_of B.start (network net.now))
-        (point_at begun (location_of B.start run (λ n. behind_side (network net.now) run.unknowns running.node running.port running.hops AtOutput
+        (point_at begun (location_of B.start run (λ n.
+        behind_side (network net.now) run.unknowns running.node running.port running.hops AtOutput
         (exit_of exit.entry) (progress_in run n)))) begun moved) }
 {
     match exit {

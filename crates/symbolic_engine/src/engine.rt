@@ -185,7 +185,8 @@ impl<'a, B: Origin> Engine for Explorer<'a, B> {
     fn path(&self, over: Finished<B>, finding: Rc<Verdict>) -> Found
         ensures { IsListed (reverse over.run.decisions) → (begun : ℕ)
             → IsLed B.start (reverse over.run.decisions) (point_at begun (finished_at B.start over.run over.how))
-            → IsPathOf (views_of {origin = B.Origin} B.start B.net) (point_at begun (finished_at B.start over.run over.how)) finding.value
+            → IsPathOf (views_of {origin = B.Origin} B.start B.net)
+            (point_at begun (finished_at B.start over.run over.how)) finding.value
             (handed (reverse over.run.decisions) result) }
     {
         let Finished { run, how } = over;
@@ -203,7 +204,8 @@ impl<'a, B: Origin> Engine for Explorer<'a, B> {
 
     fn pruned(&self, node: &Waiting<'a, B>, before: Rc<Verdict>, refutation: Refutation) -> Found
         ensures { (ds : List ADecision) → IsListed ds → IsMade (views_of {origin = B.Origin} B.start B.net)
-            (pruned ds (Some (filled_verdict (length node.now.run.condition.widths) before.value)) refutation) (handed ds result) }
+            (pruned ds (Some (filled_verdict (length node.now.run.condition.widths) before.value)) refutation)
+            (handed ds result) }
     {
         let before = Some(Before {
             verdict: before,

@@ -145,7 +145,8 @@ pub fn explore<L: Ledger>(
 ) -> Result<Vec<Record>, NoMemory>
     requires job { AreOfOneJob (network net.now) (entry injection.now) }
     requires some { 0 < limit }
-    ensures { IfOk result (λ records. AreFound (network net.now) (entry injection.now) hops limit steps.old steps.new records.items) }
+    ensures { IfOk result (λ records. AreFound (network net.now) (entry injection.now) hops limit steps.old steps.new
+        records.items) }
 {
     let mut kept = Kept {
         items: Vec::new(alloc),

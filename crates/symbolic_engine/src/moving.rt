@@ -47,7 +47,8 @@ fn asked<'a, B: Origin>(
 ) -> Moved<Standing<'a, B>, Finished<B>, Waiting<'a, B>>
     requires { IsTyped run.condition.widths (view test) }
     ensures { (own : Network) (begun : ℕ) → IsMove (views_of B.start own)
-        (point_at begun (location_of B.start run (λ n. wait_tree own (AskedAt running question.entry test frames.entry) run n))) begun result }
+        (point_at begun (location_of B.start run (λ n.
+        wait_tree own (AskedAt running question.entry test frames.entry) run n))) begun result }
 {
     the_tests_of_types();
     run.is_own();
@@ -73,7 +74,8 @@ fn run_on<'a, B: Origin, L: Ledger>(
     steps: &mut Steps<L>,
 ) -> Result<Moved<Standing<'a, B>, Finished<B>, Waiting<'a, B>>, NoMemory>
     ensures { IfOk result (Moves (views_of B.start (network net.now))
-        (location_of B.start run (λ n. inside_tree (network net.now) running None (reverse frames.entry.items) run n)) steps.old steps.new) }
+        (location_of B.start run (λ n. inside_tree (network net.now) running None (reverse frames.entry.items) run n))
+        steps.old steps.new) }
 {
     let mut frames = frames;
     let mut state = run.into_state();

@@ -80,7 +80,8 @@ pub(crate) fn path(
     how: End,
     verdict: &Verdict,
 ) -> Result<Record, NoMemory>
-    ensures { IfOk result (λ made. record_tree made ≡ path decisions.now (reverse state.now.places) how (fields_of state.now.carried)
+    ensures { IfOk result (λ made. record_tree made
+        ≡ path decisions.now (reverse state.now.places) how (fields_of state.now.carried)
         (filled_verdict (length state.now.condition.widths) verdict.now)) }
 {
     let decisions = Vec::from_slice(alloc, decisions)?;
@@ -103,7 +104,8 @@ pub(crate) fn pruned(
     before: &Option<Before>,
     refutation: Refutation,
 ) -> Result<Record, NoMemory>
-    ensures { IfOk result (λ made. record_tree made ≡ pruned decisions.now (option_map filled_before before.now) refutation) }
+    ensures { IfOk result (λ made. record_tree made
+        ≡ pruned decisions.now (option_map filled_before before.now) refutation) }
 {
     let decisions = Vec::from_slice(alloc, decisions)?;
     let before = filled_before(alloc, before)?;

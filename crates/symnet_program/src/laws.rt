@@ -48,10 +48,13 @@ pub fn runs_tell<F: Folder, P: Patterns>()
         → MayWrite (outside F.told F.load_gives P.told P.find_gives) u v said status part }
     ensures headline { (u v : F × P) (job : List ℕ) (hops limit : ℕ) (pruned : PrunedOf) (whole : List ℕ)
         → IsRun (outside F.told F.load_gives P.told P.find_gives) u v (Some (explore job hops limit pruned)) Done whole
-        → TellsJob (outside F.told F.load_gives P.told P.find_gives) u v job hops limit (sides_of pruned) ending.Done whole }
+        → TellsJob (outside F.told F.load_gives P.told P.find_gives) u v job hops limit (sides_of pruned) ending.Done
+        whole }
     ensures partial { (u v : F × P) (job : List ℕ) (hops limit : ℕ) (pruned : PrunedOf) (whole : List ℕ)
-        → IsRun (outside F.told F.load_gives P.told P.find_gives) u v (Some (explore job hops limit pruned)) Partial whole
-        → TellsJob (outside F.told F.load_gives P.told P.find_gives) u v job hops limit (sides_of pruned) ending.Partial whole }
+        → IsRun (outside F.told F.load_gives P.told P.find_gives) u v (Some (explore job hops limit pruned)) Partial
+        whole
+        → TellsJob (outside F.told F.load_gives P.told P.find_gives) u v job hops limit (sides_of pruned) ending.Partial
+        whole }
 {}
 
 /// What is wrong with the job's file, or with the files of its tables, is told, unless a file was not read or there was no memory.
@@ -63,30 +66,38 @@ pub fn jobs_are_told()
         → ReadsJob command job → IsCaused (world w) tt tt (Some command) status
         → w.at job ≡ Some bytes → FILE_LIMIT < length bytes → (status ≡ TooBig job) ⊎ IsUnread status }
     ensures flawed { (command : CommandOf) (job : List ℕ) (w : World) (status : StatusOf) (bytes : List ℕ) (flaw : Flaw)
-        → ReadsJob command job → IsCaused (world w) tt tt (Some command) status → w.at job ≡ Some bytes → length bytes ≤ FILE_LIMIT
+        → ReadsJob command job → IsCaused (world w) tt tt (Some command) status → w.at job ≡ Some bytes
+        → length bytes ≤ FILE_LIMIT
         → HasFlaw bytes flaw → (status ≡ Syntax flaw.line flaw.column flaw.kind) ⊎ IsUnread status }
     ensures tables { (command : CommandOf) (job : List ℕ) (w : World) (status : StatusOf) (bytes : List ℕ)
         (j : JobTree) (fault : InputFault)
-        → ReadsJob command job → IsCaused (world w) tt tt (Some command) status → w.at job ≡ Some bytes → length bytes ≤ FILE_LIMIT
+        → ReadsJob command job → IsCaused (world w) tt tt (Some command) status → w.at job ≡ Some bytes
+        → length bytes ≤ FILE_LIMIT
         → IsTextOf j bytes → FirstUnfilled (Some w.at) j.net.nodes fault → IsSettled w fault
         → (status ≡ input_status fault) ⊎ IsUnread status }
     ensures refused { (command : CommandOf) (job : List ℕ) (w : World) (status : StatusOf) (bytes : List ℕ)
         (j full : JobTree) (site : Site) (rule : Rule)
-        → ReadsJob command job → IsCaused (world w) tt tt (Some command) status → w.at job ≡ Some bytes → length bytes ≤ FILE_LIMIT
+        → ReadsJob command job → IsCaused (world w) tt tt (Some command) status → w.at job ≡ Some bytes
+        → length bytes ≤ FILE_LIMIT
         → IsTextOf j bytes → IsFilled (Some w.at) j full → refusal full ≡ Some (site.0, rule)
         → (status ≡ input_status (fault_by_rule site rule)) ⊎ IsUnread status }
-    ensures bad { (command : CommandOf) (job : List ℕ) (w : World) (status : StatusOf) (bytes : List ℕ) (j full : JobTree) (site : Site)
-        → ReadsJob command job → IsCaused (world w) tt tt (Some command) status → w.at job ≡ Some bytes → length bytes ≤ FILE_LIMIT
+    ensures bad { (command : CommandOf) (job : List ℕ) (w : World) (status : StatusOf) (bytes : List ℕ)
+        (j full : JobTree) (site : Site)
+        → ReadsJob command job → IsCaused (world w) tt tt (Some command) status → w.at job ≡ Some bytes
+        → length bytes ≤ FILE_LIMIT
         → IsTextOf j bytes → IsFilled (Some w.at) j full → IsSound full
-        → ForSome w.is_bad (λ is_bad. first_bad is_bad full ≡ Some site.0 → (status ≡ BadPattern site) ⊎ IsUnread status) }
+        → ForSome w.is_bad (λ is_bad. first_bad is_bad full ≡ Some site.0
+        → (status ≡ BadPattern site) ⊎ IsUnread status) }
 {
     jobs_are_filled_once();
 }
 
 /// Of a job that with code for its tables breaks no rule, and that has no bad pattern, `explore` tells Done or Partial.
 pub fn explored_jobs_are_told()
-    ensures { (job : List ℕ) (hops limit : ℕ) (pruned : PrunedOf) (w : World) (status : StatusOf) (bytes : List ℕ) (j full : JobTree)
-        → IsCaused (world w) tt tt (Some (explore job hops limit pruned)) status → w.at job ≡ Some bytes → length bytes ≤ FILE_LIMIT
+    ensures { (job : List ℕ) (hops limit : ℕ) (pruned : PrunedOf) (w : World) (status : StatusOf) (bytes : List ℕ)
+        (j full : JobTree)
+        → IsCaused (world w) tt tt (Some (explore job hops limit pruned)) status → w.at job ≡ Some bytes
+        → length bytes ≤ FILE_LIMIT
         → IsTextOf j bytes → IsFilled (Some w.at) j full → IsSound full → IsWritten status ⊎ MayBeBad status }
 {
     jobs_are_filled_once();
@@ -98,7 +109,8 @@ pub fn walked_jobs_are_told()
     ensures absent { (job packet : List ℕ) (hops limit : ℕ) (w : World) (status : StatusOf) (net : Network) (i : Entry)
         → IsCaused (world w) tt tt (Some (walk job packet hops limit)) status → TellsNet w job net i
         → w.at packet ≡ None → (status ≡ NoFile packet) ⊎ OrBad IsUnread status }
-    ensures long { (job packet : List ℕ) (hops limit : ℕ) (w : World) (status : StatusOf) (net : Network) (i : Entry) (bytes : List ℕ)
+    ensures long { (job packet : List ℕ) (hops limit : ℕ) (w : World) (status : StatusOf) (net : Network) (i : Entry)
+        (bytes : List ℕ)
         → IsCaused (world w) tt tt (Some (walk job packet hops limit)) status → TellsNet w job net i
         → w.at packet ≡ Some bytes → FILE_LIMIT < length bytes → (status ≡ TooBig packet) ⊎ OrBad IsUnread status }
     ensures walked { (job packet : List ℕ) (hops limit : ℕ) (w : World) (status : StatusOf) (net : Network)
@@ -114,9 +126,12 @@ pub fn walked_jobs_are_told()
 
 /// Where all inputs are good, and it is told what the patterns find, the status tells what the own work comes to on them.
 pub fn own_work_is_told()
-    ensures { (command : CommandOf) (w : World) (finds : List ℕ → List ℕ → Bool) (given : List Given) (status : StatusOf)
-        → w.finds ≡ Some finds → AllOpen (world w) tt (inputs command) given tt → IsCaused (world w) tt tt (Some command) status
-        → ((outcome : Outcome) × (work command).comes given outcome × (status ≡ outcome_status outcome)) ⊎ MayStop w status }
+    ensures { (command : CommandOf) (w : World) (finds : List ℕ → List ℕ → Bool) (given : List Given)
+        (status : StatusOf)
+        → w.finds ≡ Some finds → AllOpen (world w) tt (inputs command) given tt
+        → IsCaused (world w) tt tt (Some command) status
+        → ((outcome : Outcome) × (work command).comes given outcome × (status ≡ outcome_status outcome))
+        ⊎ MayStop w status }
 {
     worlds_decide();
 }

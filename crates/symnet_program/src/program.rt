@@ -93,7 +93,8 @@ fn run_command<F: Folder, P: Patterns, K: Sink>(
     ensures patterns_kept { PatternsKept (P.told patterns.old) (P.told patterns.new) }
     ensures out_kept { SinkKept (K.told out.old) (K.told out.new) }
     ensures ran { Runs K.told K.put_gives out.old out.new (outside F.told F.load_gives P.told P.find_gives)
-        (folder.old, patterns.old) (folder.new, patterns.new) (inputs (command_of command.entry)) (work (command_of command.entry)) result }
+        (folder.old, patterns.old) (folder.new, patterns.new) (inputs (command_of command.entry))
+        (work (command_of command.entry)) result }
     ensures shows { Shows (F.told folder.old) (F.told folder.new) (P.told patterns.old) (P.told patterns.new)
         (K.told out.old) (K.told out.new) result }
 {
@@ -243,7 +244,8 @@ pub fn symnet<F: Folder, P: Patterns, K: Sink>(
     // With Partial all this is so, but that walks may go on by decisions that were not tried, which the report names. `runs_tell`
     // says what follows, each by itself.
     ensures ran { (part : List ℕ)
-        × IsRun (outside F.told F.load_gives P.told P.find_gives) (folder.old, patterns.old) (folder.new, patterns.new) (reading words.now) result part
+        × IsRun (outside F.told F.load_gives P.told P.find_gives) (folder.old, patterns.old) (folder.new, patterns.new)
+        (reading words.now) result part
         × IsPutWith K.told K.put_gives out.old out.new result part
         × ((K.told out.new).taken ≡ append_known (K.told out.old).taken part) }
 
@@ -253,13 +255,15 @@ pub fn symnet<F: Folder, P: Patterns, K: Sink>(
         → IsCaused (world w) tt tt (reading words.now) result }
     ensures exact { (command : CommandOf) (w : World) (fault : InputFaultOf) → reading words.now ≡ Some command
         → Tells (F.told folder.old).files (P.told patterns.old) w
-        → FirstFails (world w) tt (inputs command) fault tt → IsSettled w fault → (result ≡ input_status fault) ⊎ MayBeUnread w result }
+        → FirstFails (world w) tt (inputs command) fault tt → IsSettled w fault
+        → (result ≡ input_status fault) ⊎ MayBeUnread w result }
 
     // Where the words have a reading, no count rose and nothing that was read is refused, the command ran to its end.
     ensures complete { (command : CommandOf) → reading words.now ≡ Some command
         → F.told folder.new ≡ F.told folder.old → (K.told out.new).faults ≡ (K.told out.old).faults
         → ((status : StatusOf) → RefusesInput status
-        → Cause (outside F.told F.load_gives P.told P.find_gives) (folder.old, patterns.old) (folder.new, patterns.new) (inputs command)
+        → Cause (outside F.told F.load_gives P.told P.find_gives) (folder.old, patterns.old) (folder.new, patterns.new)
+        (inputs command)
         (work command) status → ⊥)
         → IsAnswered result }
 {

@@ -80,7 +80,8 @@ pub(crate) fn add_guard(
 ) -> Result<(), NoMemory>
     ensures { OnOk result ((sets : List Set) (last : CodeTree)
         → code_before (map instr_tree code.new.items) (guarded (set_guards (destination kind) (port + 1) sets) last)
-        ≡ code_before (map instr_tree code.old.items) (guarded (set_guards (destination kind) port (set.now ∷ sets)) last)) }
+        ≡ code_before (map instr_tree code.old.items)
+        (guarded (set_guards (destination kind) port (set.now ∷ sets)) last)) }
 {
     if set.is_empty() {
         return Ok(());

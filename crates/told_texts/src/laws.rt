@@ -33,8 +33,10 @@ use run_text::json_laws::lines_are_read;
 /// of answers, whatever job it was asked of.
 pub fn answers_are_told()
     ensures texts { (a b : List Reply) → AllFit a → AllFit b → answers_text a ≡ answers_text b → a ≡ b }
-    ensures jobs { (hops limit more most : ℕ) (net other : Network) (i j : Entry) (asks others : List AskTree) (ending last : EndingOf) (whole : List ℕ)
-        → (a : IsAnswersText hops limit net i asks ending whole) → (b : IsAnswersText more most other j others last whole)
+    ensures jobs { (hops limit more most : ℕ) (net other : Network) (i j : Entry) (asks others : List AskTree)
+        (ending last : EndingOf) (whole : List ℕ)
+        → (a : IsAnswersText hops limit net i asks ending whole)
+        → (b : IsAnswersText more most other j others last whole)
         → AllFit a.replies → AllFit b.replies → a.replies ≡ b.replies }
 {
     lines_are_read();
@@ -57,7 +59,8 @@ pub fn confirmed_counts_are_told()
 
 /// The text of a comparison tells it, and is not the text that says that some decision was not tried.
 pub fn comparisons_are_told()
-    ensures texts { (a b : Comparison) → ComparisonFits a → ComparisonFits b → compared_text a ≡ compared_text b → a ≡ b }
+    ensures texts { (a b : Comparison) → ComparisonFits a → ComparisonFits b → compared_text a ≡ compared_text b
+        → a ≡ b }
     ensures whole { (a : Comparison) → ComparisonFits a → compared_text a ≡ partial_text → ⊥ }
 {
     lines_are_read();
@@ -66,7 +69,8 @@ pub fn comparisons_are_told()
 /// The text of loops tells each loop, and each path without one: the number of its record and, where they are written, its earlier visits,
 /// each with why it shows no loop.
 pub fn loops_are_told()
-    ensures { (detail : OpenPathsOf) (a b : List (ℕ × LoopAnswerOf)) → FoundFits a → FoundFits b → loops_text detail a ≡ loops_text detail b
+    ensures { (detail : OpenPathsOf) (a b : List (ℕ × LoopAnswerOf)) → FoundFits a → FoundFits b
+        → loops_text detail a ≡ loops_text detail b
         → loops_told detail a ≡ loops_told detail b }
 {
     lines_are_read();
@@ -83,7 +87,8 @@ pub fn walks_are_told()
 
 /// The numbers of records that answers name are below the limit of the words, where no decision was left untried.
 pub fn whole_answers_name_few_records()
-    ensures { (hops limit : ℕ) (net : Network) (i : Entry) (asks : List AskTree) (whole : List ℕ) → (a : IsAnswersText hops limit net i asks Done whole)
+    ensures { (hops limit : ℕ) (net : Network) (i : Entry) (asks : List AskTree) (whole : List ℕ)
+        → (a : IsAnswersText hops limit net i asks Done whole)
         → AllByRecursion (λ reply. AllBelow limit (numbers_of reply)) a.replies }
 {}
 

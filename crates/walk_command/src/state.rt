@@ -19,7 +19,8 @@ pub(crate) fn write_state(
     net: &Net,
     state: &State,
 ) -> Result<(), NoMemory>
-    ensures { Gains (fields_data number_parts (network net.now) (fields_of (carried_of state.now))) result out.old out.new }
+    ensures { Gains (fields_data number_parts (network net.now) (fields_of (carried_of state.now))) result out.old
+        out.new }
 {
     let tags = state.layers.tags(alloc)?;
     let heads = state.layers.heads(alloc)?;

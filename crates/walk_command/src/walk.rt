@@ -49,8 +49,10 @@ fn text_of_walks(
     limit: u32,
 ) -> Result<String, OwnFault>
     requires { AreOfOneJob (network job.now.net) (entry job.now.injection) }
-    ensures text { IfOk result (λ text. IsWalksText hops limit (network job.now.net) (entry job.now.injection) values.now (string_bytes text)) }
-    ensures refused { IfErr result (IsWalkRefusal hops limit (network job.now.net) (entry job.now.injection) values.now) }
+    ensures text { IfOk result (λ text. IsWalksText hops limit (network job.now.net) (entry job.now.injection)
+        values.now (string_bytes text)) }
+    ensures refused { IfErr result (IsWalkRefusal hops limit (network job.now.net) (entry job.now.injection)
+        values.now) }
 {
     match walk_all(alloc, &job.net, &job.injection, values, hops, limit) {
         Ok(walks) => Ok(walks_text(alloc, &job.net, &walks)?),
@@ -66,8 +68,10 @@ fn text_of(
     limit: u32,
 ) -> Result<(Ending, String), OwnFault>
     requires { AreOfOneJob (network given.now.first.net) (entry given.now.first.injection) }
-    ensures text { IfOk result (λ t. WalkComes hops limit (given_of given.now.first ∷ some_bytes given.now.second.items ∷ []) (a_text t.0 (string_bytes t.1))) }
-    ensures refused { IfErr result (IsRefusal (WalkComes hops limit (given_of given.now.first ∷ some_bytes given.now.second.items ∷ []))) }
+    ensures text { IfOk result (λ t. WalkComes hops limit
+        (given_of given.now.first ∷ some_bytes given.now.second.items ∷ []) (a_text t.0 (string_bytes t.1))) }
+    ensures refused { IfErr result (IsRefusal (WalkComes hops limit
+        (given_of given.now.first ∷ some_bytes given.now.second.items ∷ []))) }
 {
     let values = numbers_of(alloc, &given.second)?;
     let text = text_of_walks(alloc, &given.first, &values, hops, limit)?;

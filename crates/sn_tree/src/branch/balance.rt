@@ -95,10 +95,12 @@ fn lift_right_of_left<K: Ord + Copy, V: Drop>(
     value: &Rc<V>,
     right: &Branch<K, V>,
 ) -> Result<Branch<K, V>, NoMemory>
-    requires ascending { IsAscending K.cmp ((node.now.left.0 ++ (node.now.key, node.now.value.value) ∷ node.now.right.0) ++ (key, value.now.value) ∷ right.now.0) }
+    requires ascending { IsAscending K.cmp ((node.now.left.0 ++ (node.now.key, node.now.value.value) ∷ node.now.right.0)
+        ++ (key, value.now.value) ∷ right.now.0) }
     requires left_as_high { node.now.left.1 ≡ right.now.1 }
     requires middle_higher { node.now.right.1 ≡ right.now.1 + 1 }
-    ensures pairs { IfOk result (λ b. b.0 ≡ (node.now.left.0 ++ (node.now.key, node.now.value.value) ∷ node.now.right.0) ++ (key, value.now.value) ∷ right.now.0) }
+    ensures pairs { IfOk result (λ b. b.0 ≡ (node.now.left.0 ++ (node.now.key, node.now.value.value) ∷ node.now.right.0)
+        ++ (key, value.now.value) ∷ right.now.0) }
     ensures height { IfOk result (λ b. b.1 ≡ right.now.1 + 2) }
 {
     let high = &node.right;
@@ -142,10 +144,12 @@ fn lift_left_of_right<K: Ord + Copy, V: Drop>(
     value: &Rc<V>,
     node: &Node<K, V>,
 ) -> Result<Branch<K, V>, NoMemory>
-    requires ascending { IsAscending K.cmp (left.now.0 ++ (key, value.now.value) ∷ (node.now.left.0 ++ (node.now.key, node.now.value.value) ∷ node.now.right.0)) }
+    requires ascending { IsAscending K.cmp (left.now.0 ++ (key, value.now.value)
+        ∷ (node.now.left.0 ++ (node.now.key, node.now.value.value) ∷ node.now.right.0)) }
     requires right_as_high { node.now.right.1 ≡ left.now.1 }
     requires middle_higher { node.now.left.1 ≡ left.now.1 + 1 }
-    ensures pairs { IfOk result (λ b. b.0 ≡ left.now.0 ++ (key, value.now.value) ∷ (node.now.left.0 ++ (node.now.key, node.now.value.value) ∷ node.now.right.0)) }
+    ensures pairs { IfOk result (λ b. b.0 ≡ left.now.0 ++ (key, value.now.value)
+        ∷ (node.now.left.0 ++ (node.now.key, node.now.value.value) ∷ node.now.right.0)) }
     ensures height { IfOk result (λ b. b.1 ≡ left.now.1 + 2) }
 {
     let high = &node.left;
