@@ -43,9 +43,7 @@ impl<K: Ord + Copy, X: Drop> StackMap<K, X> {
     pub fn fork(&self) -> Result<StackMap<K, X>, NoMemory>
         ensures same { IfOk result (λ copy. copy ≡ self.now) }
     {
-        let Ok(stacks) = self.stacks.fork() else {
-            return Err(NoMemory);
-        };
+        let stacks = self.stacks.fork()?;
         Ok(StackMap { stacks })
     }
 
@@ -68,9 +66,7 @@ impl<K: Ord + Copy, X: Drop> StackMap<K, X> {
             None => Shared::empty().push(alloc, member),
             Some(stack) => stack.push(alloc, member),
         };
-        let Ok(stack) = pushed else {
-            return Err(NoMemory);
-        };
+        let stack = pushed?;
         self.put(alloc, key, stack)
     }
 
@@ -79,9 +75,7 @@ impl<K: Ord + Copy, X: Drop> StackMap<K, X> {
         ensures ok { OnOk result (self.new ≡ with_stack K.cmp key (tail (stack_at K.cmp key self.old)) self.old) }
         ensures err { OnErr result (self.new ≡ self.old) }
     {
-        let Ok(stack) = self.members_below(&key) else {
-            return Err(NoMemory);
-        };
+        let stack = self.members_below(&key)?;
         self.put(alloc, key, stack)
     }
 
@@ -91,12 +85,8 @@ impl<K: Ord + Copy, X: Drop> StackMap<K, X> {
             self.old) }
         ensures err { OnErr result (self.new ≡ self.old) }
     {
-        let Ok(stack) = self.members_below(&key) else {
-            return Err(NoMemory);
-        };
-        let Ok(stack) = stack.push(alloc, member) else {
-            return Err(NoMemory);
-        };
+        let stack = self.members_below(&key)?;
+        let stack = stack.push(alloc, member)?;
         self.put(alloc, key, stack)
     }
 
@@ -122,9 +112,7 @@ impl<K: Ord + Copy, X: Drop> StackMap<K, X> {
         ensures none_empty { NoneEmpty self.now }
         ensures ascending { IsAscending K.cmp self.now }
     {
-        let Ok(pairs) = self.stacks.pairs(alloc) else {
-            return Err(NoMemory);
-        };
+        let pairs = self.stacks.pairs(alloc)?;
         Ok(pairs)
     }
 
@@ -138,9 +126,7 @@ impl<K: Ord + Copy, X: Drop> StackMap<K, X> {
         let Some(below) = stack.below() else {
             return Ok(Shared::empty());
         };
-        let Ok(below) = below.fork() else {
-            return Err(NoMemory);
-        };
+        let below = below.fork()?;
         Ok(below)
     }
 
@@ -164,9 +150,7 @@ fn changed<K: Ord + Copy, X: Drop>(
     ensures err { OnErr result (stacks.new ≡ stacks.old) }
 {
     if stack.is_empty() {
-        let Ok(tree) = stacks.without(alloc, &key) else {
-            return Err(NoMemory);
-        };
+        let tree = stacks.without(alloc, &key)?;
         *stacks = tree;
         return Ok(());
     }

@@ -86,9 +86,7 @@ impl<'a> Frame<'a> {
                 site,
                 code,
             } => {
-                let Ok(iterations) = iterations.fork() else {
-                    return Err(NoMemory);
-                };
+                let iterations = iterations.fork()?;
                 Ok(Frame::Code {
                     iterations,
                     site: *site,
@@ -102,12 +100,8 @@ impl<'a> Frame<'a> {
                 body,
                 keys,
             } => {
-                let Ok(iterations) = iterations.fork() else {
-                    return Err(NoMemory);
-                };
-                let Ok(keys) = keys.fork() else {
-                    return Err(NoMemory);
-                };
+                let iterations = iterations.fork()?;
+                let keys = keys.fork()?;
                 Ok(Frame::Iterations {
                     iterations,
                     var: *var,

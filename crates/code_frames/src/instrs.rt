@@ -272,9 +272,7 @@ fn stacked(
     let mut keys = keys;
     let mut stack = Shared::empty();
     while let Some(key) = keys.pop() {
-        let Ok(more) = stack.push(alloc, key) else {
-            return Err(NoMemory);
-        };
+        let more = stack.push(alloc, key)?;
         stack = more;
     }
     Ok(stack)

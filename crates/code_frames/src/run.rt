@@ -75,9 +75,7 @@ pub fn answer<'a, M: Machine>(
             first,
             other,
         } => {
-            let Ok(iterations) = iterations.fork() else {
-                return Err(NoMemory);
-            };
+            let iterations = iterations.fork()?;
             let inner = behind_item(*site)?;
             if holds {
                 frames.push(Frame::Code {
@@ -140,9 +138,7 @@ fn step_frame<'a, M: Machine, L: Ledger>(
             };
             sequences_associate::<M::Value, TruthsOf<M>>();
             let behind = behind_instr(site, instr)?;
-            let Ok(kept) = iterations.fork() else {
-                return Err(NoMemory);
-            };
+            let kept = iterations.fork()?;
             frames.push(Frame::Code {
                 iterations: kept,
                 site: behind,
@@ -220,9 +216,7 @@ fn begin_iteration<'a, M: Machine>(
         owner,
         name,
     };
-    let Ok(inner) = iterations.push(alloc, iteration) else {
-        return Err(NoMemory);
-    };
+    let inner = iterations.push(alloc, iteration)?;
     frames.push(Frame::Iterations {
         iterations,
         var,
@@ -252,9 +246,7 @@ fn other_keys(
     let Some(below) = keys.below() else {
         return Ok(Shared::empty());
     };
-    let Ok(others) = below.fork() else {
-        return Err(NoMemory);
-    };
+    let others = below.fork()?;
     Ok(others)
 }
 

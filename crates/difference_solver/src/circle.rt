@@ -4,7 +4,7 @@ ghost use Rattle.std.specs.Prelude.{◌≡◌, ◌+ℤ◌, IfOk, IfSome, IsTrue,
 ghost use Rattle.difference_solver.specs.Cycle.{IsNegativeCycle, IsWalk, total};
 
 use crate::bound::Bound;
-use crate::memory::NoMemory;
+use sn_width::NoMemory;
 use std::alloc::Global;
 
 /// The bound that raised the number of the unknown last, by its index.

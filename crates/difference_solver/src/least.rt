@@ -7,12 +7,12 @@ ghost use Rattle.difference_solver.specs.Parts.{has_label, AreApart, IsPartLeast
 ghost use Rattle.difference_solver.specs.Renaming.{names_of as names_with};
 ghost use Rattle.difference_solver.specs.Steps.{Refutes};
 
-use crate::NoMemory;
 use crate::choice::{Choice, Outcome};
 use crate::labels::{labels_of, renumber};
 use crate::parts::{Part, all_placed, are_apart, put_part};
 use crate::renaming::{last_of, names_of, spread};
 use crate::search::search;
+use sn_width::NoMemory;
 use std::alloc::Global;
 
 /// The first integers in the order of words, for the unknowns 0 to `count`, that meet one case of each choice; or a

@@ -7,7 +7,7 @@ ghost use Rattle.difference_solver.specs.Raising.{IsAmong, IsLeastNatural, IsAsk
 
 use crate::bound::Bound;
 use crate::circle::circle_from;
-use crate::memory::NoMemory;
+use sn_width::NoMemory;
 use std::alloc::{AllocError, Global};
 
 /// What raising comes to.

@@ -5,10 +5,10 @@ ghost use Rattle.difference_solver.specs.Choices.{lists_of, AreBelow, AreInRange
 ghost use Rattle.difference_solver.specs.Outcomes.{IfLeast, IfRefuted, IsRefuted};
 ghost use Rattle.difference_solver.specs.Steps.{Refutes};
 
-use crate::NoMemory;
 use crate::choice::{Choice, Outcome};
 use crate::floors::floors_of;
 use crate::walk::Walk;
+use sn_width::NoMemory;
 use std::alloc::Global;
 
 /// Integers that meet one case of each choice, the first in the order of words where each unknown is bounded from below;

@@ -8,9 +8,9 @@ ghost use Rattle.difference_solver.specs.Verdict.{IfValues, IfCycle, IsCycle};
 use crate::bound::{Bound, DiffVerdict};
 use crate::eliminate::eliminate_all;
 use crate::gather::gather_cycle;
-use crate::memory::NoMemory;
 use crate::table::{Kept, Source, Table};
 use crate::values::find_values;
+use sn_width::NoMemory;
 use std::alloc::Global;
 
 /// One integer for each unknown from 0 to `count` that meet all bounds together, or bounds around a

@@ -19,7 +19,8 @@ use crate::laws::cycle_refutes;
 use crate::lift::{all_avoid, lower};
 use crate::met::first_broken;
 use crate::order::is_before;
-use crate::{Bound, DiffVerdict, NoMemory, solve};
+use crate::{Bound, DiffVerdict, solve};
+use sn_width::NoMemory;
 use std::alloc::{AllocError, Global};
 use std::mem;
 

@@ -70,9 +70,7 @@ impl Marks {
         ensures ascending { IsAscending nat_cmp self.now }
     {
         let mut symbols = Vec::new(alloc);
-        let Ok(pairs) = self.symbols.pairs(alloc) else {
-            return Err(NoMemory);
-        };
+        let pairs = self.symbols.pairs(alloc)?;
         for (symbol, _) in pairs {
             symbols.push(SymId(*symbol))?;
         }

@@ -26,9 +26,7 @@ impl Trace {
         ensures decided { OnOk result (self.new ≡ decided self.old formula decision) }
         ensures unchanged { OnErr result (self.new ≡ self.old) }
     {
-        let Ok(decisions) = self.decisions.push(alloc, decision) else {
-            return Err(NoMemory);
-        };
+        let decisions = self.decisions.push(alloc, decision)?;
         self.assume(alloc, formula, holds(decision))?;
         self.decisions = decisions;
         Ok(())
@@ -53,9 +51,7 @@ impl Trace {
         ensures decided { OnOk result (self.new ≡ with_decision self.old (CopyOf index)) }
         ensures unchanged { OnErr result (self.new ≡ self.old) }
     {
-        let Ok(decisions) = self.decisions.push(alloc, Decision::Copy(index)) else {
-            return Err(NoMemory);
-        };
+        let decisions = self.decisions.push(alloc, Decision::Copy(index))?;
         self.decisions = decisions;
         Ok(())
     }
@@ -65,9 +61,7 @@ impl Trace {
         ensures arrived { OnOk result (self.new ≡ with_place self.old place) }
         ensures unchanged { OnErr result (self.new ≡ self.old) }
     {
-        let Ok(places) = self.places.push(alloc, place) else {
-            return Err(NoMemory);
-        };
+        let places = self.places.push(alloc, place)?;
         self.places = places;
         Ok(())
     }

@@ -22,12 +22,8 @@ impl Trace {
     pub fn with_symbol(&self, alloc: Global, width: Width) -> Result<Trace, NoMemory>
         ensures { IfOk result (λ next. next ≡ with_symbol self.now width) }
     {
-        let Ok(decisions) = self.decisions.fork() else {
-            return Err(NoMemory);
-        };
-        let Ok(places) = self.places.fork() else {
-            return Err(NoMemory);
-        };
+        let decisions = self.decisions.fork()?;
+        let places = self.places.fork()?;
         self.condition.formulas_are_typed();
         let domains = self.domains.with_symbol(alloc, width)?;
         let condition = self.condition.with_symbol(alloc, width)?;

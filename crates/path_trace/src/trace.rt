@@ -57,12 +57,8 @@ impl Trace {
     pub fn fork(&self) -> Result<Trace, NoMemory>
         ensures { IfOk result (λ copy. copy ≡ self.now) }
     {
-        let Ok(decisions) = self.decisions.fork() else {
-            return Err(NoMemory);
-        };
-        let Ok(places) = self.places.fork() else {
-            return Err(NoMemory);
-        };
+        let decisions = self.decisions.fork()?;
+        let places = self.places.fork()?;
         let domains = self.domains.fork()?;
         let condition = self.condition.fork()?;
         Ok(Trace {

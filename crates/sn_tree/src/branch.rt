@@ -8,8 +8,8 @@ ghost use Rattle.sn_tree.specs.Nodes.{held_pair_of};
 
 mod balance;
 
-use crate::memory::NoMemory;
 use balance::{balance, join};
+use sn_width::NoMemory;
 use std::alloc::{AllocError, Global};
 use std::cmp::Ordering;
 use std::marker::Model;

@@ -2,10 +2,8 @@
 #![tactic(auto)]
 
 mod branch;
-mod memory;
 mod shared;
 mod tree;
 
-pub use memory::NoMemory;
 pub use shared::{Members, Shared};
 pub use tree::{Pairs, Tree};

@@ -3,7 +3,7 @@ ghost use Rattle.std.specs.Prelude.{◌≡◌, [], ◌∷◌, IfOk, IsTrue, ◌�
 ghost use Rattle.sn_tree.specs.Ends.{first, others};
 ghost use Rattle.std.specs.Iterator.{YieldsFirstRef, item_count};
 
-use crate::memory::NoMemory;
+use sn_width::NoMemory;
 use std::alloc::Global;
 use std::marker::Model;
 use std::rc::Rc;

@@ -5,7 +5,7 @@ ghost use Rattle.std.specs.Iterator.{YieldsFirstBy, item_count};
 ghost use Rattle.sn_tree.specs.Pairs.{IsAscending, value_at, next_after, last_before, pairs_with, pairs_without, pair_of};
 
 use crate::branch::Branch;
-use crate::memory::NoMemory;
+use sn_width::NoMemory;
 use std::alloc::Global;
 use std::marker::Model;
 use std::rc::Rc;

@@ -4,7 +4,7 @@ ghost use Rattle.sn_tree.specs.Pairs.{IsAscending};
 ghost use Rattle.sn_tree.specs.Nodes.{DifferByAtMost, IsHeightOver, IsUpToOneMore};
 
 use super::{Branch, Node};
-use crate::memory::NoMemory;
+use sn_width::NoMemory;
 use std::alloc::Global;
 use std::rc::Rc;
 
