@@ -2,8 +2,9 @@
 """Compares documents with the code that they tell of.
 
   tools/documents.py check        says what differs: the sentences that the program shows below a status, and docs/statuses.md; the tables of
-                                  docs/definitions.md, and what is defined in the files that they name
-  tools/documents.py write        writes the words of those tables from the comments in specs/, in each row whose names all have one that can be read by itself
+                                  docs/definitions.md, and what is defined in the files that they name; the list of layers in docs/architecture.md
+  tools/documents.py write        writes the words of those tables from the comments in specs/, in each row whose names all have one that can be read by itself,
+                                  and the list of layers from crates.txt
 """
 
 import re
@@ -110,15 +111,46 @@ def definition_faults():
             yield f"docs/definitions.md: a row is not what the comments in specs/ say (documents.py write): {old[:80]}"
 
 
+# The section of docs/architecture.md that lists the crates, up to the next one.
+LAYERS = re.compile(r"(?ms)(?<=^## The crates of each layer\n\n).*?(?=^## )")
+
+
+def layers():
+    """The crates of each layer, as crates.txt has them: a list of lists."""
+    lines, said = ["From the lowest layer up, as `crates.txt` has them.", ""], ""
+    for line in (TOP / "crates.txt").read_text().splitlines()[1:]:
+        crate = re.match(r"(\w+)(?: staticlib)?:", line)
+        if line.startswith("#   "):
+            said = line[4:]
+        elif line.startswith("# "):
+            lines.append(f"- **{line[2:3].upper()}{line[3:]}**")
+        elif crate:
+            lines.append(f"  - `{crate[1]}`: {said}")
+    return "\n".join(lines) + "\n\n"
+
+
+def with_layers(text):
+    """docs/architecture.md with the crates of each layer as crates.txt has them."""
+    return LAYERS.sub(lambda _: layers(), text)
+
+
+def layer_faults():
+    """That the list of crates in docs/architecture.md is not that of crates.txt."""
+    text = (TOP / "docs/architecture.md").read_text()
+    if not LAYERS.search(text) or with_layers(text) != text:
+        yield "docs/architecture.md: the crates of each layer are not those of crates.txt (documents.py write)"
+
+
 def main(words):
     if words == ["write"]:
-        file = TOP / "docs/definitions.md"
-        file.write_text(with_comments(file.read_text())[0])
+        for name, made in (("definitions", lambda text: with_comments(text)[0]), ("architecture", with_layers)):
+            file = TOP / f"docs/{name}.md"
+            file.write_text(made(file.read_text()))
         return 0
     if words != ["check"]:
         print(__doc__)
         return 2
-    faults = [*status_faults(), *definition_faults()]
+    faults = [*status_faults(), *definition_faults(), *layer_faults()]
     for it in faults:
         print(f"documents: {it}")
     print(f"documents: {len(faults)} faults" if faults else "documents: they agree with the code")
