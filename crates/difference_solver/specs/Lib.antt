@@ -1,20 +1,22 @@
+-- What public contracts rest on.
 pub mod Bound
 pub mod Cycle
 pub mod Elimination
-pub mod Gather
-pub mod Given
 pub mod Kept
 pub mod Raising
 pub mod Table
 pub mod Values
 pub mod Verdict
-pub mod Branches
 pub mod Choices
+pub mod Outcomes
+pub mod Steps
+-- What functions inside promise each other.
+pub mod Gather
+pub mod Given
+pub mod Branches
 pub mod Floors
 pub mod Lifting
-pub mod Outcomes
 pub mod Parts
 pub mod Progress
 pub mod Renaming
-pub mod Steps
 pub mod Words

@@ -1,3 +1,4 @@
+-- What public contracts rest on.
 pub mod Records
 pub mod Exact
 pub mod Work
@@ -5,6 +6,7 @@ pub mod Packets
 pub mod Shapes
 pub mod Points
 pub mod Laws
-pub mod Below
 pub mod Whole
 pub mod View
+-- What functions inside promise each other.
+pub mod Below

@@ -1,6 +1,8 @@
-pub mod Lent
+-- What public contracts rest on.
 pub mod Names
-pub mod Noted
 pub mod Occurrences
-pub mod Surveyed
 pub mod Tables
+-- What functions inside promise each other.
+pub mod Lent
+pub mod Noted
+pub mod Surveyed

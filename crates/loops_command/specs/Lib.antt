@@ -1,3 +1,5 @@
+-- What public contracts rest on.
 pub mod Loops
-pub mod Seen
 pub mod Texts
+-- What functions inside promise each other.
+pub mod Seen

@@ -1,5 +1,5 @@
+-- What public contracts rest on.
 pub mod Leaving
-pub mod Reads
 pub mod Tables
 pub mod Outcomes
 pub mod Passing
@@ -7,3 +7,5 @@ pub mod Rows
 pub mod Elements
 pub mod Filters
 pub mod Boxes
+-- What functions inside promise each other.
+pub mod Reads

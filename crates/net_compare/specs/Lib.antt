@@ -1,10 +1,12 @@
+-- What public contracts rest on.
+pub mod Halves
+pub mod Joining
+pub mod Saying
+-- What functions inside promise each other.
 pub mod Adding
 pub mod Apart
 pub mod Clashing
 pub mod Delivering
 pub mod Facings
-pub mod Halves
-pub mod Joining
 pub mod Layouts
 pub mod Matching
-pub mod Saying

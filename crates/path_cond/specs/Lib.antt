@@ -5,7 +5,6 @@ pub mod Kept
 pub mod Conditions
 pub mod Marks
 pub mod Summaries
-pub mod Occurrences
 pub mod Choices
 pub mod Coupled
 pub mod Picks

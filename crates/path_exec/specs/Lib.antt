@@ -1,3 +1,4 @@
+-- What public contracts rest on.
 pub mod Handing
 pub mod Location
 pub mod Views
@@ -5,7 +6,6 @@ pub mod Offers
 pub mod Moves
 pub mod Trials
 pub mod OpenNodes
-pub mod Coursing
 pub mod Paying
 pub mod Keeping
 pub mod Receiving
@@ -13,3 +13,5 @@ pub mod Ending
 pub mod Following
 pub mod Visiting
 pub mod Stepping
+-- What functions inside promise each other.
+pub mod Coursing

@@ -1,9 +1,9 @@
+-- What public contracts rest on.
 pub mod Formulas
 pub mod View
 pub mod Terms
 pub mod Atoms
 pub mod Kinds
-pub mod Summaries
 pub mod Solutions
 pub mod Typed
 pub mod TypeTests
@@ -12,3 +12,5 @@ pub mod Pairs
 pub mod Cases
 pub mod Splits
 pub mod CaseCounts
+-- What functions inside promise each other.
+pub mod Summaries

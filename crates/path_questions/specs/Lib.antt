@@ -1,5 +1,5 @@
+-- What public contracts rest on.
 pub mod Answers
-pub mod Below
 pub mod Formulas
 pub mod Laws
 pub mod Placing
@@ -9,3 +9,5 @@ pub mod Telling
 pub mod Asked
 pub mod Deciding
 pub mod Known
+-- What functions inside promise each other.
+pub mod Below

@@ -9,7 +9,7 @@ use Rattle.path_formula.specs.Formulas.{FormulaTree}
 use Rattle.path_formula.specs.View.{view}
 use Rattle.path_cond.specs.Conditions.{AllTyped, Condition, holds_at}
 use Rattle.path_cond.specs.Seen.{ConditionOf, first_broken, in_domain}
-use Rattle.path_cond.specs.Occurrences.{symbol_at}
+use Rattle.path_cond.specs.Occurring.{symbol_at}
 use Rattle.path_cond.specs.Choices.{coupled_count, choice_count}
 use Rattle.refutation_check.specs.Accepted.{IsAccepted}
 use Rattle.refutation_check.specs.Seen.{most_coupled, most_choices, is_possible, HasEmptyDomain, IsSimplyOpen, IsWithinLimits, IsRefuted, IsUndecidedBy, IsMetBy, AreCandidates, AreLeast, holds_unless_outside, first_broken_outside}

@@ -1,7 +1,9 @@
+-- What public contracts rest on.
 pub mod Bases
-pub mod Bounds
 pub mod Decisions
 pub mod Judged
+-- What functions inside promise each other.
+pub mod Bounds
 pub mod Laws
 pub mod Origins
 pub mod Problems

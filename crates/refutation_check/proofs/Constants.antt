@@ -14,7 +14,8 @@ use Rattle.path_cond.specs.Seen.{entry_holds, is_simple_on, meets, in_domain, is
 use Rattle.path_formula.specs.Cases.{cases_of}
 use Rattle.path_formula.specs.CaseCounts.{capped}
 use Rattle.sn_ranges.specs.Sets.{ranges_where}
-use Rattle.path_cond.specs.Occurrences.{is_inside_kind, occurs_in, symbols_from}
+use Rattle.path_cond.specs.Kept.{is_inside_kind}
+use Rattle.path_cond.specs.Occurring.{occurs_in, symbols_from}
 use Rattle.path_cond.specs.Choices.{product, couples, coupled_symbols, entry_case_count, range_count, choice_count}
 use Rattle.refutation_check.specs.Longer.{condition_of, pick_behind, pick_before, ConstantsAreFree}
 use Rattle.refutation_check.specs.Seen.{holds_unless_outside, is_broken_outside, is_outside_kind}

@@ -15,7 +15,7 @@ use Rattle.path_formula.specs.Cases.{cases_of, single_cases, with_bounds}
 use Rattle.path_formula.specs.CaseCounts.{capped}
 use Rattle.sn_ranges.specs.Sets.{ranges_where}
 use Rattle.path_formula.specs.Splits.{CanSplit}
-use Rattle.path_cond.specs.Occurrences.{symbols_from}
+use Rattle.path_cond.specs.Occurring.{symbols_from}
 use Rattle.path_cond.specs.Choices.{product, passes, couples, is_coupled, coupled_symbols, domain_cases, range_count, entry_case_count, choice_count, are_simple_picks, meets_picks, has_no_cases, first_without_cases}
 use Rattle.refutation_check.specs.Trees.{IsJudgedByTrees}
 use Rattle.refutation_check.specs.Seen.{is_outside, holds_unless_outside, is_broken_outside, first_broken_outside, IsRefuted, IsMetBy, IsUndecidedBy, AreBreaking, IsLicensed, Leaves, Refutes, IsAccepted}

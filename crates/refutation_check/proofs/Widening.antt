@@ -19,7 +19,7 @@ use Rattle.path_formula.specs.declared.kinds.Kind.TheVariants.{Constant, Simple,
 use Rattle.path_cond.specs.Seen.{ConditionOf, AllTyped, entry_holds, is_simple_on, meets, in_domain}
 use Rattle.path_formula.specs.CaseCounts.{capped}
 use Rattle.sn_ranges.specs.Sets.{ranges_where}
-use Rattle.path_cond.specs.Occurrences.{stands_in, occurs_in, occurs_among, symbol_at, symbols_from}
+use Rattle.path_cond.specs.Occurring.{stands_in, occurs_in, occurs_among, symbol_at, symbols_from}
 use Rattle.path_cond.specs.Choices.{product, couples, is_inside, is_coupled, coupled_symbols, coupled_count, range_count, formula_choices, choice_count}
 use Rattle.refutation_check.specs.Longer.{zeros, with_widths, with_zeros, WidenFreely}
 use Rattle.refutation_check.specs.Seen.{most_coupled, most_choices, is_possible, HasEmptyDomain, IsSimplyOpen, IsWithinLimits, IsRefuted, HasLeast, IsUndecidedBy}

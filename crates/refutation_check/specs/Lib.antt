@@ -1,3 +1,4 @@
+-- What public contracts rest on.
 pub mod Cycles
 pub mod Seen
 pub mod Longer
@@ -5,4 +6,5 @@ pub mod Trees
 pub mod Accepted
 pub mod Least
 pub mod Decisions
+-- What functions inside promise each other.
 pub mod Agenda

@@ -1,2 +1,4 @@
+-- What public contracts rest on.
 pub mod Alike
+-- What functions inside promise each other.
 pub mod SameTests

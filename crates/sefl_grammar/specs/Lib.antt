@@ -1,5 +1,7 @@
-pub mod Automaton
+-- What public contracts rest on.
 pub mod Grammar
-pub mod Table
 pub mod Word
 pub mod Words
+-- What functions inside promise each other.
+pub mod Automaton
+pub mod Table

@@ -1,8 +1,8 @@
+-- What public contracts rest on.
 pub mod CodeText
 pub mod Filled
 pub mod JobText
 pub mod Name
-pub mod Clipped
 pub mod RangeLists
 pub mod NetText
 pub mod NetWords
@@ -10,3 +10,5 @@ pub mod Text
 pub mod TermText
 pub mod Trees
 pub mod Views
+-- What functions inside promise each other.
+pub mod Clipped

@@ -1,3 +1,5 @@
+-- What public contracts rest on.
 pub mod Symbolic
-pub mod Changes
 pub mod Beginning
+-- What functions inside promise each other.
+pub mod Changes
