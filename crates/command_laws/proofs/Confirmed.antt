@@ -9,7 +9,7 @@ use Rattle.exact_records.specs.Packets.{AreExactFor}
 use Rattle.exact_records.specs.Records.{HasMeaning, RecordTree, SymStart, path, pruned, unexplored}
 use Rattle.exact_records.specs.View.{record_tree, record_trees}
 use Rattle.record_lines.specs.Lines.{refuted_count}
-use Rattle.record_lines.specs.declared.lines.RefutedSides.TheVariants.{Written}
+use Rattle.path_records.specs.declared.sides.RefutedSides.TheVariants.{Written}
 use Rattle.record_text.specs.declared.report.Report.{Report}
 use Rattle.report_forms.specs.Seen as seen
 use Rattle.path_report.specs.Reading.{ReadsReport}

@@ -3,7 +3,7 @@
 ghost use Rattle.std.specs.Prelude.{◌≡◌, ℕ, List};
 ghost use Rattle.net_check.specs.Network.{Entry, Network};
 ghost use Rattle.exact_records.specs.View.{record_trees};
-ghost use Rattle.record_lines.specs.declared.lines.RefutedSides.TheVariants.{Written};
+ghost use Rattle.path_records.specs.declared.sides.RefutedSides.TheVariants.{Written};
 ghost use Rattle.record_checks.specs.Counts.{counts_of};
 ghost use Rattle.command_edge.specs.Puts.{Outcome, text};
 ghost use Rattle.command_edge.specs.declared.ending.Ending.{Ending as EndingOf};

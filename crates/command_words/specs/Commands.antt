@@ -11,19 +11,19 @@ use Rattle.command_words.specs.declared.command.FilterStyle.{FilterStyle}
 use Rattle.command_words.specs.declared.command.FilterStyle.TheVariants as filter
 use Rattle.command_words.specs.declared.command.Open.{Open}
 use Rattle.command_words.specs.declared.command.Open.TheVariants.{Numbers, Visits}
-use Rattle.command_words.specs.declared.command.Pruned.{Pruned}
-use Rattle.command_words.specs.declared.command.Pruned.TheVariants.{All, Count}
-use Rattle.command_words.specs.declared.command.Style.{Style}
-use Rattle.command_words.specs.declared.command.Style.TheVariants.{Chain, Grouped, Egress}
-use Rattle.command_words.specs.declared.command.Table.{Table}
-use Rattle.command_words.specs.declared.command.Table.TheVariants.{Mac, Fib}
+use Rattle.path_records.specs.declared.sides.RefutedSides.{RefutedSides}
+use Rattle.path_records.specs.declared.sides.RefutedSides.TheVariants.{Written, Counted}
+use Rattle.sefl_syntax.specs.declared.net.Style.{Style}
+use Rattle.sefl_syntax.specs.declared.net.Style.TheVariants.{Chain, Grouped, Egress}
+use Rattle.sefl_syntax.specs.declared.net.TableKind.{TableKind}
+use Rattle.sefl_syntax.specs.declared.net.TableKind.TheVariants.{Mac, Fib}
 use Rattle.command_words.specs.declared.command.Verb.{Verb}
 use Rattle.command_words.specs.declared.command.Verb.TheVariants.{Explore, Walk, Replay, Ask, Loops, Compare, Model, Click, Acl, Rules, Grow}
 
 -- a command, with the names of the files that it reads, and what its options give
 pub data Command : Type 0 where
   -- the job; hops and limit, and what is written of pruned records
-  explore : Text → ℕ → ℕ → Pruned → Command
+  explore : Text → ℕ → ℕ → RefutedSides → Command
   -- the job and the packet; hops and limit
   walk : Text → Text → ℕ → ℕ → Command
   -- the job and the report
@@ -35,7 +35,7 @@ pub data Command : Type 0 where
   -- the job and the other one; hops
   compare : Text → Text → ℕ → Command
   -- a table's file; and the style of its node
-  model : Table → Text → Style → Command
+  model : TableKind → Text → Style → Command
   -- the file of a Click configuration
   click : Text → Command
   -- a filter list's file; and the style of its node
@@ -119,14 +119,14 @@ named (word ∷ kind ∷ rest) =
     if bytes_eq word (codes "model") then option_map (λ verb. (verb, rest)) (model_of kind)
     else option_map (λ verb. (verb, kind ∷ rest)) (verb_of word)
 
-abbrev pub pruned_of : Text → Option Pruned
+abbrev pub pruned_of : Text → Option RefutedSides
 pruned_of word =
-    if bytes_eq word (codes "all") then Some All
-    else if bytes_eq word (codes "count") then Some Count
+    if bytes_eq word (codes "all") then Some Written
+    else if bytes_eq word (codes "count") then Some Counted
     else None
 
-abbrev pub pruned_or_all : Option Text → Option Pruned
-pruned_or_all None = Some All
+abbrev pub pruned_or_all : Option Text → Option RefutedSides
+pruned_or_all None = Some Written
 pruned_or_all (Some word) = pruned_of word
 
 abbrev pub open_of : Text → Option Open
@@ -169,7 +169,7 @@ module _ (value : Text → Option Text) where
   abbrev pub limit_in : Option ℕ
   limit_in = number_or 1 MOST_LIMIT LIMIT (value (codes "limit"))
 
-  abbrev pub pruned_in : Option Pruned
+  abbrev pub pruned_in : Option RefutedSides
   pruned_in = pruned_or_all (value (codes "pruned"))
 
   abbrev pub open_in : Option Open
@@ -199,7 +199,7 @@ module _ (value : Text → Option Text) where
   abbrev pub compare_from : Option Command
   compare_from = option_and_then (λ job. option_and_then (λ other. option_map (compare job other) hops_in) (value (codes "OTHER"))) (value (codes "JOB"))
 
-  abbrev pub model_from : Table → Option Command
+  abbrev pub model_from : TableKind → Option Command
   model_from table = option_and_then (λ file. option_map (model table file) style_in) (value (codes "FILE"))
 
   abbrev pub click_from : Option Command

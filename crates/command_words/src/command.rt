@@ -9,6 +9,8 @@ use crate::form::Form;
 use crate::number::{number_in, seed_of};
 use crate::values::read;
 use clap::ArgMatches;
+use path_records::RefutedSides;
+use sefl_syntax::{Style, TableKind};
 use std::alloc::{AllocError, Global};
 
 /// The hops, and the limit of walks or records, where no option gives them.
@@ -24,15 +26,6 @@ pub const MOST_LIMIT: u32 = 100_000;
 /// The most boxes of a job that grows from a seed.
 pub const MOST_BOXES: u32 = 10_000;
 
-/// What is written of pruned records.
-#[derive(Clone, Copy)]
-pub enum Pruned {
-    /// Each of them.
-    All,
-    /// Their number alone.
-    Count,
-}
-
 /// What is written of the paths that are cut and show no loop.
 #[derive(Clone, Copy)]
 pub enum Open {
@@ -40,21 +33,6 @@ pub enum Open {
     Numbers,
     /// Their earlier visits of the last port as well.
     Visits,
-}
-
-/// Whose addresses a table's file has: of switches or of routers.
-#[derive(Clone, Copy)]
-pub enum Table {
-    Mac,
-    Fib,
-}
-
-/// How the code of a table's node tests addresses.
-#[derive(Clone, Copy)]
-pub enum Style {
-    Chain,
-    Grouped,
-    Egress,
 }
 
 /// How the code of a filter list's node tests packets.
@@ -71,7 +49,7 @@ pub enum Command<'a> {
         job: &'a str,
         hops: u32,
         limit: u32,
-        pruned: Pruned,
+        pruned: RefutedSides,
     },
     Walk {
         job: &'a str,
@@ -98,7 +76,7 @@ pub enum Command<'a> {
         hops: u32,
     },
     Model {
-        table: Table,
+        table: TableKind,
         file: &'a str,
         style: Style,
     },
@@ -127,7 +105,7 @@ enum Verb {
     Ask,
     Loops,
     Compare,
-    Model(Table),
+    Model(TableKind),
     Click,
     Acl,
     Rules,
@@ -210,8 +188,8 @@ fn model_of(word: &str) -> Option<Verb>
     ensures { result ≡ model_of word.now }
 {
     match word {
-        "mac" => Some(Verb::Model(Table::Mac)),
-        "fib" => Some(Verb::Model(Table::Fib)),
+        "mac" => Some(Verb::Model(TableKind::Mac)),
+        "fib" => Some(Verb::Model(TableKind::Fib)),
         "click" => Some(Verb::Click),
         "acl" => Some(Verb::Acl),
         _ => None,
@@ -251,23 +229,23 @@ fn limit_in(values: &ArgMatches<'_>) -> Option<u32>
     }
 }
 
-fn pruned_of(word: &str) -> Option<Pruned>
+fn pruned_of(word: &str) -> Option<RefutedSides>
     ensures { result ≡ pruned_of word.now }
 {
     match word {
-        "all" => Some(Pruned::All),
-        "count" => Some(Pruned::Count),
+        "all" => Some(RefutedSides::Written),
+        "count" => Some(RefutedSides::Counted),
         _ => None,
     }
 }
 
 /// What is to be written of pruned records, or the default.
-fn pruned_in(values: &ArgMatches<'_>) -> Option<Pruned>
+fn pruned_in(values: &ArgMatches<'_>) -> Option<RefutedSides>
     ensures { result ≡ pruned_in (first_value (found_of values.now)) }
 {
     match values.get_str("pruned") {
         Some(word) => pruned_of(word),
-        None => Some(Pruned::All),
+        None => Some(RefutedSides::Written),
     }
 }
 

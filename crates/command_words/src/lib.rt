@@ -8,6 +8,5 @@ mod number;
 mod values;
 
 pub use command::{
-    Command, FilterStyle, HOPS, LIMIT, MOST_BOXES, MOST_HOPS, MOST_LIMIT, Open, Pruned, Style,
-    Table, reading,
+    Command, FilterStyle, HOPS, LIMIT, MOST_BOXES, MOST_HOPS, MOST_LIMIT, Open, reading,
 };

@@ -7,8 +7,8 @@ use Rattle.path_records.specs.declared.records.Record.{Record}
 use Rattle.exact_records.specs.View.{record_tree, record_trees}
 use Rattle.record_text.specs.Reports.{head_text}
 use Rattle.record_lines.specs.Lines.{has_some, is_written, piece_text, records_text, refuted_count, written_of}
-use Rattle.record_lines.specs.declared.lines.RefutedSides.{RefutedSides}
-use Rattle.record_lines.specs.declared.lines.RefutedSides.TheVariants.{Written, Counted}
+use Rattle.path_records.specs.declared.sides.RefutedSides.{RefutedSides}
+use Rattle.path_records.specs.declared.sides.RefutedSides.TheVariants.{Written, Counted}
 use Rattle.command_edge.specs.declared.ending.Ending.{Ending}
 use Rattle.explore_command.specs.Explores.{BehindHead, IsCut, IsCutInRecord, IsCutInTail, IsReport, IsSoFar, end_of, is_done}
 use Rattle.explore_command.proofs.PutLemmas.{Joins}

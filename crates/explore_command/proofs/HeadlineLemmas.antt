@@ -18,8 +18,8 @@ use Rattle.report_forms.specs.Seen.{line_seen}
 use Rattle.path_report.specs.Reading.{ReadsReport, Shows}
 use Rattle.path_report.specs.declared.report.ReportFault.{ReportFault}
 use Rattle.record_lines.specs.Lines.{records_text, refuted_count, written_of}
-use Rattle.record_lines.specs.declared.lines.RefutedSides.{RefutedSides}
-use Rattle.record_lines.specs.declared.lines.RefutedSides.TheVariants.{Counted, Written}
+use Rattle.path_records.specs.declared.sides.RefutedSides.{RefutedSides}
+use Rattle.path_records.specs.declared.sides.RefutedSides.TheVariants.{Counted, Written}
 use Rattle.explore_command.specs.Explores.{IsReport, is_done, line_of}
 use Rattle.explore_command.specs.Headline.{IsHeadline, IsReadBack, MayBeShown}
 use Rattle.explore_command.proofs.PutLemmas.{Joins}

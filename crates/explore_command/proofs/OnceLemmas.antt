@@ -20,7 +20,7 @@ use Rattle.command_edge.specs.Puts.{Outcome, text, refused}
 use Rattle.command_edge.specs.declared.ending.Ending.{Ending}
 use Rattle.command_edge.specs.declared.ending.Ending.TheVariants.{Done, Partial}
 use Rattle.record_lines.specs.Lines.{refuted_by, refuted_count, written_of}
-use Rattle.record_lines.specs.declared.lines.RefutedSides.TheVariants.{Counted}
+use Rattle.path_records.specs.declared.sides.RefutedSides.TheVariants.{Counted}
 use Rattle.explore_command.specs.Explores.{IsEnding, ReportsOf, is_done}
 
 -- ---- records without their refutations

@@ -21,8 +21,8 @@ use Rattle.report_forms.specs.Fits.{RecordFits}
 use Rattle.report_forms.specs.Ranges.{RecordInRange}
 use Rattle.record_text.specs.Reports.{head_text, report_line, tail_text}
 use Rattle.record_lines.specs.Lines.{AreOfTypes, HasLines, PutAs, PutSo, StopsInLine, has_some, records_text, refuted_count, written_of}
-use Rattle.record_lines.specs.declared.lines.RefutedSides.{RefutedSides}
-use Rattle.record_lines.specs.declared.lines.RefutedSides.TheVariants.{Written, Counted}
+use Rattle.path_records.specs.declared.sides.RefutedSides.{RefutedSides}
+use Rattle.path_records.specs.declared.sides.RefutedSides.TheVariants.{Written, Counted}
 use Rattle.record_lines.proofs.LineLemmas.{none_of_types}
 use Rattle.symbolic_engine.specs.Exploring.{ExploredFor}
 use Rattle.command_runs.specs.Inputs.{a_net}

@@ -11,7 +11,7 @@ use Rattle.exact_records.specs.View.{record_tree, record_trees}
 use Rattle.report_forms.specs.Fits.{RecordFits}
 use Rattle.record_text.specs.Reports.{head_text, report_line, tail_text}
 use Rattle.record_lines.specs.Lines.{has_some, is_written, piece_text, records_text, refuted_count, written_of}
-use Rattle.record_lines.specs.declared.lines.RefutedSides.{RefutedSides}
+use Rattle.path_records.specs.declared.sides.RefutedSides.{RefutedSides}
 use Rattle.command_runs.specs.Inputs.{Given, a_net}
 use Rattle.command_edge.specs.Puts.{Outcome, text, refused}
 use Rattle.command_runs.specs.Runs.{OwnWork}

@@ -17,7 +17,7 @@ use Rattle.command_edge.specs.declared.ending.Ending.{Ending}
 use Rattle.command_edge.specs.declared.ending.Ending.TheVariants.{Done, Partial}
 use Rattle.record_text.specs.declared.report.Report.{Report}
 use Rattle.record_lines.specs.Lines.{refuted_count, written_of}
-use Rattle.record_lines.specs.declared.lines.RefutedSides.{RefutedSides}
+use Rattle.path_records.specs.declared.sides.RefutedSides.{RefutedSides}
 use Rattle.report_forms.specs.Seen.{line_seen}
 use Rattle.path_report.specs.Reading.{ReadsReport, Shows}
 use Rattle.path_report.specs.declared.report.ReportFault.{ReportFault}

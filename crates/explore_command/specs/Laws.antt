@@ -5,7 +5,7 @@ use Rattle.net_check.specs.Network.{Network, Entry}
 use Rattle.exact_records.specs.View.{record_trees}
 use Rattle.hop_bounds.specs.Beyond.{AllUncut, GoBeyond}
 use Rattle.command_edge.specs.declared.ending.Ending.{Ending}
-use Rattle.record_lines.specs.declared.lines.RefutedSides.{RefutedSides}
+use Rattle.path_records.specs.declared.sides.RefutedSides.{RefutedSides}
 use Rattle.explore_command.specs.Explores.{BehindHead, IsCut, IsReport, IsSoFar}
 use Rattle.explore_command.specs.Headline.{IsHeadline, IsReadBack, MayBeShown}
 

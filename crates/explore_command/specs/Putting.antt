@@ -10,7 +10,7 @@ use Rattle.path_exec.specs.declared.exploration.Ended.{Ended}
 use Rattle.path_exec.specs.declared.exploration.Ended.TheVariants as ended
 use Rattle.record_text.specs.Reports.{tail_text}
 use Rattle.record_lines.specs.Lines.{records_text, refuted_count, written_of}
-use Rattle.record_lines.specs.declared.lines.RefutedSides.{RefutedSides}
+use Rattle.path_records.specs.declared.sides.RefutedSides.{RefutedSides}
 use Rattle.command_edge.specs.Puts.{Gains}
 use Rattle.command_edge.specs.declared.ending.Ending.{Ending}
 use Rattle.command_edge.specs.declared.ending.Ending.TheVariants.{Done, Partial}

@@ -7,7 +7,7 @@ use crate::report::put_report;
 use command_edge::{Ending, Stop};
 use command_runs::{JobFile, Work};
 use net_check::Accepted;
-use record_lines::RefutedSides;
+use path_records::RefutedSides;
 use sn_edge::Sink;
 use std::alloc::Global;
 

@@ -2,7 +2,7 @@
 
 ghost use Rattle.std.specs.Prelude.{◌≡◌, ℕ, List};
 ghost use Rattle.net_check.specs.Network.{Entry, Network};
-ghost use Rattle.record_lines.specs.declared.lines.RefutedSides.TheVariants.{Counted};
+ghost use Rattle.path_records.specs.declared.sides.RefutedSides.TheVariants.{Counted};
 ghost use Rattle.command_edge.specs.Puts.{Outcome};
 ghost use Rattle.command_edge.specs.declared.ending.Ending.{Ending as EndingOf};
 ghost use Rattle.exact_records.specs.Packets.{AreExactFor};

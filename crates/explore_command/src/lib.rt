@@ -8,4 +8,3 @@ mod report;
 
 pub use explore::Explore;
 pub use limit::RecordLimit;
-pub use record_lines::RefutedSides;

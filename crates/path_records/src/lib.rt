@@ -2,5 +2,7 @@
 #![tactic(auto)]
 
 mod records;
+mod sides;
 
 pub use records::{Fields, Record};
+pub use sides::RefutedSides;

@@ -25,8 +25,8 @@ use Rattle.sn_edge.proofs.Putting.{part_alone, part_behind, takes_both, takes_on
 use Rattle.sn_edge.specs.declared.sink.Put.{Put}
 use Rattle.sn_edge.specs.declared.sink.Put.TheVariants.{All, Failed, NoMemory}
 use Rattle.record_lines.specs.Lines.{AreOfTypes, HasLines, PutAs, StopsInLine, has_some, is_written, piece_text, records_text, refuted_by, refuted_count, written_of}
-use Rattle.record_lines.specs.declared.lines.RefutedSides.{RefutedSides}
-use Rattle.record_lines.specs.declared.lines.RefutedSides.TheVariants.{Written, Counted}
+use Rattle.path_records.specs.declared.sides.RefutedSides.{RefutedSides}
+use Rattle.path_records.specs.declared.sides.RefutedSides.TheVariants.{Written, Counted}
 
 -- the answers of a put, as one fact
 pub put_as : {K : Type 0} (told : K → SinkTold) (gives : K → List ℕ → Put → K → Type 0) (u v : K) (piece : List ℕ) (answer : Put) → gives u piece answer v

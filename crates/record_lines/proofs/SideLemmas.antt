@@ -29,8 +29,8 @@ use Rattle.symbolic_engine.specs.declared.found.Found.{Found}
 use Rattle.symbolic_engine.specs.declared.found.Found.TheVariants as found
 use Rattle.symbolic_engine.specs.Finds.{filled_before, found_tree}
 use Rattle.record_lines.specs.Lines.{BeforeInRange, IsFoundObligation, IsRecordObligation, IsSideObligation, is_only_counted, is_written}
-use Rattle.record_lines.specs.declared.lines.RefutedSides.{RefutedSides}
-use Rattle.record_lines.specs.declared.lines.RefutedSides.TheVariants.{Written, Counted}
+use Rattle.path_records.specs.declared.sides.RefutedSides.{RefutedSides}
+use Rattle.path_records.specs.declared.sides.RefutedSides.TheVariants.{Written, Counted}
 use Rattle.record_lines.specs.declared.lines.Obligation.{Obligation}
 use Rattle.record_lines.specs.declared.lines.Obligation.TheVariants as obligation
 

@@ -8,8 +8,8 @@ use Rattle.path_exec.specs.Handing.{Handed, IsListed}
 use Rattle.path_exec.specs.Receiving.{Receiving}
 use Rattle.path_records.specs.declared.records.Record.{Record}
 use Rattle.path_records.specs.declared.records.Record.TheVariants.{Path, Pruned, Unexplored}
-use Rattle.record_lines.specs.declared.lines.RefutedSides.{RefutedSides}
-use Rattle.record_lines.specs.declared.lines.RefutedSides.TheVariants.{Written, Counted}
+use Rattle.path_records.specs.declared.sides.RefutedSides.{RefutedSides}
+use Rattle.path_records.specs.declared.sides.RefutedSides.TheVariants.{Written, Counted}
 use Rattle.record_lines.specs.declared.lines.Obligation.{Obligation}
 use Rattle.record_lines.specs.declared.lines.Obligation.TheVariants as obligation
 use Rattle.report_forms.specs.Ranges.{RecordInRange}

@@ -4,7 +4,7 @@ ghost use Rattle.std.specs.Prelude.{◌≡◌, ◌++◌, [], ◌∷◌, List, tr
 ghost use Rattle.net_check.specs.Network.{Network};
 ghost use Rattle.path_records.specs.declared.records.Record.{Record};
 ghost use Rattle.record_lines.specs.Lines.{has_some, is_written, piece_text, records_text, written_of};
-ghost use Rattle.record_lines.specs.declared.lines.RefutedSides.{RefutedSides};
+ghost use Rattle.path_records.specs.declared.sides.RefutedSides.{RefutedSides};
 
 /// With one more record that is written, its piece comes behind those of the others.
 #[tactic(auto, using(crate::proofs::LineLemmas::written_behind))]

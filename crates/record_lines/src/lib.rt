@@ -6,4 +6,4 @@ pub mod laws;
 mod lines;
 
 pub use ends::{put_head, put_tail};
-pub use lines::{Lines, Mark, RefutedSides};
+pub use lines::{Lines, Mark};

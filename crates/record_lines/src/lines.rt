@@ -8,7 +8,7 @@ ghost use Rattle.record_lines.specs.Lines.{IsFoundObligation, IsRecordObligation
 use crate::ends::put_piece;
 use kept_texts::{OfNet, Pieces};
 use path_exec::{Observer, Took};
-use path_records::Record;
+use path_records::{Record, RefutedSides};
 use report_forms::{numbers_are_in_range, steps_fit, verdict_fits};
 use sefl_meaning::Decision;
 use sn_edge::{Put, Sink};
@@ -16,18 +16,9 @@ use std::alloc::Global;
 use std::marker::{Brand, PhantomData};
 use symbolic_engine::Found;
 
-/// What is put of refuted sides.
-#[derive(Clone, Copy)]
-pub enum RefutedSides {
-    /// All of them, as other records.
-    Written,
-    /// None: only their number is told.
-    Counted,
-}
-
 /// Which records are written, and the state of a sink before the first of them.
 pub trait Mark<K> {
-    ghost use Rattle.record_lines.specs.declared.lines.RefutedSides.{RefutedSides as Sides};
+    ghost use Rattle.path_records.specs.declared.sides.RefutedSides.{RefutedSides as Sides};
 
     ghost sides: { Sides };
 
@@ -35,7 +26,7 @@ pub trait Mark<K> {
 }
 
 impl<K> Mark<K> for Brand {
-    ghost use Rattle.record_lines.specs.declared.lines.RefutedSides.TheVariants.{Written};
+    ghost use Rattle.path_records.specs.declared.sides.RefutedSides.TheVariants.{Written};
 
     ghost sides = { Written };
 

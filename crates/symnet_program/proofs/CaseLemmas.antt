@@ -24,11 +24,11 @@ use Rattle.command_edge.specs.declared.fault.InputFault.{InputFault}
 use Rattle.command_edge.specs.declared.fault.InputFault.TheVariants as input
 use Rattle.command_edge.specs.declared.fault.OwnFault.TheVariants as working
 use Rattle.explore_command.specs.Explores.{ReportsOf}
-use Rattle.symnet_program.specs.Commands.{inputs, sides_of, work}
+use Rattle.symnet_program.specs.Commands.{inputs, work}
 use Rattle.symnet_program.specs.Program.{Cause, Comes, IsCaused}
 use Rattle.command_runs.specs.Status.{IsStopped, IsUnread, IsWritten, MayBeBad, input_status, outcome_status}
 use Rattle.command_words.specs.Commands.{Command, explore}
-use Rattle.command_words.specs.declared.command.Pruned.{Pruned}
+use Rattle.path_records.specs.declared.sides.RefutedSides.{RefutedSides}
 use Rattle.command_runs.specs.declared.status.Status.{Status}
 use Rattle.command_runs.specs.declared.status.Status.TheVariants.{Done, NoMemory, Usage, NoFile, ReadFault, WriteFault, TooBig, Syntax, BadPattern, Refused, BadTable, BadPacket, Partial, TooMany, BadReport, NotConfirmed, BadAsk, BadCompare}
 
@@ -283,16 +283,16 @@ module _ (p : World) (name : List ℕ) (rest : List Input) (w : OwnWork) (status
 
 -- ---- of a job that is explored
 
-module _ (p : World) (name : List ℕ) (hops limit : ℕ) (pruned : Pruned) (status : Status) where
+module _ (p : World) (name : List ℕ) (hops limit : ℕ) (pruned : RefutedSides) (status : Status) where
   abbrev pub Explored : JobTree → Type 0
   Explored j = JobCase p name [] (work (explore name hops limit pruned)) j status
 
   reported : (net : Network) (i : Entry) (asks : List AskTree) (given : List Given) (outcome : Outcome) → given ≡ []
-      → (work (explore name hops limit pruned)).comes (a_net net i asks ∷ given) outcome → ReportsOf hops limit (sides_of pruned) net i outcome
+      → (work (explore name hops limit pruned)).comes (a_net net i asks ∷ given) outcome → ReportsOf hops limit pruned net i outcome
   reported net i asks given outcome none h = subst (λ gs. (work (explore name hops limit pruned)).comes (a_net net i asks ∷ gs) outcome) none h
 
   -- each outcome is a text
-  written : (net : Network) (i : Entry) (outcome : Outcome) → status ≡ outcome_status outcome → ReportsOf hops limit (sides_of pruned) net i outcome → IsWritten status
+  written : (net : Network) (i : Entry) (outcome : Outcome) → status ≡ outcome_status outcome → ReportsOf hops limit pruned net i outcome → IsWritten status
   written net i (text ending.Done whole) is h = inl is
   written net i (text ending.Partial whole) is h = inr is
   written net i (refused fault) is h = absurd h

@@ -21,13 +21,12 @@ use Rattle.command_edge.specs.declared.ending.Ending.{Ending}
 use Rattle.command_edge.specs.declared.ending.Ending.TheVariants as ending
 use Rattle.command_edge.specs.declared.ending.Stop.{Stop}
 use Rattle.command_edge.specs.declared.ending.Stop.TheVariants.{Input as ByInput, Own, Write, NoMemory as NoRoom}
-use Rattle.record_lines.specs.declared.lines.RefutedSides.{RefutedSides}
+use Rattle.path_records.specs.declared.sides.RefutedSides.{RefutedSides}
 use Rattle.explore_command.specs.Explores.{explore_work}
 use Rattle.explore_command.specs.Headline.{MayBeShown}
 use Rattle.explore_command.specs.Laws.{ReportsTellWalks}
 use Rattle.command_words.specs.Commands.{Command, HasRanges, explore}
-use Rattle.command_words.specs.declared.command.Pruned.{Pruned}
-use Rattle.symnet_program.specs.Commands.{inputs, sides_of, work}
+use Rattle.symnet_program.specs.Commands.{inputs, work}
 use Rattle.symnet_program.specs.Headline.{TellsJob}
 use Rattle.symnet_program.specs.Program.{Cause, IsCaused, MayWrite, Stops, Writes}
 use Rattle.symnet_program.specs.Run.{Ends, IsPutWith, IsRun, IsRunOf, ReportTells, TellsMore, performed, unbegun, unopened}
@@ -105,9 +104,9 @@ module _ (law : (net : Network) (i : Entry) (hops : ℕ) → ReportsTellWalks ne
 
   tells_more : (c : Command) → HasRanges c → (given : List Given) (status : Status) (part : List ℕ) (ends : Ends (work c) given status part)
       → TellsMore c given status part ends
-  tells_more (explore job hops limit pruned) ranged given Done part ends = report_tells hops limit (sides_of pruned) ending.Done part given ranged ends
+  tells_more (explore job hops limit pruned) ranged given Done part ends = report_tells hops limit pruned ending.Done part given ranged ends
   tells_more (explore job hops limit pruned) ranged given Partial part ends =
-      report_tells hops limit (sides_of pruned) ending.Partial part given ranged ends
+      report_tells hops limit pruned ending.Partial part given ranged ends
   tells_more c ranged given status part ends = tt
 
   module _ {S : Type 0} (o : Outside S) (u v : S) (c : Command) (ranged : HasRanges c) {K : Type 0} (told : K → SinkTold) (gives : K → List ℕ → Put → K → Type 0) (old new : K) where
@@ -243,11 +242,11 @@ no_input (input.BadPattern site) h = h
 no_input (input.Refused site kind) h = h
 no_input input.NoMemory h = h
 
-module _ {S : Type 0} (o : Outside S) (u v : S) (job : List ℕ) (hops limit : ℕ) (pruned : Pruned) where
+module _ {S : Type 0} (o : Outside S) (u v : S) (job : List ℕ) (hops limit : ℕ) (pruned : RefutedSides) where
   -- the report of what the input gave, and what it tells
   abbrev Report : List Given → Ending → List ℕ → Type 0
   Report given ended part =
-      (report : (explore_work hops limit (sides_of pruned)).comes given (text ended part)) × ReportTells hops limit (sides_of pruned) ended part given report
+      (report : (explore_work hops limit pruned).comes given (text ended part)) × ReportTells hops limit pruned ended part given report
 
   report_of : (given : List Given) (ended : Ending) (part : List ℕ) (ends : Ends (work (explore job hops limit pruned)) given (status_of (Ok ended)) part)
       → TellsMore (explore job hops limit pruned) given (status_of (Ok ended)) part ends → Report given ended part
@@ -255,7 +254,7 @@ module _ {S : Type 0} (o : Outside S) (u v : S) (job : List ℕ) (hops limit : �
   report_of given ending.Partial part ends more = (ends, more)
 
   job_by : (ended : Ending) (part : List ℕ) (given : List Given) → AllOpen o u (inputs (explore job hops limit pruned)) given v → Report given ended part
-      → TellsJob o u v job hops limit (sides_of pruned) ended part
+      → TellsJob o u v job hops limit pruned ended part
   job_by ended part given (g, m, (j, between, has, net, i, taken, is), rest, (none, last), all) report =
       let own : Report (a_net net i j.asks ∷ []) ended part =
       subst (λ gs. Report gs ended part) (all ∙ (ap (λ x. x ∷ rest) is ∙ ap (λ r. a_net net i j.asks ∷ r) none)) report in record {
@@ -270,7 +269,7 @@ module _ {S : Type 0} (o : Outside S) (u v : S) (job : List ℕ) (hops limit : �
       }
 
   pub run_told : (ended : Ending) (part : List ℕ) → IsRunOf o u v (explore job hops limit pruned) (status_of (Ok ended)) part
-      → TellsJob o u v job hops limit (sides_of pruned) ended part
+      → TellsJob o u v job hops limit pruned ended part
   run_told ended part (unbegun is same none) = absurd (subst IsWhole is (ended_whole ended))
   run_told ended part (unopened fault fails is none) = absurd (no_input fault (subst IsWhole is (ended_whole ended)))
   run_told ended part (performed given opened ends more) = job_by ended part given opened (report_of given ended part ends more)

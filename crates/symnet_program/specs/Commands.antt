@@ -18,25 +18,13 @@ use Rattle.model_command.specs.ClickModels.{ClickComes}
 use Rattle.acl_command.specs.declared.model.ListStyle.{ListStyle}
 use Rattle.acl_command.specs.declared.model.ListStyle.TheVariants as list
 use Rattle.acl_command.specs.Commands.{AclComes, RulesComes}
-use Rattle.sefl_syntax.specs.declared.net.Style.{Style as NodeStyle}
-use Rattle.sefl_syntax.specs.declared.net.Style.TheVariants.{Chain, Grouped, Egress}
-use Rattle.sefl_syntax.specs.declared.net.TableKind.{TableKind}
-use Rattle.sefl_syntax.specs.declared.net.TableKind.TheVariants.{Mac, Fib}
 use Rattle.walk_command.specs.Walks.{WalkComes}
-use Rattle.record_lines.specs.declared.lines.RefutedSides.{RefutedSides}
-use Rattle.record_lines.specs.declared.lines.RefutedSides.TheVariants.{Written, Counted}
 use Rattle.command_words.specs.Commands.{Command, explore, walk, replay, ask, loops, compare, model, click, acl, rules, grow}
 use Rattle.command_words.specs.declared.command.TheConstants.{LIMIT}
 use Rattle.command_words.specs.declared.command.FilterStyle.{FilterStyle}
 use Rattle.command_words.specs.declared.command.FilterStyle.TheVariants as filter
 use Rattle.command_words.specs.declared.command.Open.{Open}
 use Rattle.command_words.specs.declared.command.Open.TheVariants as of_words
-use Rattle.command_words.specs.declared.command.Pruned.{Pruned}
-use Rattle.command_words.specs.declared.command.Pruned.TheVariants.{All, Count}
-use Rattle.command_words.specs.declared.command.Style.{Style}
-use Rattle.command_words.specs.declared.command.Style.TheVariants as style
-use Rattle.command_words.specs.declared.command.Table.{Table}
-use Rattle.command_words.specs.declared.command.Table.TheVariants as table
 
 abbrev pub inputs : Command → List Input
 inputs (explore job hops limit pruned) = a_job job ∷ []
@@ -55,38 +43,23 @@ inputs (grow seed boxes) = a_made_job (grown seed boxes) ∷ []
 abbrev pub ReadsJob : Command → List ℕ → Type 0
 ReadsJob command job = (others : List Input) × (inputs command ≡ a_job job ∷ others)
 
--- pruned records are those of refuted sides
-abbrev pub sides_of : Pruned → RefutedSides
-sides_of All = Written
-sides_of Count = Counted
-
 -- what is written of paths without a loop
 abbrev pub detail_of : Open → OpenPaths
 detail_of of_words.Numbers = Numbers
 detail_of of_words.Visits = Visits
-
--- the table, and the style of its node, as in a job
-abbrev pub kind_of : Table → TableKind
-kind_of table.Mac = Mac
-kind_of table.Fib = Fib
-
-abbrev pub style_of : Style → NodeStyle
-style_of style.Chain = Chain
-style_of style.Grouped = Grouped
-style_of style.Egress = Egress
 
 abbrev pub list_style_of : FilterStyle → ListStyle
 list_style_of filter.Chain = list.Chain
 list_style_of filter.Grouped = list.Grouped
 
 abbrev pub work : Command → OwnWork
-work (explore job hops limit pruned) = explore_work hops limit (sides_of pruned)
+work (explore job hops limit pruned) = explore_work hops limit pruned
 work (walk job packet hops limit) = one_piece (WalkComes hops limit)
 work (replay job report) = one_piece ReplayComes
 work (ask job hops) = one_piece (AskComes hops LIMIT)
 work (loops job hops detail) = one_piece (LoopsComes hops LIMIT (detail_of detail))
 work (compare job other hops) = one_piece (CompareComes hops LIMIT)
-work (model table file style) = one_piece (ModelComes (kind_of table) (style_of style) file)
+work (model table file style) = one_piece (ModelComes table style file)
 work (click file) = one_piece (ClickComes file)
 work (acl file style) = one_piece (AclComes (list_style_of style) file)
 work (rules file) = one_piece (RulesComes file)

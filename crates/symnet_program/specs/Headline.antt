@@ -4,7 +4,7 @@ use Rattle.sefl_syntax.specs.Trees.{JobTree}
 use Rattle.net_check.specs.Network.{Network, Entry}
 use Rattle.command_runs.specs.Outside.{Outside}
 use Rattle.command_edge.specs.declared.ending.Ending.{Ending}
-use Rattle.record_lines.specs.declared.lines.RefutedSides.{RefutedSides}
+use Rattle.path_records.specs.declared.sides.RefutedSides.{RefutedSides}
 use Rattle.explore_command.specs.Explores.{IsReport}
 use Rattle.explore_command.specs.Headline.{IsHeadline, IsReadBack}
 

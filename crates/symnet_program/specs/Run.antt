@@ -14,10 +14,10 @@ use Rattle.command_edge.specs.declared.ending.Ending.{Ending}
 use Rattle.command_edge.specs.declared.ending.Ending.TheVariants as ending
 use Rattle.command_edge.specs.declared.fault.InputFault.{InputFault}
 use Rattle.command_edge.specs.declared.fault.OwnFault.TheVariants as own
-use Rattle.record_lines.specs.declared.lines.RefutedSides.{RefutedSides}
+use Rattle.path_records.specs.declared.sides.RefutedSides.{RefutedSides}
 use Rattle.explore_command.specs.Explores.{explore_work}
 use Rattle.command_words.specs.Commands.{Command, explore}
-use Rattle.symnet_program.specs.Commands.{inputs, sides_of, work}
+use Rattle.symnet_program.specs.Commands.{inputs, work}
 use Rattle.symnet_program.specs.Headline.{TellsWalks}
 
 -- the own work ended with this status on what the inputs gave, and the sink gained this
@@ -43,8 +43,8 @@ ReportTells hops limit sides ended whole _ report = ⊥
 
 -- what is told beyond that where a text was written whole
 abbrev pub TellsMore : (c : Command) (given : List Given) (status : Status) (part : List ℕ) → Ends (work c) given status part → Type 0
-TellsMore (explore job hops limit pruned) given Done part ends = ReportTells hops limit (sides_of pruned) ending.Done part given ends
-TellsMore (explore job hops limit pruned) given Partial part ends = ReportTells hops limit (sides_of pruned) ending.Partial part given ends
+TellsMore (explore job hops limit pruned) given Done part ends = ReportTells hops limit pruned ending.Done part given ends
+TellsMore (explore job hops limit pruned) given Partial part ends = ReportTells hops limit pruned ending.Partial part given ends
 TellsMore c given status part ends = Unit {0}
 
 -- of an outside that goes from state to state

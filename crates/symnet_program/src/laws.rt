@@ -20,7 +20,7 @@ ghost use Rattle.command_edge.specs.declared.ending.Ending.TheVariants as ending
 ghost use Rattle.command_runs.specs.Tables.{FirstUnfilled, IsFilled};
 ghost use Rattle.command_edge.specs.declared.fault.InputFault.{InputFault};
 ghost use Rattle.command_edge.specs.declared.limits.TheConstants.{FILE_LIMIT};
-ghost use Rattle.symnet_program.specs.Commands.{ReadsJob, inputs, sides_of, work};
+ghost use Rattle.symnet_program.specs.Commands.{ReadsJob, inputs, work};
 ghost use Rattle.symnet_program.specs.Headline.{TellsJob};
 ghost use Rattle.symnet_program.specs.Program.{IsCaused, MayWrite};
 ghost use Rattle.symnet_program.specs.Run.{IsRun};
@@ -28,7 +28,7 @@ ghost use Rattle.walk_command.specs.Walks.{WalksOf};
 ghost use Rattle.command_runs.specs.Status.{IsUnread, IsWritten, MayBeBad, OrBad, input_status, outcome_status};
 ghost use Rattle.symnet_program.specs.Told.{MayStop, TellsNet};
 ghost use Rattle.command_words.specs.Commands.{Command as CommandOf, explore, walk};
-ghost use Rattle.command_words.specs.declared.command.Pruned.{Pruned as PrunedOf};
+ghost use Rattle.path_records.specs.declared.sides.RefutedSides.{RefutedSides as Sides};
 ghost use Rattle.command_runs.specs.declared.status.Status.{Status as StatusOf};
 ghost use Rattle.command_runs.specs.declared.status.Status.TheVariants.{BadPattern, Done, NoFile, Partial, Syntax, TooBig};
 
@@ -46,14 +46,14 @@ pub fn runs_tell<F: Folder, P: Patterns>()
     ensures written { (u v : F × P) (said : Option CommandOf) (status : StatusOf) (part : List ℕ)
         → IsRun (outside F.told F.load_gives P.told P.find_gives) u v said status part
         → MayWrite (outside F.told F.load_gives P.told P.find_gives) u v said status part }
-    ensures headline { (u v : F × P) (job : List ℕ) (hops limit : ℕ) (pruned : PrunedOf) (whole : List ℕ)
+    ensures headline { (u v : F × P) (job : List ℕ) (hops limit : ℕ) (pruned : Sides) (whole : List ℕ)
         → IsRun (outside F.told F.load_gives P.told P.find_gives) u v (Some (explore job hops limit pruned)) Done whole
-        → TellsJob (outside F.told F.load_gives P.told P.find_gives) u v job hops limit (sides_of pruned) ending.Done
+        → TellsJob (outside F.told F.load_gives P.told P.find_gives) u v job hops limit pruned ending.Done
         whole }
-    ensures partial { (u v : F × P) (job : List ℕ) (hops limit : ℕ) (pruned : PrunedOf) (whole : List ℕ)
+    ensures partial { (u v : F × P) (job : List ℕ) (hops limit : ℕ) (pruned : Sides) (whole : List ℕ)
         → IsRun (outside F.told F.load_gives P.told P.find_gives) u v (Some (explore job hops limit pruned)) Partial
         whole
-        → TellsJob (outside F.told F.load_gives P.told P.find_gives) u v job hops limit (sides_of pruned) ending.Partial
+        → TellsJob (outside F.told F.load_gives P.told P.find_gives) u v job hops limit pruned ending.Partial
         whole }
 {}
 
@@ -94,7 +94,7 @@ pub fn jobs_are_told()
 
 /// Of a job that with code for its tables breaks no rule, and that has no bad pattern, `explore` tells Done or Partial.
 pub fn explored_jobs_are_told()
-    ensures { (job : List ℕ) (hops limit : ℕ) (pruned : PrunedOf) (w : World) (status : StatusOf) (bytes : List ℕ)
+    ensures { (job : List ℕ) (hops limit : ℕ) (pruned : Sides) (w : World) (status : StatusOf) (bytes : List ℕ)
         (j full : JobTree)
         → IsCaused (world w) tt tt (Some (explore job hops limit pruned)) status → w.at job ≡ Some bytes
         → length bytes ≤ FILE_LIMIT

@@ -10,7 +10,7 @@ ghost use Rattle.command_runs.specs.Status.{input_status};
 ghost use Rattle.command_runs.specs.declared.status.Status.{Status as StatusOf};
 ghost use Rattle.command_runs.specs.declared.status.Status.TheVariants.{Usage};
 ghost use Rattle.command_edge.specs.declared.fault.InputFault.{InputFault as InputFaultOf};
-ghost use Rattle.symnet_program.specs.Commands.{detail_of, inputs, kind_of, list_style_of, sides_of, style_of, work};
+ghost use Rattle.symnet_program.specs.Commands.{detail_of, inputs, list_style_of, work};
 ghost use Rattle.symnet_program.specs.Program.{Cause, IsAnswered, IsCaused, RefusesInput, Shown};
 ghost use Rattle.symnet_program.specs.Run.{IsPutWith, IsRun};
 ghost use Rattle.symnet_program.specs.Told.{MayBeUnread};
@@ -21,27 +21,17 @@ use ask_command::Ask;
 use command_edge::{Ending, FILE_LIMIT, Stop};
 use command_runs::laws::worlds_decide;
 use command_runs::{Both, ByteFile, JobFile, Piece, Status, run, status_of};
-use command_words::{Command, FilterStyle, LIMIT, Open, Pruned, Style, Table, reading};
+use command_words::{Command, FilterStyle, LIMIT, Open, reading};
 use compare_command::{BothJobs, Compare};
 use explore_command::laws::reports_tell_walks;
-use explore_command::{Explore, RecordLimit, RefutedSides};
+use explore_command::{Explore, RecordLimit};
 use grow_command::{Grow, GrownJob};
 use loops_command::{Loops, OpenPaths};
 use model_command::{ClickModel, TableModel};
 use replay_command::{REPORT_LIMIT, Replay};
-use sefl_syntax::{Style as NodeStyle, TableKind};
 use sn_edge::{Folder, Patterns, Sink};
 use std::alloc::Global;
 use walk_command::Walk;
-
-fn sides_of(pruned: Pruned) -> RefutedSides
-    ensures { result ≡ sides_of pruned }
-{
-    match pruned {
-        Pruned::All => RefutedSides::Written,
-        Pruned::Count => RefutedSides::Counted,
-    }
-}
 
 fn detail_of(detail: Open) -> OpenPaths
     ensures { result ≡ detail_of detail }
@@ -49,25 +39,6 @@ fn detail_of(detail: Open) -> OpenPaths
     match detail {
         Open::Numbers => OpenPaths::Numbers,
         Open::Visits => OpenPaths::Visits,
-    }
-}
-
-fn kind_of(table: Table) -> TableKind
-    ensures { result ≡ kind_of table }
-{
-    match table {
-        Table::Mac => TableKind::Mac,
-        Table::Fib => TableKind::Fib,
-    }
-}
-
-fn style_of(style: Style) -> NodeStyle
-    ensures { result ≡ style_of style }
-{
-    match style {
-        Style::Chain => NodeStyle::Chain,
-        Style::Grouped => NodeStyle::Grouped,
-        Style::Egress => NodeStyle::Egress,
     }
 }
 
@@ -109,7 +80,7 @@ fn run_command<F: Folder, P: Patterns, K: Sink>(
                 source: JobFile { name: job },
                 hops,
                 limit: RecordLimit::new(limit),
-                sides: sides_of(pruned),
+                sides: pruned,
             };
             run(alloc, &command, folder, patterns, out)
         }
@@ -178,8 +149,8 @@ fn run_command<F: Folder, P: Patterns, K: Sink>(
                     name: file,
                     limit: FILE_LIMIT,
                 },
-                kind: kind_of(table),
-                style: style_of(style),
+                kind: table,
+                style,
             });
             run(alloc, &command, folder, patterns, out)
         }

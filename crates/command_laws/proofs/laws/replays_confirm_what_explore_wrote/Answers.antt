@@ -1,4 +1,4 @@
-use Rattle.record_lines.specs.declared.lines.RefutedSides.TheVariants.{Written}
+use Rattle.path_records.specs.declared.sides.RefutedSides.TheVariants.{Written}
 use Rattle.command_laws.proofs.Confirmed.{confirmed_back}
 use Rattle.command_laws.proofs.laws.replays_confirm_what_explore_wrote.Goals as goal
 

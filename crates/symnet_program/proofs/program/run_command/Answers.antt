@@ -1,7 +1,4 @@
 use Rattle.std.proofs.Common.{ℕ, [], ◌∷◌, arith, subst}
-use Rattle.record_lines.specs.declared.lines.RefutedSides.{RefutedSides}
-use Rattle.sefl_syntax.specs.declared.net.Style.{Style}
-use Rattle.sefl_syntax.specs.declared.net.TableKind.{TableKind}
 use Rattle.command_runs.specs.Inputs.{a_job, a_file}
 use Rattle.command_runs.specs.Outside.{outside}
 use Rattle.command_runs.specs.Runs.{Runs, one_piece}
@@ -14,8 +11,6 @@ use Rattle.command_words.specs.declared.command.TheConstants.{LIMIT}
 use Rattle.loops_command.specs.Loops.{LoopsComes}
 use Rattle.loops_command.specs.declared.text.OpenPaths.{OpenPaths}
 use Rattle.compare_command.specs.Compares.{CompareComes}
-use Rattle.model_command.specs.Models.{ModelComes}
-use Rattle.symnet_program.specs.Commands.{kind_of}
 use Rattle.symnet_program.proofs.program.run_command.Goals as goal
 
 pub new-requires : goal.new-requires
@@ -23,12 +18,9 @@ new-requires g c = let ranges = rw (c.in-Explore.is) at c.requires in omega (ari
 
 pub returns-in-Explore-clause-ran : goal.returns-in-Explore-clause-ran
 returns-in-Explore-clause-ran g c =
-    rw (c.in-Explore.is) (subst (λ (s : RefutedSides). Runs g.K.Sink.told g.K.Sink.put_gives c.args.out.now c.run.new.out
+    rw (c.in-Explore.is) (subst (λ (limit : ℕ). Runs g.K.Sink.told g.K.Sink.put_gives c.args.out.now c.run.new.out
     (outside g.F.Folder.told g.F.Folder.load_gives g.P.Patterns.told g.P.Patterns.find_gives)
-    (c.args.folder.now, c.args.patterns.now) (c.run.new.folder, c.run.new.patterns) (a_job c.in-Explore.job.now ∷ []) (explore_work c.in-Explore.hops c.in-Explore.limit s) c.run.result) c.sides_of.ensures
-    (subst (λ (limit : ℕ). Runs g.K.Sink.told g.K.Sink.put_gives c.args.out.now c.run.new.out
-    (outside g.F.Folder.told g.F.Folder.load_gives g.P.Patterns.told g.P.Patterns.find_gives)
-    (c.args.folder.now, c.args.patterns.now) (c.run.new.folder, c.run.new.patterns) (a_job c.in-Explore.job.now ∷ []) (explore_work c.in-Explore.hops limit c.sides_of.result) c.run.result) c.new.ensures c.run.ensures.ran))
+    (c.args.folder.now, c.args.patterns.now) (c.run.new.folder, c.run.new.patterns) (a_job c.in-Explore.job.now ∷ []) (explore_work c.in-Explore.hops limit c.in-Explore.pruned) c.run.result) c.new.ensures c.run.ensures.ran)
 
 pub returns-in-Walk-clause-ran : goal.returns-in-Walk-clause-ran
 returns-in-Walk-clause-ran g c = rw (c.in-Walk.is) c.run-in-Walk.ensures.ran
@@ -64,13 +56,7 @@ returns-in-Compare-clause-ran g c =
     c.run-in-Compare.ensures.ran)
 
 pub returns-in-Model-clause-ran : goal.returns-in-Model-clause-ran
-returns-in-Model-clause-ran g c =
-    rw (c.in-Model.is) (subst (λ (s : Style). Runs g.K.Sink.told g.K.Sink.put_gives c.args.out.now c.run-in-Model.new.out
-    (outside g.F.Folder.told g.F.Folder.load_gives g.P.Patterns.told g.P.Patterns.find_gives)
-    (c.args.folder.now, c.args.patterns.now) (c.run-in-Model.new.folder, c.run-in-Model.new.patterns) (a_file FILE_LIMIT c.in-Model.file.now ∷ []) (one_piece (ModelComes (kind_of c.in-Model.table) s c.in-Model.file.now)) c.run-in-Model.result) c.style_of.ensures
-    (subst (λ (k : TableKind). Runs g.K.Sink.told g.K.Sink.put_gives c.args.out.now c.run-in-Model.new.out
-    (outside g.F.Folder.told g.F.Folder.load_gives g.P.Patterns.told g.P.Patterns.find_gives)
-    (c.args.folder.now, c.args.patterns.now) (c.run-in-Model.new.folder, c.run-in-Model.new.patterns) (a_file FILE_LIMIT c.in-Model.file.now ∷ []) (one_piece (ModelComes k c.style_of.result c.in-Model.file.now)) c.run-in-Model.result) c.kind_of.ensures c.run-in-Model.ensures.ran))
+returns-in-Model-clause-ran g c = rw (c.in-Model.is) c.run-in-Model.ensures.ran
 
 pub returns-in-Click-clause-ran : goal.returns-in-Click-clause-ran
 returns-in-Click-clause-ran g c = rw (c.in-Click.is) c.run-in-Click.ensures.ran
