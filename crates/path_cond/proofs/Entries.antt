@@ -1,43 +1,22 @@
 -- Formulas of a condition, one by one.
-use Rattle.std.proofs.Common.{◌≡◌, ℕ, zero, suc, ◌+◌, ◌<◌, Bool, true, false, cond, ◌&&◌, List, [], ◌∷◌, ◌++◌, length, take, drop, Option, Some, None, refl, sym, ap, ap₂, ◌∙◌, subst, arith}
-use Rattle.std.specs.Prelude.{slice_get, reverse, IfSome, ◌^◌}
+use Rattle.std.proofs.Common.{◌≡◌, ℕ, zero, suc, ◌+◌, ◌<◌, Bool, true, false, cond, ◌&&◌, List, [], ◌∷◌, ◌++◌, length, drop, Option, Some, None, refl, sym, ap, ap₂, ◌∙◌, arith}
+use Rattle.std.specs.Prelude.{slice_get, reverse, IfSome}
 use Rattle.std.specs.List.{list_all, position_from}
-use Rattle.std.proofs.lemmas.Bool.{eqb-true, lt-ltb}
 use Rattle.std.proofs.lemmas.List.{reverse-append, append-nil}
-use Rattle.std.proofs.lemmas.List.Folds.{list_all-append}
-use Rattle.sn_ranges.specs.Ranges.{RangeSet, IsSetOf, IsCanonical, fits_width, is_member}
 use Rattle.sn_width.specs.declared.ids.SymId.{SymId}
 use Rattle.lin_term.specs.Terms.{Part}
-use Rattle.path_formula.specs.Formulas.{FormulaTree, always, compared, belongs, all_of, any_of, opposite, Formulas, no_formulas, formula, truth_at}
+use Rattle.path_formula.specs.Formulas.{FormulaTree, always, compared, belongs, all_of, any_of, opposite, Formulas, no_formulas, formula}
 use Rattle.path_formula.specs.Kinds.{kind_of}
-use Rattle.path_formula.specs.Solutions.{IsOver, agrees, alone}
 use Rattle.path_formula.specs.Typed.{IsTyped, AreTyped, PartsAreTyped}
 use Rattle.path_formula.specs.View.{view}
 use Rattle.path_formula.specs.declared.kinds.Kind.{Kind}
-use Rattle.path_formula.specs.declared.kinds.Kind.TheVariants.{Constant, Simple, Inside, Outside}
-use Rattle.path_cond.specs.Conditions.{Entry, AreSolvable, IsSolvable, AllTyped, entry_holds, meets, is_entry_on, is_simple_on, is_broken, is_broken_kind, broken_after, picks_from, picks_at, IsKept}
+use Rattle.path_cond.specs.Conditions.{Entry, AllTyped, is_entry_on, is_simple_on, is_broken, is_broken_kind, broken_after, picks_from, picks_at, IsKept}
 
 -- a place in a list holds something
 pub not_missing : {X : Type 0} (xs : List X) (i : ℕ) → None ≡ slice_get xs i → i < length xs → ⊥
 not_missing [] i e h = omega arith
 not_missing (x ∷ xs) zero e h = cc
 not_missing (x ∷ xs) (suc i) e h = not_missing xs i e (omega arith)
-
--- what is left from a place on
-pub drop_at : {X : Type 0} (xs : List X) (i : ℕ) (x : X) → slice_get xs i ≡ Some x → drop i xs ≡ x ∷ drop (i + 1) xs
-drop_at [] i x e = cc
-drop_at (y ∷ ys) zero x e = let same : y ≡ x = cc in ap (λ z. z ∷ ys) same
-drop_at (y ∷ ys) (suc i) x e = let next : suc (i + 1) ≡ suc i + 1 = omega arith in drop_at ys i x e ∙ ap (λ k. x ∷ drop k (y ∷ ys)) next
-
-pub take_at : {X : Type 0} (xs : List X) (i : ℕ) (x : X) → slice_get xs i ≡ Some x → take (i + 1) xs ≡ take i xs ++ x ∷ []
-take_at [] i x e = cc
-take_at (y ∷ ys) zero x e = let same : y ≡ x = cc in ap (λ z. z ∷ []) same
-take_at (y ∷ ys) (suc i) x e = let next : suc i + 1 ≡ suc (i + 1) = omega arith in ap (λ k. take k (y ∷ ys)) next ∙ ap (λ zs. y ∷ zs) (take_at ys i x e)
-
-pub solvable_at : (s : SymId) (w : ℕ) (entries : List Entry) (i : ℕ) (e : Entry) → Some e ≡ slice_get entries i → AreSolvable s w entries → IsSolvable s w e
-solvable_at s w [] i e is h = cc
-solvable_at s w (f ∷ entries) zero e is h = let same : f ≡ e = cc in subst (IsSolvable s w) same h.0
-solvable_at s w (f ∷ entries) (suc i) e is h = solvable_at s w entries i e is h.1
 
 -- one more element that a test was tried on
 pub test_step : {X : Type 0} (p : X → Bool) (xs : List X) (i : ℕ) (r : Bool) → i < length xs → IfSome (slice_get xs i) (λ x. r ≡ p x) → list_all p (drop i xs) ≡ (r && list_all p (drop (i + 1) xs))
@@ -50,73 +29,6 @@ test_step p (x ∷ xs) (suc i) r lt h =
 and_all : (b : Bool) → b ≡ b && true
 and_all true = refl
 and_all false = refl
-
-and_regroup : (a b c : Bool) → (a && b) && c ≡ a && (b && c)
-and_regroup true b c = refl
-and_regroup false b c = refl
-
--- a formula that is not simple on the symbol leaves a set as it is
-pub kept_set : (s : SymId) (w : ℕ) (e : Entry) (set : RangeSet) → set.width ≡ w → IsCanonical w set.pairs → is_entry_on s e ≡ false → IsSetOf w (λ x. is_member set.pairs x && meets s (alone s x) e) set
-kept_set s w e set width canonical off = record {
-  same_width = width;
-  canonical = subst (λ n. IsCanonical n set.pairs) (sym width) canonical;
-  members = λ x. and_all (is_member set.pairs x) ∙ ap (λ b. is_member set.pairs x && b) (ap (λ b. cond b (entry_holds (alone s x) e) true) (sym off));
-}
-
-and_fits : (m f h : Bool) → (m ≡ true → f ≡ true) → m && (f && h) ≡ m && h
-and_fits true f h fits = ap (λ b. b && h) (fits refl)
-and_fits false f h fits = refl
-
--- a simple formula leaves of a set what solves it
-pub met_set : (s : SymId) (w : ℕ) (e : Entry) (set more next : RangeSet) → set.width ≡ w → IsCanonical w set.pairs → is_entry_on s e ≡ true
-    → IsSetOf w (λ x. fits_width w x && agrees e.1 (truth_at (view e.0) (alone s x))) more → IsSetOf set.width (λ x. is_member set.pairs x && is_member more.pairs x) next
-    → IsSetOf w (λ x. is_member set.pairs x && meets s (alone s x) e) next
-met_set s w e set more next width canonical on hm hn = record {
-  same_width = hn.same_width ∙ width;
-  canonical = hn.canonical;
-  members = λ x.
-      hn.members x ∙ ap (λ b. is_member set.pairs x && b) (hm.members x)
-      ∙ and_fits (is_member set.pairs x) (fits_width w x) (entry_holds (alone s x) e) (λ m. lt-ltb x (2 ^ w) (canonical.fits x m))
-      ∙ ap (λ b. is_member set.pairs x && cond b (entry_holds (alone s x) e) true) (sym on);
-}
-
-list_all-take : (p : Entry → Bool) (xs : List Entry) (i : ℕ) (x : Entry) → slice_get xs i ≡ Some x → list_all p (take (i + 1) xs) ≡ (list_all p (take i xs) && p x)
-list_all-take p xs i x e = ap (list_all p) (take_at xs i x e) ∙ list_all-append p (take i xs) (x ∷ []) ∙ ap (λ b. list_all p (take i xs) && b) (sym (and_all (p x)))
-
-narrow_to : (s : SymId) (w : ℕ) (xs : List Entry) (i : ℕ) (set next : RangeSet) (o : Option Entry) → slice_get xs i ≡ o → i < length xs
-    → IsSetOf w (λ x. fits_width w x && list_all (meets s (alone s x)) (take i xs)) set
-    → IfSome o (λ e. IsSetOf w (λ x. is_member set.pairs x && meets s (alone s x) e) next)
-    → IsSetOf w (λ x. fits_width w x && list_all (meets s (alone s x)) (take (i + 1) xs)) next
-narrow_to s w xs i set next None is lt hs hn = absurd (not_missing xs i (sym is) lt)
-narrow_to s w xs i set next (Some e) is lt hs hn = record {
-  same_width = hn.same_width;
-  canonical = hn.canonical;
-  members = λ x.
-      hn.members x ∙ ap (λ b. b && meets s (alone s x) e) (hs.members x)
-      ∙ and_regroup (fits_width w x) (list_all (meets s (alone s x)) (take i xs)) (meets s (alone s x) e)
-      ∙ ap (λ b. fits_width w x && b) (sym (list_all-take (meets s (alone s x)) xs i e is));
-}
-
--- one formula more of those that narrow a set
-pub narrow_step : (s : SymId) (w : ℕ) (xs : List Entry) (i : ℕ) (set next : RangeSet) → i < length xs
-    → IsSetOf w (λ x. fits_width w x && list_all (meets s (alone s x)) (take i xs)) set
-    → IfSome (slice_get xs i) (λ e. IsSetOf w (λ x. is_member set.pairs x && meets s (alone s x) e) next)
-    → IsSetOf w (λ x. fits_width w x && list_all (meets s (alone s x)) (take (i + 1) xs)) next
-narrow_step s w xs i set next lt hs hn = narrow_to s w xs i set next (slice_get xs i) refl lt hs hn
-
--- a kind that is simple on the symbol
-pub kind_simple : (s : SymId) (k : Kind) → is_simple_on s k ≡ true → k ≡ Simple s
-kind_simple s (Constant b) h = cc
-kind_simple s (Simple r) h = let same : r.0 ≡ s.0 = eqb-true r.0 s.0 h in λ i. Simple (record { 0 = same i })
-kind_simple s Inside h = cc
-kind_simple s Outside h = cc
-
--- typed formulas may be solved, by the law of formulas
-pub solvable_typed : (s : SymId) (w : ℕ) (widths : List ℕ) → ((f : FormulaTree) (q : SymId) (us : List ℕ) (u : ℕ) → kind_of f ≡ Simple q → IsTyped us f → slice_get us q.0 ≡ Some u → IsOver q u f)
-    → slice_get widths s.0 ≡ Some w → (entries : List Entry) → AllTyped widths entries → AreSolvable s w entries
-solvable_typed s w widths law is [] typed = tt
-solvable_typed s w widths law is (e ∷ entries) typed =
-    (λ on. law (view e.0) s widths w (kind_simple s (kind_of (view e.0)) on) typed.0 is, solvable_typed s w widths law is entries typed.1)
 
 -- a place keeps what it holds where more comes after
 slice_get-more : (xs ys : List ℕ) (i w : ℕ) → slice_get xs i ≡ Some w → slice_get (xs ++ ys) i ≡ Some w

@@ -4,7 +4,6 @@ use Rattle.std.specs.List.{position_from}
 use Rattle.std.specs.Ordering.{nat_cmp}
 use Rattle.sn_tree.specs.Pairs.{value_at}
 use Rattle.sn_width.specs.declared.ids.SymId.{SymId}
-use Rattle.path_formula.specs.Solutions.{IsOver}
 use Rattle.path_formula.specs.View.{view}
 use Rattle.path_formula.specs.declared.formula.Formula.{Formula}
 use Rattle.path_cond.specs.Seen as any
@@ -78,11 +77,3 @@ pub record IsKept (widths : List ℕ) (entries : List Entry) (broken : Option �
   pub typed : AllTyped widths entries
   pub broken_is : broken ≡ position_from is_broken 0 entries
   pub simple_is : (s : SymId) → picks_at s simple ≡ reverse (picks_from s 0 entries)
-
--- where the formula is simple on the symbol, its solutions may be asked for
-abbrev pub IsSolvable : SymId → ℕ → Entry → Type 0
-IsSolvable s width entry = is_entry_on s entry ≡ true → IsOver s width (view entry.0)
-
-abbrev pub AreSolvable : SymId → ℕ → List Entry → Type 0
-AreSolvable s width [] = Unit {0}
-AreSolvable s width (entry ∷ entries) = IsSolvable s width entry × AreSolvable s width entries

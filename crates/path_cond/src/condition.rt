@@ -1,12 +1,11 @@
 //! Path conditions.
 
-ghost use Rattle.std.specs.Prelude.{◌≡◌, ◌<◌, [], ◌∷◌, ◌++◌, ◌&&◌, length, reverse, slice_get, slice_index, unwrap_or, option_copied, IfOk};
+ghost use Rattle.std.specs.Prelude.{◌≡◌, ◌<◌, [], ◌∷◌, ◌++◌, length, reverse, slice_get, unwrap_or, option_copied, IfOk};
 ghost use Rattle.std.specs.Option.{option_map};
-ghost use Rattle.sn_ranges.specs.Ranges.{IsSetOf, fits_width};
 ghost use Rattle.path_formula.specs.Typed.{IsTyped};
 ghost use Rattle.path_formula.specs.View.{view};
 
-use crate::domain::{all_hold, solutions_in};
+use crate::domain::all_hold;
 use crate::kept::{broken_with, simple_with};
 use crate::marks::Marks;
 use crate::sequence::Sequence;
@@ -14,8 +13,6 @@ use crate::singles::Single;
 use crate::summary::Summary;
 use path_formula::Formula;
 use path_formula::case_laws::an_inside_formula_has_cases;
-use path_formula::laws::a_simple_formula_is_over_its_symbol;
-use sn_ranges::Ranges;
 use sn_tree::{Shared, Tree};
 use sn_width::{NoMemory, Num, SymId, Width};
 use std::alloc::Global;
@@ -52,7 +49,7 @@ impl Model for PathCond {
 }
 
 impl PathCond {
-    ghost use Rattle.path_cond.specs.Conditions.{AllTyped, Condition, first_broken, holds_at, in_domain, simple_picks};
+    ghost use Rattle.path_cond.specs.Conditions.{AllTyped, Condition, first_broken, holds_at, simple_picks};
     ghost use Rattle.path_cond.specs.Marks.{has_mark};
     ghost use Rattle.path_cond.specs.Summaries.{coupled_count, coupled_symbols, formula_choices, first_without_cases, inside_picks, is_coupled, outside_picks, singles};
     ghost use Rattle.sn_width.specs.declared.ids.SymId.{SymId as Symbol};
@@ -174,19 +171,6 @@ impl PathCond {
         ensures { result ≡ holds_at self.now values.now }
     {
         all_hold(&self.entries, values)
-    }
-
-    /// The values of the symbol's width that meet each simple formula of the symbol.
-    pub fn domain(&self, alloc: Global, symbol: SymId) -> Result<Ranges, NoMemory>
-        requires { symbol.0 < length self.now.widths }
-        ensures { IfOk result (IsSetOf (slice_index self.now.widths symbol.0)
-            (λ x. fits_width (slice_index self.now.widths symbol.0) x && in_domain symbol self.now x)) }
-    {
-        a_simple_formula_is_over_its_symbol();
-        match self.width(symbol) {
-            None => unreachable!(),
-            Some(width) => solutions_in(alloc, &self.entries, symbol, width),
-        }
     }
 
     /// Says that each formula is typed over the symbols. It does nothing.

@@ -7,7 +7,6 @@ ghost use Rattle.path_cond.specs.Counts.{formula_choices, product, range_count, 
 
 use crate::PathCond;
 use crate::coupled::coupled_symbols;
-use crate::picks::domain_of;
 use path_formula::case_laws::a_set_has_the_ranges_of_its_test;
 use sn_width::{NoMemory, SymId};
 use std::alloc::Global;
@@ -39,7 +38,7 @@ fn count_ranges(alloc: Global, cond: &PathCond, symbol: SymId) -> Result<u64, No
     ensures { IfOk result (λ count. count ≡ range_count cond.now symbol) }
 {
     a_set_has_the_ranges_of_its_test();
-    let set = domain_of(alloc, cond, symbol)?;
+    let set = cond.domain(alloc, symbol)?;
     Ok(set.len() as u64)
 }
 

@@ -18,5 +18,5 @@ mod summary;
 pub use condition::PathCond;
 pub use count::{case_count, case_count_with};
 pub use coupled::{coupled_symbols, formula_count};
-pub use picks::{domain_of, inside_picks, outside_picks, values_meeting};
+pub use picks::{inside_picks, outside_picks, values_meeting};
 pub use singles::Single;

@@ -95,15 +95,16 @@ fn picks_on(alloc: Global, picks: Option<&Shared<u32>>) -> Result<Vec<u32>, NoMe
     }
 }
 
-/// The values of the symbol's width that meet each simple formula of the symbol: those of `PathCond::domain`. Only the
-/// symbol's simple formulas are looked at.
-pub fn domain_of(alloc: Global, cond: &PathCond, symbol: SymId) -> Result<Ranges, NoMemory>
-    requires { symbol.0 < length cond.now.widths }
-    ensures { IfOk result (IsSetOf (slice_index cond.now.widths symbol.0)
-        (λ x. fits_width (slice_index cond.now.widths symbol.0) x && in_domain symbol cond.now x)) }
-{
-    let picks = picks_on(alloc, cond.simple_picks(symbol))?;
-    values_meeting(alloc, cond, symbol, &picks)
+impl PathCond {
+    /// The values of the symbol's width that meet each simple formula of the symbol. Only the symbol's simple formulas are looked at.
+    pub fn domain(&self, alloc: Global, symbol: SymId) -> Result<Ranges, NoMemory>
+        requires { symbol.0 < length self.now.widths }
+        ensures { IfOk result (IsSetOf (slice_index self.now.widths symbol.0)
+            (λ x. fits_width (slice_index self.now.widths symbol.0) x && in_domain symbol self.now x)) }
+    {
+        let picks = picks_on(alloc, self.simple_picks(symbol))?;
+        values_meeting(alloc, self, symbol, &picks)
+    }
 }
 
 /// The picks from the oldest on; they stand the newest first.

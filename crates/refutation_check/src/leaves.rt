@@ -9,7 +9,7 @@ ghost use Rattle.refutation_check.specs.Accepted.{IsUnmeetable, IsDivisible, IsS
 
 use crate::cycle::is_negative_cycle;
 use crate::steps::Refute;
-use path_cond::{PathCond, domain_of, values_meeting};
+use path_cond::{PathCond, values_meeting};
 use path_formula::case_laws::a_set_has_the_ranges_of_its_test;
 use path_formula::{Kind, SymBound, can_split, case_count_of, cases, range_cases};
 use sn_width::{NoMemory, SymId};
@@ -85,7 +85,7 @@ fn cases_of_domain(
     if width.bits() > WIDEST {
         return Ok(None);
     }
-    let set = domain_of(alloc, cond, symbol)?;
+    let set = cond.domain(alloc, symbol)?;
     if set.len() > room {
         return Ok(None);
     }

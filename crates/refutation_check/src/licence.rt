@@ -6,7 +6,7 @@ ghost use Rattle.refutation_check.specs.Decisions.{is_possible, AreManyCoupled, 
 
 use crate::outcome::Cause;
 use crate::values::{agrees, are_candidates, is_outside};
-use path_cond::{PathCond, case_count, domain_of};
+use path_cond::{PathCond, case_count};
 use sn_width::{NoMemory, Num, SymId};
 use std::alloc::Global;
 
@@ -21,7 +21,7 @@ fn has_value(alloc: Global, cond: &PathCond, symbol: SymId) -> Result<bool, NoMe
     requires { symbol.0 < length cond.now.widths }
     ensures { IfOk result (λ yes. IsTrue yes ↔ ((value : ℕ) × (is_possible cond.now symbol value ≡ true))) }
 {
-    let set = domain_of(alloc, cond, symbol)?;
+    let set = cond.domain(alloc, symbol)?;
     Ok(set.least().is_some())
 }
 
