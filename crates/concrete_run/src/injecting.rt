@@ -9,7 +9,7 @@ ghost use Rattle.sefl_meaning.specs.View.{carried_of};
 ghost use Rattle.instr_steps.specs.Scenes.{scene_of};
 ghost use Rattle.concrete_run.specs.Starting.{Goes, OtherAnswer, StartAnswer, TooWideAnswer, operations_of};
 
-use instr_steps::{Numbers, Scene, injected, truth_of, width_of};
+use instr_steps::{Numbers, Scene, injected, truth_of};
 use net_check::{Injection, Net};
 use sefl_meaning::State;
 use sefl_meaning::laws::accepted_injections_go;
@@ -99,7 +99,7 @@ fn first_too_wide(fields: &[RawField], values: &[Num]) -> Option<u64>
     let mut number: usize = 0;
     for field in fields {
         if field.value.is_none() {
-            if values[number] > width_of(&field.target).max() {
+            if values[number] > field.target.width().max() {
                 return Some(number as u64);
             }
             number += 1;

@@ -8,7 +8,7 @@ ghost use Rattle.sefl_meaning.specs.Terms.{compared, looked_up, truth_in, truths
 ghost use Rattle.sefl_meaning.specs.View.{carried_of};
 ghost use Rattle.instr_steps.specs.Scenes.{GivesBy, scene_of, first_width, width_or_64};
 
-use crate::values::{value_of, width_of};
+use crate::values::value_of;
 use cell_values::{Arithmetic, Scene};
 use sefl_meaning::Carried;
 use sefl_syntax::{Cond, Expr, RangeList, Sign};
@@ -128,7 +128,7 @@ fn first_width(expr: &Expr) -> Option<Width>
 {
     match expr {
         Expr::Const(_) => None,
-        Expr::Read(target) => Some(width_of(target)),
+        Expr::Read(target) => Some(target.width()),
         Expr::Sum { first, rest } => {
             if let Some(width) = first_width(first) {
                 return Some(width);

@@ -7,7 +7,6 @@ ghost use Rattle.sefl_meaning.specs.View.{carried_of};
 ghost use Rattle.instr_steps.specs.Scenes.{GivesBy, Leads, scene_of};
 
 use crate::steps::{allocate, put, set_tag};
-use crate::values::width_of;
 use cell_values::{Arithmetic, Scene};
 use header_layers::Layers;
 use metadata_scopes::Scopes;
@@ -90,7 +89,7 @@ fn add_field<A: Arithmetic>(
     ensures { Leads (with_field (A.values at.now.values.now) (scene_of at.now.scene) number field.now
         (carried_of carried.old)) result (carried_of carried.new) }
 {
-    let width = width_of(&field.target);
+    let width = field.target.width();
     let value = field_value(alloc, at.values, width, number, field.value)?;
     allocate(alloc, &at.scene, carried, &field.target)?;
     put(alloc, &at.scene, carried, &field.target, value)

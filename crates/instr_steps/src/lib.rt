@@ -10,4 +10,4 @@ pub use cell_values::{Arithmetic, Numbers, Scene, reduced};
 pub use conditions::truth_of;
 pub use injecting::injected;
 pub use steps::{allocate, assign, create_tag, deallocate, destroy_tag, put, set_tag};
-pub use values::{value_of, width_of};
+pub use values::value_of;

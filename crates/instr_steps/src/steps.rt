@@ -1,13 +1,12 @@
 //! Instructions without tests, blocks and ports.
 
 ghost use Rattle.cell_stacks.specs.Outcome.{Meets};
-ghost use Rattle.job_items.specs.AtomRules.{width_of};
 ghost use Rattle.sefl_syntax.specs.Views.{expr_tree};
 ghost use Rattle.sefl_meaning.specs.Steps.{allocated, assigned, deallocated, evaluated, tag_created, tag_destroyed, tag_set};
 ghost use Rattle.sefl_meaning.specs.View.{carried_of};
 ghost use Rattle.instr_steps.specs.Scenes.{scene_of};
 
-use crate::values::{value_of, width_of};
+use crate::values::value_of;
 use cell_values::{Arithmetic, Scene};
 use sefl_meaning::Carried;
 use sefl_syntax::{Addr, Expr, Name, Target};
@@ -111,7 +110,7 @@ pub fn assign<A: Arithmetic>(
     ensures { Meets (evaluated (A.values o.now) (scene_of at.now) target.now (expr_tree value.now)
         (carried_of state.old)) result (carried_of state.old) (carried_of state.new) }
 {
-    let value = value_of(alloc, o, at, state, width_of(target), value)?;
+    let value = value_of(alloc, o, at, state, target.width(), value)?;
     put(alloc, at, state, target, value)
 }
 

@@ -3,7 +3,6 @@
 ghost use Rattle.std.specs.Prelude.{◌≡◌};
 ghost use Rattle.sefl_syntax.specs.Views.{expr_tree, summand_trees};
 ghost use Rattle.cell_stacks.specs.Outcome.{Gives, lent};
-ghost use Rattle.job_items.specs.AtomRules.{width_of};
 ghost use Rattle.sefl_meaning.specs.Carried.{read_at};
 ghost use Rattle.sefl_meaning.specs.Terms.{sum_in, value_in};
 ghost use Rattle.sefl_meaning.specs.View.{carried_of};
@@ -14,17 +13,6 @@ use sefl_meaning::Carried;
 use sefl_syntax::{Expr, Sign, Target};
 use sn_width::{LayoutFault, StepFault, Width};
 use std::alloc::Global;
-
-/// The width of a reference.
-pub fn width_of(target: &Target) -> Width
-    ensures { result ≡ width_of target.now }
-{
-    match target {
-        Target::Header { width, .. } => *width,
-        Target::Meta { width, .. } => *width,
-        Target::Bound { width, .. } => *width,
-    }
-}
 
 /// What a reference reads at a width.
 fn read<'a, V: Drop>(

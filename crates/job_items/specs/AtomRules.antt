@@ -3,13 +3,8 @@ use Rattle.std.specs.Prelude.{ℕ, Bool, false, not, ◌||◌, ◌==◌, nat_lt,
 use Rattle.std.specs.List.{list_any, list_all}
 use Rattle.sn_width.specs.Width.{max_value}
 use Rattle.sefl_syntax.specs.declared.reference.Target.{Target}
-use Rattle.sefl_syntax.specs.declared.reference.Target.TheVariants.{Header, Meta, Bound}
+pub use Rattle.sefl_syntax.specs.Widths.{width_of}
 use Rattle.job_items.specs.Atoms.{Atom}
-
-abbrev pub width_of : Target → ℕ
-width_of (Header addr width) = width
-width_of (Meta scope name width) = width
-width_of (Bound var width) = width
 
 -- the width of the first reference, and 64 bits where there is none
 abbrev pub common_width : List Target → ℕ

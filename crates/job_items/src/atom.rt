@@ -107,7 +107,7 @@ impl<'a> Atom<'a> {
     {
         match self.reads.as_slice() {
             [] => Num::from(u64::MAX),
-            [first, ..] => width_of(first).max(),
+            [first, ..] => first.width().max(),
         }
     }
 
@@ -117,7 +117,7 @@ impl<'a> Atom<'a> {
     {
         match self.reads.as_slice() {
             [] => false,
-            [first, rest @ ..] => !have_width(rest, width_of(first)),
+            [first, rest @ ..] => !have_width(rest, first.width()),
         }
     }
 
@@ -165,23 +165,12 @@ impl<'a> Atom<'a> {
     }
 }
 
-/// The width of a reference.
-pub fn width_of(target: &Target) -> Width
-    ensures { result ≡ width_of target.now }
-{
-    match target {
-        Target::Header { width, .. } => *width,
-        Target::Meta { width, .. } => *width,
-        Target::Bound { width, .. } => *width,
-    }
-}
-
 /// Whether all references have this width.
 fn have_width(reads: &[&Target], width: Width) -> bool
     ensures { result ≡ list_all (λ target. width_of target == width) (lent reads.now) }
 {
     for target in reads {
-        if width_of(target) != width {
+        if target.width() != width {
             return false;
         }
     }

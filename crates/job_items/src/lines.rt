@@ -11,7 +11,7 @@ ghost use Rattle.job_items.specs.LentTags.{lent_tags};
 ghost use Rattle.job_items.specs.Progress.{progress_of, outcome_from, Follows};
 ghost use Rattle.job_items.specs.Rules.{early_breach, differs_from, injected_width, is_at, is_same_address, is_same_scope, reads_at_other_width, reads_what_is_not_injected};
 
-use crate::atom::{Atom, width_of};
+use crate::atom::Atom;
 use crate::atoms::{any_mixed, any_reversed, any_too_wide, cond_atoms, lone_atom};
 use crate::halt::Halt;
 use crate::place::{Vars, any_loose};
@@ -107,7 +107,7 @@ fn reads_at_other_width<'a>(
         (width_of target)) (lent reads.now) }
 {
     for target in reads {
-        if differs_from(injected_width(tags, fields, target), width_of(target)) {
+        if differs_from(injected_width(tags, fields, target), target.width()) {
             return true;
         }
     }
@@ -165,7 +165,7 @@ fn injected_width<'a>(
 {
     for field in fields {
         if is_at(tags, target, &field.target) {
-            return Some(width_of(&field.target));
+            return Some(field.target.width());
         }
     }
     None

@@ -113,9 +113,5 @@ fn bits_of(target: &Target) -> u8
     ensures least { 1 ≤ result }
     ensures most { result ≤ 128 }
 {
-    match target {
-        Target::Header { width, .. } => width.bits(),
-        Target::Meta { width, .. } => width.bits(),
-        Target::Bound { width, .. } => width.bits(),
-    }
+    target.width().bits()
 }

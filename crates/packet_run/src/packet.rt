@@ -14,7 +14,7 @@ ghost use Rattle.code_frames.specs.Steps.{done_by};
 ghost use Rattle.packet_run.specs.Packets.{RunsAs, given_of, progress_of};
 
 use code_frames::{Exit, Frame, Machine, Move, answer, next, take_plain};
-use instr_steps::{Numbers, Scene, put, truth_of, width_of};
+use instr_steps::{Numbers, Scene, put, truth_of};
 use net_check::Net;
 use sefl_meaning::laws::runs_are_ways;
 use sefl_meaning::{Decision, End, Place, State, Walk};
@@ -159,7 +159,7 @@ fn choose(
         (carried_of state.old, choices.old.items))
         result (carried_of state.old, choices.old.items) (carried_of state.new, choices.new.items) }
 {
-    let width = width_of(target);
+    let width = target.width();
     let value = o.choice(width, choices.len());
     choices.push(width)?;
     match put(alloc, at, state, target, value) {

@@ -4,25 +4,12 @@ use Rattle.std.specs.List.{list_any, position_from}
 use Rattle.sn_width.specs.declared.ids.SymId.{SymId}
 use Rattle.path_formula.specs.Formulas.{FormulaTree}
 use Rattle.path_formula.specs.Kinds.{kind_of}
-use Rattle.path_formula.specs.declared.kinds.Kind.{Kind}
-use Rattle.path_formula.specs.declared.kinds.Kind.TheVariants.{Constant, Simple, Inside, Outside}
+pub use Rattle.path_formula.specs.Kinds.{is_inside_kind, is_outside_kind}
 use Rattle.path_formula.specs.Bounds.{Case}
 use Rattle.path_formula.specs.Cases.{cases_of}
 use Rattle.path_cond.specs.Occurring.{occurs_in, symbols_from}
 use Rattle.path_cond.specs.Seen.{ConditionOf}
 use Rattle.path_cond.specs.declared.singles.Single.{Single}
-
-abbrev pub is_inside_kind : Kind → Bool
-is_inside_kind (Constant truth) = false
-is_inside_kind (Simple s) = false
-is_inside_kind Inside = true
-is_inside_kind Outside = false
-
-abbrev pub is_outside_kind : Kind → Bool
-is_outside_kind (Constant truth) = false
-is_outside_kind (Simple s) = false
-is_outside_kind Inside = false
-is_outside_kind Outside = true
 
 abbrev pub product : List ℕ → ℕ
 product [] = 1

@@ -5,6 +5,7 @@ use Rattle.sn_width.specs.declared.ids.SymId.{SymId}
 use Rattle.sn_ranges.specs.Ranges.{fits_width}
 use Rattle.path_formula.specs.Formulas.{FormulaTree, truth_at}
 use Rattle.path_formula.specs.Kinds.{kind_of}
+pub use Rattle.path_formula.specs.Kinds.{is_simple_on}
 use Rattle.path_formula.specs.Solutions.{agrees, alone}
 use Rattle.path_formula.specs.Typed.{IsTyped}
 use Rattle.path_formula.specs.declared.kinds.Kind.{Kind}
@@ -14,13 +15,6 @@ use Rattle.path_formula.specs.declared.kinds.Kind.TheVariants.{Constant, Simple,
 pub record ConditionOf (X : Type 0) : Type 0 where
   pub widths : List ℕ
   pub entries : List (X × Bool)
-
--- the kind is simple on the symbol
-abbrev pub is_simple_on : SymId → Kind → Bool
-is_simple_on s (Constant truth) = false
-is_simple_on s (Simple r) = r.0 == s.0
-is_simple_on s Inside = false
-is_simple_on s Outside = false
 
 -- a formula of this kind is constant, and has not the truth that it must have
 abbrev pub is_broken_kind : Bool → Kind → Bool

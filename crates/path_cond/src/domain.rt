@@ -2,7 +2,6 @@
 
 ghost use Rattle.std.specs.Prelude.{◌≡◌, ◌<◌, length, slice_get, IfSome};
 ghost use Rattle.std.specs.List.{list_all};
-ghost use Rattle.path_formula.specs.Solutions.{agrees as agreement};
 ghost use Rattle.path_cond.specs.Conditions.{entry_holds};
 
 use crate::sequence::Sequence;
@@ -28,13 +27,6 @@ fn holds_at(entries: &Sequence<(Formula, bool)>, pick: u32, values: &[Num]) -> b
 {
     match entries.get(pick) {
         None => unreachable!(),
-        Some(entry) => agrees(entry.1, entry.0.truth(values)),
+        Some(entry) => entry.0.agrees(entry.1, values),
     }
-}
-
-/// Whether the truth is the one that it must be.
-fn agrees(holds: bool, truth: bool) -> bool
-    ensures { result ≡ agreement holds truth }
-{
-    if holds { truth } else { !truth }
 }

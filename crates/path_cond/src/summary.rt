@@ -6,7 +6,7 @@ ghost use Rattle.path_formula.specs.View.{view};
 ghost use Rattle.path_formula.specs.CaseCounts.{capped};
 ghost use Rattle.path_formula.specs.Splits.{CanSplit};
 ghost use Rattle.path_cond.specs.Conditions.{Entry, broken_after};
-ghost use Rattle.path_cond.specs.Summaries.{IsKnown, entry_case_count, is_inside_kind, is_outside_kind};
+ghost use Rattle.path_cond.specs.Summaries.{IsKnown, entry_case_count, is_inside_kind};
 
 use crate::marks::{Marks, marked};
 use crate::sequence::Sequence;
@@ -31,28 +31,6 @@ pub(crate) struct Summary {
     pub(crate) caseless: Option<u32>,
     /// A mark for each symbol that occurs in an inside formula.
     pub(crate) marks: Marks,
-}
-
-fn is_inside(kind: Kind) -> bool
-    ensures { result ≡ is_inside_kind kind }
-{
-    match kind {
-        Kind::Constant(_) => false,
-        Kind::Simple { .. } => false,
-        Kind::Inside => true,
-        Kind::Outside => false,
-    }
-}
-
-fn is_outside(kind: Kind) -> bool
-    ensures { result ≡ is_outside_kind kind }
-{
-    match kind {
-        Kind::Constant(_) => false,
-        Kind::Simple { .. } => false,
-        Kind::Inside => false,
-        Kind::Outside => true,
-    }
 }
 
 /// The same picks.
@@ -99,7 +77,7 @@ fn count_of(alloc: Global, formula: &Formula, holds: bool, kind: Kind) -> Result
     requires splits { is_inside_kind kind ≡ true → CanSplit (view formula.now) }
     ensures { IfOk result (λ n. n ≡ capped (entry_case_count (formula.now, holds))) }
 {
-    if is_inside(kind) {
+    if kind.is_inside() {
         case_count_of(alloc, formula, holds)
     } else {
         Ok(1)
@@ -110,7 +88,7 @@ fn count_of(alloc: Global, formula: &Formula, holds: bool, kind: Kind) -> Result
 fn is_single(kind: Kind, cases: u64) -> bool
     ensures { result ≡ (is_inside_kind kind && cases == 1) }
 {
-    is_inside(kind) && cases == 1
+    kind.is_inside() && cases == 1
 }
 
 impl Summary {
@@ -160,7 +138,7 @@ impl Summary {
             → IsKnown (entries ++ (formula.now, holds) ∷ []) k) }
     {
         let cases = count_of(alloc, formula, holds, kind)?;
-        let splits = is_inside(kind);
+        let splits = kind.is_inside();
         let inside = push_where(alloc, &self.inside, splits, pick)?;
         let marks = marked(alloc, &self.marks, formula, splits)?;
         let singles = singles_with(
@@ -171,7 +149,7 @@ impl Summary {
             is_single(kind, cases),
             pick,
         )?;
-        let outside = push_where(alloc, &self.outside, is_outside(kind), pick)?;
+        let outside = push_where(alloc, &self.outside, kind.is_outside(), pick)?;
         Ok(Summary {
             inside,
             outside,

@@ -93,3 +93,22 @@ kind_among truth atoms =
 -- one is single; outside where one is outside, or one that is not constant is wider than 64 bits; inside else
 abbrev pub kind_of : FormulaTree → Kind
 kind_of f = kind_among (truth_at f []) (atoms_of f)
+
+abbrev pub is_inside_kind : Kind → Bool
+is_inside_kind (OneTruth truth) = false
+is_inside_kind (Simple s) = false
+is_inside_kind Inside = true
+is_inside_kind Beyond = false
+
+abbrev pub is_outside_kind : Kind → Bool
+is_outside_kind (OneTruth truth) = false
+is_outside_kind (Simple s) = false
+is_outside_kind Inside = false
+is_outside_kind Beyond = true
+
+-- the kind is simple on the symbol
+abbrev pub is_simple_on : SymId → Kind → Bool
+is_simple_on s (OneTruth truth) = false
+is_simple_on s (Simple r) = r.0 == s.0
+is_simple_on s Inside = false
+is_simple_on s Beyond = false

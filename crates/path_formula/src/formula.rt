@@ -49,6 +49,17 @@ impl Formula {
         truth_of(self, values)
     }
 
+    /// Whether the formula has the truth that it must have, at these values.
+    pub fn agrees(&self, holds: bool, values: &[Num]) -> bool
+        ensures { result ≡ agrees holds (truth_at (view self.now) values.now) }
+    {
+        if holds {
+            self.truth(values)
+        } else {
+            !self.truth(values)
+        }
+    }
+
     /// An equal formula.
     pub fn copy(&self, alloc: Global) -> Result<Formula, NoMemory>
         ensures same { IfOk result (λ copy. view copy ≡ view self.now) }

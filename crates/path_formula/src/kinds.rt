@@ -1,7 +1,7 @@
 //! The kind of a formula.
 
 ghost use Rattle.std.specs.Prelude.{◌≡◌, ◌||◌};
-ghost use Rattle.path_formula.specs.Kinds.{is_hard, atoms_of, atoms_among, kind_of};
+ghost use Rattle.path_formula.specs.Kinds.{atoms_of, atoms_among, is_hard, is_inside_kind, is_outside_kind, is_simple_on, kind_of};
 ghost use Rattle.path_formula.specs.Summaries.{symbols_with, blank, noted, noted_atom};
 ghost use Rattle.path_formula.specs.View.{view, views};
 
@@ -21,6 +21,44 @@ pub enum Kind {
     Inside,
     /// More than that.
     Outside,
+}
+
+impl Kind {
+    /// Whether the formula is inside.
+    pub fn is_inside(self) -> bool
+        ensures { result ≡ is_inside_kind self }
+    {
+        match self {
+            Kind::Constant(_) => false,
+            Kind::Simple { .. } => false,
+            Kind::Inside => true,
+            Kind::Outside => false,
+        }
+    }
+
+    /// Whether the formula is outside.
+    pub fn is_outside(self) -> bool
+        ensures { result ≡ is_outside_kind self }
+    {
+        match self {
+            Kind::Constant(_) => false,
+            Kind::Simple { .. } => false,
+            Kind::Inside => false,
+            Kind::Outside => true,
+        }
+    }
+
+    /// Whether the formula is simple on the symbol.
+    pub fn is_on(self, symbol: SymId) -> bool
+        ensures { result ≡ is_simple_on symbol self }
+    {
+        match self {
+            Kind::Simple { symbol: found } => found == symbol,
+            Kind::Constant(_) => false,
+            Kind::Inside => false,
+            Kind::Outside => false,
+        }
+    }
 }
 
 /// What the atoms so far that are not constant are single on.

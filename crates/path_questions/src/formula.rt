@@ -16,7 +16,7 @@ ghost use Rattle.path_questions.specs.Deciding.{entry_of, net_of};
 use crate::question::{InjectedField, Question};
 use crate::reading::read;
 use crate::subject::Subject;
-use instr_steps::{Arithmetic, Scene, truth_of, width_of};
+use instr_steps::{Arithmetic, Scene, truth_of};
 use lin_term::Term;
 use net_check::Net;
 use path_formula::Formula;
@@ -86,7 +86,7 @@ fn injected(alloc: Global, unknowns: u64, field: &InjectedField<'_>) -> Result<T
     ensures { IfOk result (λ t. t ≡ injected_value (terms unknowns) (field_seen field.now)) }
 {
     let o = Terms { unknowns };
-    let width = width_of(field.target);
+    let width = field.target.width();
     match field.given {
         None => o.unknown(alloc, width, field.number),
         Some(number) => o.constant(alloc, width, number),
@@ -106,7 +106,7 @@ fn difference(
         state.now.carried) }
 {
     let o = Terms { unknowns };
-    let width = width_of(field.target);
+    let width = field.target.width();
     match read(net, node, state, width, field.target) {
         Ok(value) => {
             let left = value.copy(alloc)?;

@@ -3,7 +3,7 @@
 ghost use Rattle.std.specs.Prelude.{◌≡◌, ◌<◌, ◌≤◌, ◌-◌, ◌++◌, length, drop, slice_get, IfOk, IfSome};
 ghost use Rattle.std.specs.List.{list_all, position_from};
 ghost use Rattle.interval_solver.specs.Domains.{AreDomainsOf};
-ghost use Rattle.refutation_check.specs.Least.{first_broken_outside, holds_unless_outside, is_broken_outside, is_outside_kind};
+ghost use Rattle.refutation_check.specs.Least.{first_broken_outside, holds_unless_outside, is_broken_outside};
 ghost use Rattle.refutation_check.specs.Longer.{zeros};
 ghost use Rattle.path_solver.specs.Bases.{IsBaseOf, IsOnBase};
 
@@ -11,7 +11,6 @@ use crate::moved::move_value;
 use crate::outside::first_broken_outside;
 use interval_solver::Domains;
 use path_cond::{PathCond, formula_count};
-use path_formula::Kind;
 use refutation_check::Listed;
 use refutation_check::laws::least_values_stay;
 use sn_width::{NoMemory, Num};
@@ -28,17 +27,6 @@ pub struct Base {
     pub broken: Option<u32>,
 }
 
-fn is_outside(kind: Kind) -> bool
-    ensures { result ≡ is_outside_kind kind }
-{
-    match kind {
-        Kind::Constant(_) => false,
-        Kind::Simple { .. } => false,
-        Kind::Inside => false,
-        Kind::Outside => true,
-    }
-}
-
 /// Whether the formula of the pick is outside, or has the truth that it must have.
 fn holds_at(cond: &PathCond, pick: u32, values: &[Num]) -> bool
     requires { pick < length cond.now.entries }
@@ -46,7 +34,7 @@ fn holds_at(cond: &PathCond, pick: u32, values: &[Num]) -> bool
 {
     match cond.entry(pick) {
         None => unreachable!(),
-        Some((formula, holds)) => is_outside(formula.kind()) || formula.truth(values) == holds,
+        Some((formula, holds)) => formula.kind().is_outside() || formula.truth(values) == holds,
     }
 }
 
@@ -120,7 +108,7 @@ fn is_broken_at(cond: &PathCond, pick: u32, values: &[Num]) -> bool
 {
     match cond.entry(pick) {
         None => unreachable!(),
-        Some((formula, holds)) => is_outside(formula.kind()) && formula.truth(values) != holds,
+        Some((formula, holds)) => formula.kind().is_outside() && formula.truth(values) != holds,
     }
 }
 

@@ -4,31 +4,18 @@ ghost use Rattle.std.specs.Prelude.{◌≡◌, ◌≤◌, length, ◌↔◌, tru
 ghost use Rattle.path_formula.specs.Bounds.{Case, lists_of};
 ghost use Rattle.path_cond.specs.Counts.{domain_cases};
 ghost use Rattle.path_cond.specs.Picks.{are_simple_picks, is_simple_pick};
-ghost use Rattle.path_cond.specs.Conditions.{is_simple_on};
 ghost use Rattle.refutation_check.specs.Accepted.{IsUnmeetable, IsDivisible, IsSplitInto, Leaves};
 
 use crate::cycle::is_negative_cycle;
 use crate::steps::Refute;
 use path_cond::{PathCond, values_meeting};
 use path_formula::case_laws::a_set_has_the_ranges_of_its_test;
-use path_formula::{Kind, SymBound, can_split, case_count_of, cases, range_cases};
+use path_formula::{SymBound, can_split, case_count_of, cases, range_cases};
 use sn_width::{NoMemory, SymId};
 use std::alloc::Global;
 
 /// The widest symbol whose domain may be divided, in bits.
 const WIDEST: u8 = 64;
-
-/// Whether the kind is simple on the symbol.
-fn is_on(kind: Kind, symbol: SymId) -> bool
-    ensures { result ≡ is_simple_on symbol kind }
-{
-    match kind {
-        Kind::Simple { symbol: found } => found == symbol,
-        Kind::Constant(_) => false,
-        Kind::Inside => false,
-        Kind::Outside => false,
-    }
-}
 
 /// Whether the formula of the pick is simple on the symbol.
 fn is_simple(cond: &PathCond, symbol: SymId, pick: u32) -> bool
@@ -36,7 +23,7 @@ fn is_simple(cond: &PathCond, symbol: SymId, pick: u32) -> bool
 {
     match cond.entry(pick) {
         None => false,
-        Some((formula, _)) => is_on(formula.kind(), symbol),
+        Some((formula, _)) => formula.kind().is_on(symbol),
     }
 }
 

@@ -5,7 +5,7 @@ ghost use Rattle.sn_width.specs.declared.ids.SymId.{SymId as Symbol};
 ghost use Rattle.refutation_check.specs.Decisions.{is_possible, AreManyCoupled, AreManyChoices, AreBreaking, IsSimplyOpen, IsLicensed};
 
 use crate::outcome::Cause;
-use crate::values::{agrees, are_candidates, is_outside};
+use crate::values::are_candidates;
 use path_cond::{PathCond, case_count};
 use sn_width::{NoMemory, Num, SymId};
 use std::alloc::Global;
@@ -73,7 +73,7 @@ fn are_breaking(cond: &PathCond, pick: u32, values: &[Num]) -> Result<bool, NoMe
     match cond.entry(pick) {
         None => Ok(false),
         Some((formula, holds)) => {
-            if !is_outside(formula.kind()) || agrees(holds, formula.truth(values)) {
+            if !formula.kind().is_outside() || formula.agrees(holds, values) {
                 return Ok(false);
             }
             are_candidates(cond, values)

@@ -2,30 +2,10 @@
 
 ghost use Rattle.std.specs.Prelude.{◌≡◌, ◌<◌, ◌↔◌, length, slice_get, IsTrue, IfOk, IfSome};
 ghost use Rattle.std.specs.List.{list_all};
-ghost use Rattle.path_formula.specs.Solutions.{agrees as agreement};
-ghost use Rattle.refutation_check.specs.Least.{AreFitting, AreCandidates, is_outside_kind, holds_unless_outside, FitsAt};
+ghost use Rattle.refutation_check.specs.Least.{AreFitting, AreCandidates, holds_unless_outside, FitsAt};
 
 use path_cond::{PathCond, formula_count};
-use path_formula::Kind;
 use sn_width::{NoMemory, Num, SymId};
-
-pub(crate) fn is_outside(kind: Kind) -> bool
-    ensures { result ≡ is_outside_kind kind }
-{
-    match kind {
-        Kind::Constant(_) => false,
-        Kind::Simple { .. } => false,
-        Kind::Inside => false,
-        Kind::Outside => true,
-    }
-}
-
-/// Whether the truth is the one that it must be.
-pub(crate) fn agrees(holds: bool, truth: bool) -> bool
-    ensures { result ≡ agreement holds truth }
-{
-    if holds { truth } else { !truth }
-}
 
 /// Whether the number is a value of the width of the symbol of this place.
 fn fits_at(cond: &PathCond, place: usize, value: Num) -> bool
@@ -60,8 +40,7 @@ fn holds_at(cond: &PathCond, pick: u32, values: &[Num]) -> bool
 {
     match cond.entry(pick) {
         None => unreachable!(),
-        Some((formula, holds)) => is_outside(formula.kind())
-            || agrees(holds, formula.truth(values)),
+        Some((formula, holds)) => formula.kind().is_outside() || formula.agrees(holds, values),
     }
 }
 

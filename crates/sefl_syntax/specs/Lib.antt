@@ -10,5 +10,6 @@ pub mod Text
 pub mod TermText
 pub mod Trees
 pub mod Views
+pub mod Widths
 -- What functions inside promise each other.
 pub mod Clipped

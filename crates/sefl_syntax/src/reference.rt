@@ -1,7 +1,8 @@
 //! What an instruction names: header cells, metadata, and what a For stands at.
 
-ghost use Rattle.std.specs.Prelude.{Some};
+ghost use Rattle.std.specs.Prelude.{◌≡◌, Some};
 ghost use Rattle.sefl_syntax.specs.TermText.{addr_text, scope_text, target_text};
+ghost use Rattle.sefl_syntax.specs.Widths.{width_of};
 
 use crate::name::Name;
 use sn_width::Width;
@@ -40,6 +41,19 @@ pub enum Target {
         var: Name,
         width: Width,
     },
+}
+
+impl Target {
+    /// The width of the reference.
+    pub fn width(&self) -> Width
+        ensures { result ≡ width_of self.now }
+    {
+        match self {
+            Target::Header { width, .. } => *width,
+            Target::Meta { width, .. } => *width,
+            Target::Bound { width, .. } => *width,
+        }
+    }
 }
 
 impl fmt::Display for Scope {

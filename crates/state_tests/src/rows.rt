@@ -9,7 +9,6 @@ use cell_stacks::Cell;
 use concrete_run::start;
 use instr_steps::{
     Numbers, Scene, allocate, assign, create_tag, deallocate, destroy_tag, put, set_tag, truth_of,
-    width_of,
 };
 use lin_term::Term;
 use net_check::Accepted;
@@ -103,7 +102,7 @@ fn step_in_numbers(
         Instr::Deallocate(target) => deallocate(alloc, at, state, target),
         Instr::Assign { target, value } => assign(alloc, o, at, state, target, value),
         Instr::AssignAny(target) => {
-            let number = o.choice(width_of(target), choice);
+            let number = o.choice(target.width(), choice);
             put(alloc, at, state, target, number)
         }
         Instr::CreateTag { name, addr } => create_tag(alloc, at, state, name, addr),

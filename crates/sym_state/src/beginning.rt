@@ -10,7 +10,7 @@ ghost use Rattle.sym_state.specs.Beginning.{AsksAs, Begins, BegunAs, CarriesAs, 
 ghost use Rattle.term_values.specs.TermValues.{terms};
 
 use crate::state::SymState;
-use instr_steps::{Scene, injected, width_of};
+use instr_steps::{Scene, injected};
 use lin_term::Term;
 use net_check::{Injection, Net};
 use path_cond::PathCond;
@@ -126,7 +126,7 @@ fn widths_of(alloc: Global, fields: &[RawField]) -> Result<Vec<Width>, NoMemory>
     let mut widths = Vec::new(alloc);
     for field in fields {
         if field.value.is_none() {
-            widths.push(width_of(&field.target))?;
+            widths.push(field.target.width())?;
         }
     }
     Ok(widths)

@@ -15,9 +15,7 @@ ghost use Rattle.term_values.specs.Fits.{typed_fits};
 ghost use Rattle.term_values.specs.TermValues.{symbol_term, terms};
 
 use crate::state::SymState;
-use instr_steps::{
-    Scene, allocate, assign, create_tag, deallocate, destroy_tag, put, set_tag, width_of,
-};
+use instr_steps::{Scene, allocate, assign, create_tag, deallocate, destroy_tag, put, set_tag};
 use lin_term::Term;
 use net_check::Net;
 use sefl_meaning::laws::{expressions_keep, steps_commute, steps_keep, valuing_commutes};
@@ -149,7 +147,7 @@ impl SymState {
     {
         steps_keep::<Term>();
         terms_keep_types();
-        let width = width_of(target);
+        let width = target.width();
         let term = self.trace.next_symbol(alloc, width)?;
         let trace = self.trace.with_symbol(alloc, width)?;
         put(alloc, at, &mut self.carried, target, term)?;

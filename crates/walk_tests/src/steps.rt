@@ -5,7 +5,7 @@ use crate::jobs::{accepted, job_of, nothing};
 use crate::same::check;
 use instr_steps::{
     Numbers, Scene, allocate, assign, create_tag, deallocate, destroy_tag, put, reduced, set_tag,
-    truth_of, value_of, width_of as width_at,
+    truth_of, value_of,
 };
 use net_check::{Accepted, Net};
 use sefl_meaning::{Iteration, State};
@@ -112,7 +112,7 @@ fn step(
         Instr::Deallocate(target) => deallocate(alloc, at, state, target),
         Instr::Assign { target, value } => assign(alloc, &o, at, state, target, value),
         Instr::AssignAny(target) => {
-            let choice = o.choice(width_at(target), 0);
+            let choice = o.choice(target.width(), 0);
             put(alloc, at, state, target, choice)
         },
         Instr::CreateTag { name, addr } => create_tag(alloc, at, state, name, addr),
@@ -241,7 +241,7 @@ fn put_seven(rt: &impl Abort, alloc: Global, here: &mut Here, cell: &Target) {
 fn assert_put(rt: &impl Abort, alloc: Global, here: &mut Here) {
     let job = job(rt, alloc, "allocate head T+8:8;");
     let cell = allocated(rt, &job);
-    assert!(rt; width_at(cell) == width_of(rt, 8));
+    assert!(rt; cell.width() == width_of(rt, 8));
     put_seven(rt, alloc, here, cell);
     drop(job);
 }

@@ -9,7 +9,7 @@ returns-then-values-number c =
     let f = c.field-item.result in
     wide_unknown c.args.fields.now c.loop-field.field-index c.args.values.now c.loop-field.number f (get_or c.args.values.now c.loop-field.number 0)
     c.loop-field-test.true c.field-item.is (none_of f.value c.is_none.result c.is_none.ensures c.if-is_none.true) refl
-    (wide_above (width_of f.target) c.width_of.result c.max.result (get_or c.args.values.now c.loop-field.number 0) c.width_of.ensures c.max.ensures.value c.if-values-number.true)
+    (wide_above (width_of f.target) c.width.result c.max.result (get_or c.args.values.now c.loop-field.number 0) c.width.ensures c.max.ensures.value c.if-values-number.true)
     c.loop-field.invariant
 
 pub loop-field-preserved : goal.loop-field-preserved

@@ -17,7 +17,7 @@ returns g c =
     let mid = carried_of c.allocate.new.state in
     let new = carried_of c.put.new.state in
     let value = field_value o (width_of f.target) n f.value in
-    let same = value_same o c.in_ok-value.value c.width_of-width.result (width_of f.target) n f.value c.in_ok-value.ensures c.width_of-width.ensures in
+    let same = value_same o c.in_ok-value.value c.width-width.result (width_of f.target) n f.value c.in_ok-value.ensures c.width-width.ensures in
     goes_on (allocated at f.target old) (assigned at f.target value) (with_field o at n f old) c.put.result mid new refl c.in_ok-allocate.ensures
     (leads (assigned at f.target value mid) c.put.result mid new
     (put_same at f.target c.in_ok-value.value value mid new c.put.result same c.put.ensures))

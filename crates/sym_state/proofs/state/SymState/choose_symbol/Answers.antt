@@ -20,7 +20,7 @@ invariant_of-self-2 c =
     let widths = old.widths in
     let at = scene_of c.args.at.now in
     let target = c.args.target.now in
-    let w = c.width_of-width.result in
+    let w = c.width-width.result in
     let more = widths ++ w ∷ [] in
     let s = carried_of c.self.inside.carried in
     let term = c.in_ok-term.term in
@@ -30,7 +30,7 @@ invariant_of-self-2 c =
     let keeps = c.terms_keep_types.ensures.symbols [] in
     let fits : CarriedFits (typed_fits more) s = c.steps_keep.ensures.weaker (typed_fits widths) (typed_fits more) s (λ n t h. keeps.wider widths w n t h) c.self.invariant.fits in
     let new : Fits (typed_fits more) w term = subst (λ (t : LinearTerm). Fits (typed_fits more) w t) (sym is) (keeps.unknown widths w) in
-    let at_target : Fits (typed_fits more) (width_of target) term = subst (λ (n : ℕ). Fits (typed_fits more) n term) c.width_of-width.ensures new in
+    let at_target : Fits (typed_fits more) (width_of target) term = subst (λ (n : ℕ). Fits (typed_fits more) n term) c.width-width.ensures new in
     record {
       fits = subst (λ (l : List ℕ). CarriedFits (typed_fits l) (carried_of c.put.new.state)) (sym same)
           (left_by (CarriedFits (typed_fits more)) (assigned at target term s) c.put.result s (carried_of c.put.new.state) c.put.ensures
