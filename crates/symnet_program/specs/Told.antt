@@ -1,12 +1,15 @@
--- How the program may stop in a world, and what that tells of the job of `walk`.
+-- What is said of a run in a world: how it may stop, and which job it read.
 use Rattle.std.specs.Prelude.{ℕ, ◌≡◌, ◌≤◌, Bool, List, length, None, Some}
 use Rattle.sefl_syntax.specs.Trees.{JobTree}
 use Rattle.net_check.specs.Network.{Network, Entry}
 use Rattle.net_check.specs.Sound.{IsSound, IsNetOf, IsEntryOf}
 use Rattle.command_runs.specs.Jobs.{IsTextOf, ListsFound}
-use Rattle.command_runs.specs.Outside.{World}
+use Rattle.command_runs.specs.Outside.{World, world}
 use Rattle.command_runs.specs.Tables.{IsFilled}
 use Rattle.command_edge.specs.declared.limits.TheConstants.{FILE_LIMIT}
+use Rattle.command_words.specs.Commands.{Command}
+use Rattle.symnet_program.specs.Commands.{ReadsJob}
+use Rattle.symnet_program.specs.Program.{IsCaused}
 use Rattle.command_runs.specs.declared.status.Status.{Status}
 use Rattle.command_runs.specs.declared.status.Status.TheVariants.{NoMemory, ReadFault, WriteFault, BadPattern}
 
@@ -41,3 +44,15 @@ pub record TellsNet (w : World) (name : List ℕ) (net : Network) (i : Entry) : 
   pub of_entry : IsEntryOf tree i
   pub told : w.finds ≡ Some finds
   pub lists : ListsFound tree net finds
+
+-- the command, which reads the job under this name first, ended so in the world
+abbrev pub Ran : World → Command → List ℕ → Status → Type 0
+Ran w command job status = ReadsJob command job × IsCaused (world w) tt tt (Some command) status
+
+-- the file under the name has these bytes, which are no more than the limit
+abbrev pub HasFileIn : World → List ℕ → List ℕ → Type 0
+HasFileIn w name bytes = (w.at name ≡ Some bytes) × (length bytes ≤ FILE_LIMIT)
+
+-- the file under the name has a text of the job
+abbrev pub HasJobIn : World → List ℕ → JobTree → Type 0
+HasJobIn w name job = (bytes : List ℕ) × (w.at name ≡ Some bytes) × (length bytes ≤ FILE_LIMIT) × IsTextOf job bytes

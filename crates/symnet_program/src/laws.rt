@@ -12,7 +12,7 @@ ghost use Rattle.net_check.specs.Sound.{IsSound};
 ghost use Rattle.sefl_lex.specs.Packets.{packet_of};
 ghost use Rattle.command_runs.specs.Flaws.{Flaw, HasFlaw};
 ghost use Rattle.command_runs.specs.Inputs.{AllOpen, Given, IsSettled};
-ghost use Rattle.command_runs.specs.Jobs.{IsTextOf, first_bad};
+ghost use Rattle.command_runs.specs.Jobs.{first_bad};
 ghost use Rattle.command_runs.specs.Outside.{World, outside, world};
 ghost use Rattle.command_runs.specs.Refusals.{fault_by_rule};
 ghost use Rattle.command_edge.specs.Puts.{Outcome};
@@ -20,13 +20,13 @@ ghost use Rattle.command_edge.specs.declared.ending.Ending.TheVariants as ending
 ghost use Rattle.command_runs.specs.Tables.{FirstUnfilled, IsFilled};
 ghost use Rattle.command_edge.specs.declared.fault.InputFault.{InputFault};
 ghost use Rattle.command_edge.specs.declared.limits.TheConstants.{FILE_LIMIT};
-ghost use Rattle.symnet_program.specs.Commands.{ReadsJob, inputs, work};
+ghost use Rattle.symnet_program.specs.Commands.{inputs, work};
 ghost use Rattle.symnet_program.specs.Headline.{TellsJob};
 ghost use Rattle.symnet_program.specs.Program.{IsCaused, MayWrite};
 ghost use Rattle.symnet_program.specs.Run.{IsRun};
 ghost use Rattle.walk_command.specs.Walks.{WalksOf};
 ghost use Rattle.command_runs.specs.Status.{IsUnread, IsWritten, MayBeBad, OrBad, input_status, outcome_status};
-ghost use Rattle.symnet_program.specs.Told.{MayStop, TellsNet};
+ghost use Rattle.symnet_program.specs.Told.{HasFileIn, HasJobIn, MayStop, Ran, TellsNet};
 ghost use Rattle.command_words.specs.Commands.{Command as CommandOf, explore, walk};
 ghost use Rattle.path_records.specs.declared.sides.RefutedSides.{RefutedSides as Sides};
 ghost use Rattle.command_runs.specs.declared.status.Status.{Status as StatusOf};
@@ -59,33 +59,26 @@ pub fn runs_tell<F: Folder, P: Patterns>()
 
 /// What is wrong with the job's file, or with the files of its tables, is told, unless a file was not read or there was no memory.
 pub fn jobs_are_told()
-    ensures absent { (command : CommandOf) (job : List ℕ) (w : World) (status : StatusOf) → ReadsJob command job
-        → IsCaused (world w) tt tt (Some command) status
+    ensures absent { (command : CommandOf) (job : List ℕ) (w : World) (status : StatusOf) → Ran w command job status
         → w.at job ≡ None → (status ≡ NoFile job) ⊎ IsUnread status }
     ensures long { (command : CommandOf) (job : List ℕ) (w : World) (status : StatusOf) (bytes : List ℕ)
-        → ReadsJob command job → IsCaused (world w) tt tt (Some command) status
-        → w.at job ≡ Some bytes → FILE_LIMIT < length bytes → (status ≡ TooBig job) ⊎ IsUnread status }
+        → Ran w command job status → w.at job ≡ Some bytes → FILE_LIMIT < length bytes
+        → (status ≡ TooBig job) ⊎ IsUnread status }
     ensures flawed { (command : CommandOf) (job : List ℕ) (w : World) (status : StatusOf) (bytes : List ℕ) (flaw : Flaw)
-        → ReadsJob command job → IsCaused (world w) tt tt (Some command) status → w.at job ≡ Some bytes
-        → length bytes ≤ FILE_LIMIT
-        → HasFlaw bytes flaw → (status ≡ Syntax flaw.line flaw.column flaw.kind) ⊎ IsUnread status }
-    ensures tables { (command : CommandOf) (job : List ℕ) (w : World) (status : StatusOf) (bytes : List ℕ)
-        (j : JobTree) (fault : InputFault)
-        → ReadsJob command job → IsCaused (world w) tt tt (Some command) status → w.at job ≡ Some bytes
-        → length bytes ≤ FILE_LIMIT
-        → IsTextOf j bytes → FirstUnfilled (Some w.at) j.net.nodes fault → IsSettled w fault
+        → Ran w command job status → HasFileIn w job bytes → HasFlaw bytes flaw
+        → (status ≡ Syntax flaw.line flaw.column flaw.kind) ⊎ IsUnread status }
+    ensures tables { (command : CommandOf) (job : List ℕ) (w : World) (status : StatusOf) (j : JobTree) (fault : InputFault)
+        → Ran w command job status → HasJobIn w job j
+        → FirstUnfilled (Some w.at) j.net.nodes fault → IsSettled w fault
         → (status ≡ input_status fault) ⊎ IsUnread status }
-    ensures refused { (command : CommandOf) (job : List ℕ) (w : World) (status : StatusOf) (bytes : List ℕ)
-        (j full : JobTree) (site : Site) (rule : Rule)
-        → ReadsJob command job → IsCaused (world w) tt tt (Some command) status → w.at job ≡ Some bytes
-        → length bytes ≤ FILE_LIMIT
-        → IsTextOf j bytes → IsFilled (Some w.at) j full → refusal full ≡ Some (site.0, rule)
+    ensures refused { (command : CommandOf) (job : List ℕ) (w : World) (status : StatusOf) (j full : JobTree) (site : Site)
+        (rule : Rule)
+        → Ran w command job status → HasJobIn w job j
+        → IsFilled (Some w.at) j full → refusal full ≡ Some (site.0, rule)
         → (status ≡ input_status (fault_by_rule site rule)) ⊎ IsUnread status }
-    ensures bad { (command : CommandOf) (job : List ℕ) (w : World) (status : StatusOf) (bytes : List ℕ)
-        (j full : JobTree) (site : Site)
-        → ReadsJob command job → IsCaused (world w) tt tt (Some command) status → w.at job ≡ Some bytes
-        → length bytes ≤ FILE_LIMIT
-        → IsTextOf j bytes → IsFilled (Some w.at) j full → IsSound full
+    ensures bad { (command : CommandOf) (job : List ℕ) (w : World) (status : StatusOf) (j full : JobTree) (site : Site)
+        → Ran w command job status → HasJobIn w job j
+        → IsFilled (Some w.at) j full → IsSound full
         → ForSome w.is_bad (λ is_bad. first_bad is_bad full ≡ Some site.0
         → (status ≡ BadPattern site) ⊎ IsUnread status) }
 {
@@ -94,11 +87,9 @@ pub fn jobs_are_told()
 
 /// Of a job that with code for its tables breaks no rule, and that has no bad pattern, `explore` tells Done or Partial.
 pub fn explored_jobs_are_told()
-    ensures { (job : List ℕ) (hops limit : ℕ) (pruned : Sides) (w : World) (status : StatusOf) (bytes : List ℕ)
-        (j full : JobTree)
-        → IsCaused (world w) tt tt (Some (explore job hops limit pruned)) status → w.at job ≡ Some bytes
-        → length bytes ≤ FILE_LIMIT
-        → IsTextOf j bytes → IsFilled (Some w.at) j full → IsSound full → IsWritten status ⊎ MayBeBad status }
+    ensures { (job : List ℕ) (hops limit : ℕ) (pruned : Sides) (w : World) (status : StatusOf) (j full : JobTree)
+        → IsCaused (world w) tt tt (Some (explore job hops limit pruned)) status → HasJobIn w job j
+        → IsFilled (Some w.at) j full → IsSound full → IsWritten status ⊎ MayBeBad status }
 {
     jobs_are_filled_once();
 }
@@ -116,7 +107,7 @@ pub fn walked_jobs_are_told()
     ensures walked { (job packet : List ℕ) (hops limit : ℕ) (w : World) (status : StatusOf) (net : Network)
         (i : Entry) (bytes : List ℕ) (outcome : Outcome)
         → IsCaused (world w) tt tt (Some (walk job packet hops limit)) status → TellsNet w job net i
-        → w.at packet ≡ Some bytes → length bytes ≤ FILE_LIMIT → WalksOf hops limit net i (packet_of bytes) outcome
+        → HasFileIn w packet bytes → WalksOf hops limit net i (packet_of bytes) outcome
         → (status ≡ outcome_status outcome) ⊎ MayBeBad status }
 {
     worlds_decide();

@@ -17,7 +17,7 @@ returns-clause-long c job packet hops limit w status net i bytes caused is has l
     (record { first = c.worlds_decide.ensures.first w; excludes = c.worlds_decide.ensures.excludes w }) bytes has long
 
 pub returns-clause-walked : goal.returns-clause-walked
-returns-clause-walked c job packet hops limit w status net i bytes outcome caused is has short comes =
+returns-clause-walked c job packet hops limit w status net i bytes outcome caused is (has, short) comes =
     walked_packet job packet hops limit w status net i caused is
     (record { full = c.jobs_are_filled_once.ensures.full w; excludes = c.jobs_are_filled_once.ensures.excludes w; first = c.jobs_are_filled_once.ensures.first w })
     (λ a b opened other. c.worlds_decide.ensures.all w (inputs (walk job packet hops limit)) a b is.finds is.told opened other)
