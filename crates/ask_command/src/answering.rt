@@ -39,8 +39,8 @@ fn fault_of(bad: BadAsk) -> OwnFault
     }
 }
 
-/// How the answers end where an exploration ended so. An observer with questions never stops.
-fn ending_of(ended: Ended) -> Ending
+/// How a text ends that is made of an exploration which ended so. An observer that looks at all that is found never stops.
+pub fn ending_of(ended: Ended) -> Ending
     requires { ended ≡ Stopped → ⊥ }
     ensures { result ≡ ending_of ended }
 {

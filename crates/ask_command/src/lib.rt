@@ -6,5 +6,6 @@ mod ask;
 pub mod laws;
 mod text;
 
+pub use answering::ending_of;
 pub use ask::Ask;
-pub use text::answers_text;
+pub use text::{answers_text, write_counts};

@@ -37,8 +37,9 @@ fn write_decided(
     Ok(())
 }
 
+/// Adds a list of counts.
 #[tactic(auto, unfolding(crate::specs::Texts::counts_data))]
-fn write_counts(out: &mut JsonText, counts: &[u64]) -> Result<(), NoMemory>
+pub fn write_counts(out: &mut JsonText, counts: &[u64]) -> Result<(), NoMemory>
     ensures { Gains (counts_data counts.now) result out.old out.new }
 {
     out.begin_list()?;

@@ -2,10 +2,10 @@
 
 ghost use Rattle.std.specs.Prelude.{◌≡◌, string_bytes, IfOk};
 ghost use Rattle.run_text.specs.Tokens.{Gains};
-ghost use Rattle.ask_command.specs.Texts.{counts_data};
 ghost use Rattle.net_compare.specs.Saying.{compared_seen};
 ghost use Rattle.compare_command.specs.Texts.{compared_data, compared_text, other_data, partial_data, partial_text, side_of, unknown_data, word_data};
 
+use ask_command::write_counts;
 use net_compare::Compared;
 use run_text::json_laws::objects_are_written;
 use run_text::{JsonText, write_values};
@@ -61,18 +61,6 @@ fn write_other(
     Ok(())
 }
 
-#[tactic(auto, unfolding(ask_command::specs::Texts::counts_data))]
-fn write_numbers(out: &mut JsonText, numbers: &[u64]) -> Result<(), NoMemory>
-    ensures { Gains (counts_data numbers.now) result out.old out.new }
-{
-    out.begin_list()?;
-    for number in numbers {
-        out.count(*number)?;
-    }
-    out.end_list()?;
-    Ok(())
-}
-
 /// For each side the numbers of the paths for which it is not known.
 fn write_unknown(out: &mut JsonText, left: &[u64], right: &[u64]) -> Result<(), NoMemory>
     ensures { Gains (unknown_data left.now right.now) result out.old out.new }
@@ -82,9 +70,9 @@ fn write_unknown(out: &mut JsonText, left: &[u64], right: &[u64]) -> Result<(), 
     out.key("answer")?;
     out.string("unknown")?;
     out.key("left")?;
-    write_numbers(out, left)?;
+    write_counts(out, left)?;
     out.key("right")?;
-    write_numbers(out, right)?;
+    write_counts(out, right)?;
     out.key("symnet")?;
     out.count(1)?;
     out.end_object()?;

@@ -4,36 +4,22 @@ ghost use Rattle.std.specs.Prelude.{◌≡◌, ◌<◌, IfOk, IfErr, string_byte
 ghost use Rattle.net_check.specs.Network.{entry, network};
 ghost use Rattle.net_check.specs.Sound.{AreOfOneJob};
 ghost use Rattle.command_edge.specs.declared.fault.OwnFault.TheVariants.{NoMemory as NoMemoryFault};
-ghost use Rattle.path_exec.specs.declared.exploration.Ended.TheVariants.{Stopped};
 ghost use Rattle.path_questions.specs.Deciding.{entry_of, net_of};
-ghost use Rattle.ask_command.specs.Answering.{ending_of};
 ghost use Rattle.loops_command.specs.Loops.{AreLoops, IsLoopsText};
 
 use crate::text::{OpenPaths, loops_text};
+use ask_command::ending_of;
 use command_edge::{Ending, OwnFault};
 use loop_check::laws::what_is_found_is_right;
 use loop_check::{Finding, Mark};
 use loop_meaning::LoopAnswer;
 use net_check::Accepted;
-use path_exec::Ended;
 use path_questions::Subject;
 use sn_width::{NoMemory, Steps};
 use std::alloc::Global;
 use std::marker::{Brand, PhantomData};
 use std::sync::ledger::{Blank, Ledger};
 use symbolic_engine::observe;
-
-/// How the text ends where an exploration ended so. An observer that finds loops never stops.
-fn ending_of(ended: Ended) -> Ending
-    requires { ended ≡ Stopped → ⊥ }
-    ensures { result ≡ ending_of ended }
-{
-    match ended {
-        Ended::Whole => Ending::Done,
-        Ended::Partial => Ending::Partial,
-        Ended::Stopped => unreachable!(),
-    }
-}
 
 /// What is found, from one exploration.
 fn search_with<M: Mark, L: Ledger>(
