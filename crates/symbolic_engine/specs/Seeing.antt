@@ -1,12 +1,15 @@
 -- What the engine's values are seen as.
+use Rattle.std.specs.Prelude.{ℕ}
 use Rattle.net_check.specs.Network.{Network}
 use Rattle.refutation_check.specs.declared.outcome.Verdict.{Verdict}
 use Rattle.sefl_meaning.specs.declared.walk.End.{End}
 use Rattle.sefl_meaning.specs.Trees.{over}
-use Rattle.exact_records.specs.Records.{SymStart}
+use Rattle.exact_records.specs.Records.{SymStart, SymTree}
 use Rattle.sym_state.specs.Symbolic.{Symbolic}
+use Rattle.path_exec.specs.declared.engine.Moved.{Moved}
 use Rattle.path_exec.specs.Handing.{Handed}
-use Rattle.path_exec.specs.Location.{Location}
+use Rattle.path_exec.specs.Location.{Location, point_at}
+use Rattle.path_exec.specs.Moves.{IsMove}
 use Rattle.path_exec.specs.Views.{Views}
 use Rattle.symbolic_engine.specs.declared.found.Found.{Found}
 use Rattle.symbolic_engine.specs.declared.origin.Origin.{Ghosts}
@@ -43,3 +46,7 @@ views_of s net = record {
   record_of = handed_tree;
   IsOwn = IsHanded s;
 }
+
+-- the run moves on from where the state is, with this to come, whatever number of instructions has begun
+abbrev pub MovedFrom : {B : Type 0} {origin : Ghosts B} → SymStart → Network → Symbolic → (ℕ → SymTree) → Moved (Standing B) (Finished B) (Waiting B origin) → Type 0
+MovedFrom s net x tree moved = (begun : ℕ) → IsMove (views_of s net) (point_at begun (location_of s x tree)) begun moved

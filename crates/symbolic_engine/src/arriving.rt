@@ -12,11 +12,11 @@ ghost use Rattle.sefl_meaning.specs.Walks.{place_at};
 ghost use Rattle.sym_state.specs.Symbolic.{with_place};
 ghost use Rattle.code_frames.specs.Frames.{course_frames, exit_of};
 ghost use Rattle.path_exec.specs.Location.{point_at};
-ghost use Rattle.path_exec.specs.Moves.{IsMove, Reaches};
+ghost use Rattle.path_exec.specs.Moves.{Reaches};
 ghost use Rattle.symbolic_engine.specs.Origins.{location_of, progress_in};
 ghost use Rattle.symbolic_engine.specs.Stages.{behind_running, behind_side, from_port, wait_tree};
 ghost use Rattle.symbolic_engine.specs.declared.stage.Wait.TheVariants.{Forked as ForkedAt};
-ghost use Rattle.symbolic_engine.specs.Seeing.{standing_at, views_of};
+ghost use Rattle.symbolic_engine.specs.Seeing.{MovedFrom, standing_at};
 
 use crate::origin::{Origin, Run};
 use crate::points::{Finished, Standing, Waiting};
@@ -112,8 +112,7 @@ pub(crate) fn ended<'a, B: Origin>(
     run: Run<B>,
     how: End,
 ) -> Moved<Standing<'a, B>, Finished<B>, Waiting<'a, B>>
-    ensures { (own : Network) (begun : ℕ) → IsMove (views_of B.start own)
-        (point_at begun (location_of B.start run (λ n. over (progress_in run n) how))) begun result }
+    ensures { (own : Network) → MovedFrom B.start own run (λ n. over (progress_in run n) how) result }
 {
     run.is_own();
     let over = Finished { run, how };
@@ -128,9 +127,8 @@ fn forked<'a, B: Origin>(
     hops: u32,
     ports: &'a [u32],
 ) -> Result<Moved<Standing<'a, B>, Finished<B>, Waiting<'a, B>>, NoMemory>
-    ensures { IfOk result (λ moved. (own : Network) (begun : ℕ) → IsMove (views_of B.start own)
-        (point_at begun (location_of B.start run (λ n. wait_tree own (ForkedAt node hops ports.entry) run n))) begun
-        moved) }
+    ensures { IfOk result (λ moved. (own : Network)
+        → MovedFrom B.start own run (wait_tree own (ForkedAt node hops ports.entry) run) moved) }
 {
     let Ok(copies) = u32::try_from(ports.len()) else {
         return Err(NoMemory);
@@ -151,10 +149,8 @@ pub(crate) fn behind<'a, B: Origin>(
     running: Running,
     exit: Exit<'a>,
 ) -> Result<Moved<Standing<'a, B>, Finished<B>, Waiting<'a, B>>, NoMemory>
-    ensures { IfOk result (λ moved. (begun : ℕ) → IsMove (views_of B.start (network net.now))
-        (point_at begun (location_of B.start run (λ n.
-        behind_running (network net.now) run.unknowns running (exit_of exit.entry)
-        (progress_in run n)))) begun moved) }
+    ensures { IfOk result (λ moved. MovedFrom B.start (network net.now) run
+        (λ n. behind_running (network net.now) run.unknowns running (exit_of exit.entry) (progress_in run n)) moved) }
 {
     match running.side {
         Side::Inward => passed(alloc, net, run, running, exit),
@@ -170,10 +166,9 @@ fn passed<'a, B: Origin>(
     running: Running,
     exit: Exit<'a>,
 ) -> Result<Moved<Standing<'a, B>, Finished<B>, Waiting<'a, B>>, NoMemory>
-    ensures { IfOk result (λ moved. (begun : ℕ) → IsMove (views_of B.start (network net.now))
-        (point_at begun (location_of B.start run (λ n.
-        behind_side (network net.now) run.unknowns running.node running.port running.hops AtInput
-        (exit_of exit.entry) (progress_in run n)))) begun moved) }
+    ensures { IfOk result (λ moved. MovedFrom B.start (network net.now) run
+        (λ n. behind_side (network net.now) run.unknowns running.node running.port running.hops AtInput
+        (exit_of exit.entry) (progress_in run n)) moved) }
 {
     match exit {
         Exit::Off => Ok(ended(run, End::Stopped)),
@@ -202,10 +197,9 @@ fn crossed<'a, B: Origin>(
     running: Running,
     exit: Exit<'a>,
 ) -> Result<Moved<Standing<'a, B>, Finished<B>, Waiting<'a, B>>, NoMemory>
-    ensures { IfOk result (λ moved. (begun : ℕ) → IsMove (views_of B.start (network net.now))
-        (point_at begun (location_of B.start run (λ n.
-        behind_side (network net.now) run.unknowns running.node running.port running.hops AtOutput
-        (exit_of exit.entry) (progress_in run n)))) begun moved) }
+    ensures { IfOk result (λ moved. MovedFrom B.start (network net.now) run
+        (λ n. behind_side (network net.now) run.unknowns running.node running.port running.hops AtOutput
+        (exit_of exit.entry) (progress_in run n)) moved) }
 {
     match exit {
         Exit::Off => match link_of(net, running.node, running.port) {

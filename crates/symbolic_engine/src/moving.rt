@@ -1,11 +1,10 @@
 //! The run up to its next port, its next decision or its end.
 
-ghost use Rattle.std.specs.Prelude.{◌≡◌, ℕ, None, reverse, IfOk};
+ghost use Rattle.std.specs.Prelude.{◌≡◌, None, reverse, IfOk};
 ghost use Rattle.path_formula.specs.Typed.{IsTyped};
 ghost use Rattle.path_formula.specs.View.{view};
 ghost use Rattle.net_check.specs.Network.{Network, network};
-ghost use Rattle.path_exec.specs.Location.{point_at};
-ghost use Rattle.path_exec.specs.Moves.{IsMove, Moves};
+ghost use Rattle.path_exec.specs.Moves.{Moves};
 ghost use Rattle.symbolic_engine.specs.declared.stage.Wait.TheVariants.{Asked as AskedAt};
 ghost use Rattle.symbolic_engine.specs.Origins.{location_of};
 ghost use Rattle.symbolic_engine.specs.Stages.{inside_tree, wait_tree};
@@ -46,9 +45,8 @@ fn asked<'a, B: Origin>(
     frames: Vec<Frame<'a>>,
 ) -> Moved<Standing<'a, B>, Finished<B>, Waiting<'a, B>>
     requires { IsTyped run.condition.widths (view test) }
-    ensures { (own : Network) (begun : ℕ) → IsMove (views_of B.start own)
-        (point_at begun (location_of B.start run (λ n.
-        wait_tree own (AskedAt running question.entry test frames.entry) run n))) begun result }
+    ensures { (own : Network)
+        → MovedFrom B.start own run (wait_tree own (AskedAt running question.entry test frames.entry) run) result }
 {
     the_tests_of_types();
     run.is_own();
