@@ -3,6 +3,7 @@ use Rattle.std.specs.Prelude.{ℕ, Bool, false, not, ◌||◌, ◌==◌, nat_lt,
 use Rattle.std.specs.List.{list_any, list_all}
 use Rattle.sn_width.specs.Width.{max_value}
 use Rattle.sefl_syntax.specs.declared.reference.Target.{Target}
+use Rattle.sefl_syntax.specs.declared.reference.Target.TheVariants.{Header, Meta, Bound}
 pub use Rattle.sefl_syntax.specs.Widths.{width_of}
 use Rattle.job_items.specs.Atoms.{Atom}
 

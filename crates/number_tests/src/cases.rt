@@ -4,7 +4,7 @@ use crate::build::Atom::*;
 use crate::build::Side::*;
 use crate::build::{Atom, RELS, bits, formula, let_go};
 use Plain::{Less, Lower, Upper};
-use path_formula::{Formula, SymBound, can_split, case_count_of, cases, laws};
+use path_formula::{Formula, SymBound, can_split, case_count_of, case_laws, cases};
 use sn_width::{Num, Rel, SymId};
 use std::alloc::Global;
 use std::process::Abort;
@@ -176,7 +176,7 @@ fn choices_vary_the_last_member_fastest(rt: HostRuntime) {
 
 #[test]
 fn laws_are_there_to_cite() {
-    laws::one_case_is_met_exactly_where_the_formula_has_the_truth();
+    case_laws::one_case_is_met_exactly_where_the_formula_has_the_truth();
 }
 
 /// Adds that two symbols differ.

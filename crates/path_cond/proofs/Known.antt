@@ -9,7 +9,7 @@ use Rattle.path_formula.specs.Typed.{IsTyped}
 use Rattle.path_formula.specs.View.{view}
 use Rattle.path_formula.specs.declared.kinds.Kind.TheVariants.{Simple}
 use Rattle.path_cond.specs.Conditions.{Entry, AllTyped, is_entry_on, picks_from}
-use Rattle.path_cond.proofs.Entries.{kind_simple}
+use Rattle.path_cond.proofs.Narrowing.{kind_simple}
 
 pub typed_at : (widths : List ℕ) (entries : List Entry) (pick : ℕ) (entry : Entry) → AllTyped widths entries → slice_get entries pick ≡ Some entry → IsTyped widths (view entry.0)
 typed_at widths [] pick entry typed is = cc

@@ -16,7 +16,7 @@ use Rattle.path_cond.specs.Conditions.{Condition, Entry, entry_holds, is_entry_o
 use Rattle.path_cond.specs.Picks.{passes, is_simple_pick, pick_holds, are_simple_picks, meets_picks}
 
 -- a kind that is simple on the symbol
-kind_simple : (s : SymId) (k : Kind) → is_simple_on s k ≡ true → k ≡ Simple s
+pub kind_simple : (s : SymId) (k : Kind) → is_simple_on s k ≡ true → k ≡ Simple s
 kind_simple s (Constant b) h = cc
 kind_simple s (Simple r) h = let same : r.0 ≡ s.0 = eqb-true r.0 s.0 h in λ i. Simple (record { 0 = same i })
 kind_simple s Inside h = cc

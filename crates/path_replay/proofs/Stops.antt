@@ -15,7 +15,7 @@ use Rattle.path_exec.specs.declared.engine.Next.{Next}
 use Rattle.path_exec.specs.declared.engine.Next.TheVariants.{AtEnd, AtNode}
 use Rattle.path_exec.specs.declared.engine.Offer.{Offer}
 use Rattle.path_exec.specs.declared.engine.Offer.TheVariants.{If, Constrain, Fork}
-use Rattle.path_exec.specs.Following.{IsLed, LeadsTo as IsLedTo, here_of}
+use Rattle.path_exec.specs.Following.{IsLed, LeadsTo as IsLedTo, location_of}
 use Rattle.path_exec.specs.Location.{point_at}
 use Rattle.path_exec.specs.Offers.{IsNode}
 use Rattle.path_exec.specs.Stepping.{IsLedThere}
@@ -28,7 +28,7 @@ use Rattle.symbolic_engine.specs.declared.points.Standing.{Standing}
 use Rattle.symbolic_engine.specs.declared.points.Waiting.{Waiting}
 use Rattle.symbolic_engine.specs.declared.stage.Wait.{Wait}
 use Rattle.symbolic_engine.specs.declared.stage.Wait.TheVariants.{Asked, Forked}
-use Rattle.symbolic_engine.specs.Origins.{IsRunOf, entries_seen, here_of as here_in, progress_in}
+use Rattle.symbolic_engine.specs.Origins.{IsRunOf, entries_seen, location_of as here_in, progress_in}
 use Rattle.symbolic_engine.specs.declared.found.Found.{Found}
 use Rattle.symbolic_engine.specs.Seeing.{views_of}
 use Rattle.symbolic_engine.specs.Stages.{wait_tree}
@@ -93,7 +93,7 @@ module _ {B : Type 0} {origin : Ghosts B} (s : SymStart) (net : Network) where
       (node_goes_on offer l.led.way.left (subst (IsNode offer) (sym l.led.left) l.kind)) (wait_carries net node.wait x begun)
 
   -- the decisions of a stop are those that lead to it
-  pub stop_decisions : (ds : List Decision) (next : Next (Finished B) (Waiting B origin)) → LeadsTo s ds (stop_of next) → (here_of here next).decisions ≡ ds
+  pub stop_decisions : (ds : List Decision) (next : Next (Finished B) (Waiting B origin)) → LeadsTo s ds (stop_of next) → (location_of here next).decisions ≡ ds
   stop_decisions ds (AtEnd ended) l = l.decisions
   stop_decisions ds (AtNode node offer) l = l.decisions
 
@@ -103,9 +103,9 @@ module _ {B : Type 0} {origin : Ghosts B} (s : SymStart) (net : Network) where
   -- behind a decision: another stop, or nothing
   module _ (next : Next (Finished B) (Waiting B origin)) (d : Decision) (ds : List Decision) (l : LeadsTo s ds (stop_of next)) where
     pub leads_behind : (behind : Next (Finished B) (Waiting B origin)) → IsRunOf s (state_of behind)
-        → IsLedTo here ((here_of here next).decisions ++ d ∷ []) behind → LeadsTo s (ds ++ d ∷ []) (stop_of behind)
+        → IsLedTo here ((location_of here next).decisions ++ d ∷ []) behind → LeadsTo s (ds ++ d ∷ []) (stop_of behind)
     leads_behind behind run h =
         stop_led (ds ++ d ∷ []) behind run (subst (λ (es : List Decision). IsLedTo here (es ++ d ∷ []) behind) (stop_decisions ds next l) h)
 
-    pub closed_behind : (IsOpen s.tree ((here_of here next).decisions ++ d ∷ []) → ⊥) → IsOpen s.tree (ds ++ d ∷ []) → ⊥
+    pub closed_behind : (IsOpen s.tree ((location_of here next).decisions ++ d ∷ []) → ⊥) → IsOpen s.tree (ds ++ d ∷ []) → ⊥
     closed_behind h = subst (λ (es : List Decision). IsOpen s.tree (es ++ d ∷ []) → ⊥) (stop_decisions ds next l) h

@@ -1,7 +1,7 @@
 //! Guided runs of a net from an injection.
 
 ghost use Rattle.std.specs.Prelude.{◌≡◌, ◌<◌, ◌++◌, ◌∷◌, [], IfOk};
-ghost use Rattle.path_exec.specs.Following.{LeadsTo, here_of};
+ghost use Rattle.path_exec.specs.Following.{LeadsTo, location_of};
 ghost use Rattle.path_exec.specs.Stepping.{IsLedThere, LeadsOn};
 ghost use Rattle.symbolic_engine.specs.Origins.{IsRunOf};
 ghost use Rattle.symbolic_engine.specs.Seeing.{views_of};
@@ -91,7 +91,7 @@ fn go_on<'a, B: Origin, L: Ledger>(
     requires some { 0 < blank.parts }
     requires led { IsLedThere (views_of B.start B.net) next.now }
     ensures { IfOk result (LeadsOn (views_of B.start B.net)
-        ((here_of (views_of B.start B.net) next.now).decisions ++ decision ∷ [])) }
+        ((location_of (views_of B.start B.net) next.now).decisions ++ decision ∷ [])) }
 {
     let mut steps = Steps::<L>::new(blank);
     next_behind(alloc, engine, next, decision, &mut steps)

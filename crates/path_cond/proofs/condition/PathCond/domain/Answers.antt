@@ -5,7 +5,7 @@ use Rattle.sn_ranges.specs.Ranges.{IsSetOf, fits_width}
 use Rattle.path_cond.specs.Conditions.{in_domain}
 use Rattle.path_cond.specs.Picks.{are_simple_picks, meets_picks}
 use Rattle.path_cond.proofs.Narrowing.{simple_are_simple, simple_set}
-use Rattle.path_cond.proofs.picks.PathCond.domain.Goals as goal
+use Rattle.path_cond.proofs.condition.PathCond.domain.Goals as goal
 
 pub values_meeting-requires-clause-simple : goal.values_meeting-requires-clause-simple
 values_meeting-requires-clause-simple c =
