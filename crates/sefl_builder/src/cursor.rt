@@ -1,6 +1,6 @@
 //! The words that are left of a text.
 
-ghost use Rattle.std.specs.Prelude.{◌≡◌, ◌≤◌, All, IfOk, length, bytes_eq};
+ghost use Rattle.std.specs.Prelude.{◌≡◌, ◌≤◌, All, IfOk, length};
 ghost use Rattle.sefl_builder.specs.Pieces.{IsPieceOf, piece_words};
 ghost use Rattle.sefl_builder.specs.Reading.{Answers, begins_with, begins_name, begins_number};
 ghost use Rattle.sefl_builder.specs.Leaves.{key, name, number, number_in, offset, port, skip, text, width};
@@ -8,7 +8,8 @@ ghost use Rattle.sefl_builder.specs.Leaves.{key, name, number, number_in, offset
 use crate::misread::Misread;
 use crate::names::Names;
 use crate::piece::Piece;
-use sefl_lex::{TokenKind, number_value, text_body, token_text};
+use sefl_grammar::{is_same, value_at};
+use sefl_lex::{TokenKind, text_body, token_text};
 use sefl_syntax::{Name, Text};
 use sn_width::{NoMemory, Num, Width};
 use std::alloc::Global;
@@ -22,16 +23,6 @@ const MOST_OFFSET: Num = 1_048_576;
 
 /// The most bits that a cell has.
 const MOST_WIDTH: Num = 128;
-
-/// Whether two texts are the same. Most differ in their first byte.
-fn is_same(text: &str, word: &str) -> bool
-    ensures { result ≡ bytes_eq text.now word.now }
-{
-    match (text.as_bytes(), word.as_bytes()) {
-        ([first, ..], [other, ..]) if *first != *other => false,
-        _ => text == word,
-    }
-}
 
 /// The words that are left of a text. Contracts see the list of them.
 #[derive(Drop)]
@@ -185,7 +176,7 @@ impl<'a> Cursor<'a> {
         if first.kind != TokenKind::Number {
             return Err(Misread::Unexpected);
         }
-        let value = number_value(self.text, first.token());
+        let value = value_at(self.text, first.token());
         self.left = rest;
         Ok(value)
     }

@@ -22,4 +22,5 @@ pub mod ReadBack
 pub mod Runs
 pub mod Signs
 pub mod Terms
+pub mod Values
 pub mod Wells

@@ -2,14 +2,18 @@
 
 ghost use Rattle.std.specs.Prelude.{◌≡◌, map, option_copied};
 ghost use Rattle.sefl_lex.specs.Words.{value_of};
+ghost use Rattle.sefl_lex.specs.Reads.{IsTokenOf, word_of};
 ghost use Rattle.sefl_lex.specs.declared.token.TokenKind.TheVariants.{Number as ANumber};
 ghost use Rattle.sefl_grammar.specs.Table.{alternative_of};
 ghost use Rattle.sefl_grammar.specs.Automaton.{behind, by_kind, find, may_end, named, numbered, quoted};
+ghost use Rattle.sefl_grammar.specs.Words.{word_at};
 
+use crate::same::is_same;
 use crate::symbol::Symbol;
 use crate::symbol::Symbol::*;
 use crate::table::{Alternative, alternatives};
-use sefl_lex::TokenKind;
+use crate::value::value_at;
+use sefl_lex::{Token, TokenKind, token_text};
 
 /// The most that a number of ports, or of a port, is.
 const MOST_PORT: u128 = 4_294_967_295;
@@ -20,19 +24,14 @@ const MOST_OFFSET: u128 = 1_048_576;
 /// The most bits that a cell has.
 const MOST_WIDTH: u128 = 128;
 
-/// What is to come behind a word that stands first in the symbol's place; `None` where it may not.
-pub(crate) fn behind(
-    symbol: Symbol,
-    kind: TokenKind,
-    word: &str,
-    value: u128,
-) -> Option<&'static [Symbol]>
-    requires { kind ≡ ANumber → value ≡ value_of word.now }
-    ensures { option_copied result ≡ behind symbol (record { kind = kind; text = word.now }) }
+/// What is to come behind a token that stands first in the symbol's place; `None` where it may not.
+pub(crate) fn behind(symbol: Symbol, text: &str, token: Token) -> Option<&'static [Symbol]>
+    requires { IsTokenOf text.now token }
+    ensures { option_copied result ≡ behind symbol (word_at text.now token) }
 {
-    match find(word, alternatives(symbol)) {
+    match find(token_text(text, token), alternatives(symbol)) {
         Some(then) => Some(then),
-        None => by_kind(symbol, kind, value),
+        None => by_kind(symbol, text, token),
     }
 }
 
@@ -47,21 +46,37 @@ fn find(word: &str, table: &'static [Alternative]) -> Option<&'static [Symbol]>
     ensures { option_copied result ≡ find word.now (map alternative_of table.now) }
 {
     for (first, then) in table {
-        if word == *first {
+        if is_same(word, first) {
             return Some(then);
         }
     }
     None
 }
 
-fn by_kind(symbol: Symbol, kind: TokenKind, value: u128) -> Option<&'static [Symbol]>
-    ensures { option_copied result ≡ by_kind symbol kind value }
+fn by_kind(symbol: Symbol, text: &str, token: Token) -> Option<&'static [Symbol]>
+    requires { IsTokenOf text.now token }
+    ensures { option_copied result ≡ by_kind symbol token.kind (value_of (word_of text.now token)) }
 {
-    match kind {
+    match token.kind {
         TokenKind::Name => named(symbol),
-        TokenKind::Number => numbered(symbol, value),
+        TokenKind::Number => numbered(symbol, value_for(symbol, text, token)),
         TokenKind::Text => quoted(symbol),
         TokenKind::Sign => None,
+    }
+}
+
+/// The value of a number, where the symbol asks for it.
+fn value_for(symbol: Symbol, text: &str, token: Token) -> u128
+    requires token { IsTokenOf text.now token }
+    requires number { token.kind ≡ ANumber }
+    ensures { numbered symbol result ≡ numbered symbol (value_of (word_of text.now token)) }
+{
+    match symbol {
+        Number => 0,
+        Operand => 0,
+        Value => 0,
+        Test => 0,
+        _ => value_at(text, token),
     }
 }
 

@@ -3,16 +3,16 @@
 ghost use Rattle.std.specs.Prelude.{◌≡◌, reverse, All, IfOk};
 ghost use Rattle.std.specs.List.{list_all};
 ghost use Rattle.sefl_lex.specs.Reads.{IsTokenOf};
-ghost use Rattle.sefl_grammar.specs.Automaton.{is_deep, may_end, step};
-ghost use Rattle.sefl_grammar.specs.Words.{IsFound, Takes, finding_of, or_later, place_if, word_at, words_of};
+ghost use Rattle.sefl_grammar.specs.Automaton.{is_deep, may_end};
+ghost use Rattle.sefl_grammar.specs.Words.{IsFound, finding_of, or_later, place_if, words_of};
 
 use crate::behind::may_end;
 use crate::depth::is_deep;
-use crate::stack::take_word;
+use crate::stack::take_token;
 use crate::symbol::Symbol;
-use sefl_lex::{Token, TokenKind, number_value, token_text};
+use sefl_lex::Token;
 use sn_width::NoMemory;
-use std::alloc::{AllocError, Global};
+use std::alloc::Global;
 
 /// What the tokens of a text are, by the grammar of job texts.
 #[derive(Clone, Copy, PartialEq, Eq)]
@@ -40,20 +40,6 @@ pub fn examine(alloc: Global, text: &str, tokens: &[Token]) -> Result<Finding, N
         deep = noted(deep, &stack, place);
     }
     Ok(found_at_end(&mut stack, deep, tokens.len()))
-}
-
-/// Takes a token from what is to come; false where it may not come.
-fn take_token(stack: &mut Vec<Symbol>, text: &str, token: Token) -> Result<bool, AllocError>
-    requires { IsTokenOf text.now token }
-    ensures { IfOk result (λ taken. Takes taken
-        (step (reverse stack.old.items) (word_at text.now token)) (reverse stack.new.items)) }
-{
-    let value = if token.kind == TokenKind::Number {
-        number_value(text, token)
-    } else {
-        0
-    };
-    take_word(stack, token.kind, token_text(text, token), value)
 }
 
 /// The first place after which too many constructs are open, with the one that was just read.

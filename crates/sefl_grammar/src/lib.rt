@@ -6,9 +6,13 @@ mod behind;
 mod depth;
 mod examination;
 pub mod laws;
+mod same;
 mod stack;
 mod symbol;
 mod table;
+mod value;
 
 pub use examination::{Finding, examine};
+pub use same::is_same;
 pub use symbol::Symbol;
+pub use value::value_at;

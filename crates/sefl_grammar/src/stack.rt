@@ -1,14 +1,13 @@
 //! The stack of what is to come, the next symbol last.
 
 ghost use Rattle.std.specs.Prelude.{◌≡◌, ◌++◌, reverse, IfOk, OnOk};
-ghost use Rattle.sefl_lex.specs.Words.{value_of};
-ghost use Rattle.sefl_lex.specs.declared.token.TokenKind.TheVariants.{Number};
+ghost use Rattle.sefl_lex.specs.Reads.{IsTokenOf};
 ghost use Rattle.sefl_grammar.specs.Automaton.{step};
-ghost use Rattle.sefl_grammar.specs.Words.{Takes};
+ghost use Rattle.sefl_grammar.specs.Words.{Takes, word_at};
 
 use crate::behind::{behind, may_end};
 use crate::symbol::Symbol;
-use sefl_lex::TokenKind;
+use sefl_lex::Token;
 use std::alloc::AllocError;
 
 /// Puts the symbols on the stack, the first on top.
@@ -23,20 +22,18 @@ fn push_all(stack: &mut Vec<Symbol>, symbols: &[Symbol]) -> Result<(), AllocErro
     Ok(())
 }
 
-/// Takes a word from what is to come; false where it may not come.
-pub(crate) fn take_word(
+/// Takes a token from what is to come; false where it may not come.
+pub(crate) fn take_token(
     stack: &mut Vec<Symbol>,
-    kind: TokenKind,
-    word: &str,
-    value: u128,
+    text: &str,
+    token: Token,
 ) -> Result<bool, AllocError>
-    requires { kind ≡ Number → value ≡ value_of word.now }
+    requires { IsTokenOf text.now token }
     ensures { IfOk result (λ taken. Takes taken
-        (step (reverse stack.old.items) (record { kind = kind; text = word.now }))
-        (reverse stack.new.items)) }
+        (step (reverse stack.old.items) (word_at text.now token)) (reverse stack.new.items)) }
 {
     while let Some(symbol) = stack.pop() {
-        if let Some(then) = behind(symbol, kind, word, value) {
+        if let Some(then) = behind(symbol, text, token) {
             push_all(stack, then)?;
             return Ok(true);
         }
