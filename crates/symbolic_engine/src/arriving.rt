@@ -65,7 +65,7 @@ fn arrived<B: Origin>(
 ) -> Result<Run<B>, NoMemory>
     ensures { IfOk result (λ there. there ≡ with_place run (place_at node side port)) }
 {
-    let mut state = run.into_state();
+    let mut state = run.into_box();
     state.arrive(alloc, Place { node, side, port })?;
     Ok(Run::<B>::of(state))
 }

@@ -27,7 +27,7 @@ use refutation_check::{Refutation, Verdict};
 use sefl_meaning::{Decision, Place};
 use sn_width::{NoMemory, NodeId, Steps};
 use std::alloc::Global;
-use std::marker::Model;
+use std::marker::{Model, PhantomData};
 use std::rc::Rc;
 use std::sync::ledger::Ledger;
 use sym_state::SymState;
@@ -40,7 +40,8 @@ pub struct Explorer<'a, B: Origin> {
     node: NodeId,
     port: u32,
     hops: u32,
-    first: Run<B>,
+    first: SymState,
+    of: PhantomData<B>,
 }
 
 impl<'a, B: Origin> Model for Explorer<'a, B> {
@@ -74,7 +75,6 @@ impl<'a, B: Origin> Explorer<'a, B> {
         ensures { result ≡ first }
     {
         let (node, port) = at;
-        let first = Run::<B>::of(first);
         Explorer {
             alloc,
             net,
@@ -82,6 +82,7 @@ impl<'a, B: Origin> Explorer<'a, B> {
             port,
             hops,
             first,
+            of: PhantomData,
         }
     }
 }
@@ -100,7 +101,8 @@ impl<'a, B: Origin> Engine for Explorer<'a, B> {
     ghost views = { λ e. views_of B.start B.net };
 
     fn begin(&self, alloc: Global) -> Result<Standing<'a, B>, NoMemory> {
-        let run = self.first.fork()?;
+        let first = self.first.fork()?;
+        let run = Run::<B>::new(alloc, first)?;
         let stage = Stage::Entering {
             node: self.node,
             port: self.port,
@@ -110,7 +112,8 @@ impl<'a, B: Origin> Engine for Explorer<'a, B> {
     }
 
     fn try_begin(&self, alloc: Global) -> Result<Tried<Standing<'a, B>, Verdict>, NoMemory> {
-        let run = self.first.fork()?;
+        let first = self.first.fork()?;
+        let run = Run::<B>::new(alloc, first)?;
         match find(alloc, run.state(), None)? {
             Judged::Refuted { refutation } => Ok(Tried::Refuted { refutation }),
             Judged::Open { verdict } => {
@@ -127,7 +130,7 @@ impl<'a, B: Origin> Engine for Explorer<'a, B> {
     }
 
     fn fork(&self, place: &Standing<'a, B>) -> Result<Standing<'a, B>, NoMemory> {
-        let run = place.run.fork()?;
+        let run = place.run.fork(self.alloc)?;
         let stage = same_stage(self.alloc, &place.stage)?;
         Ok(Standing { run, stage })
     }

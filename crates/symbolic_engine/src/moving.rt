@@ -76,8 +76,8 @@ fn run_on<'a, B: Origin, L: Ledger>(
         steps.old steps.new) }
 {
     let mut frames = frames;
-    let mut state = run.into_state();
-    let found = next(alloc, &mut state, net, running.node, &mut frames, steps)?;
+    let mut state = run.into_box();
+    let found = next(alloc, &mut *state, net, running.node, &mut frames, steps)?;
     let run = Run::<B>::of(state);
     match found {
         Move::Ended(exit) => behind(alloc, net, run, running, exit),

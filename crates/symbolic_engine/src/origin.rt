@@ -4,6 +4,7 @@ ghost use Rattle.std.specs.Prelude.{◌≡◌, IfOk};
 ghost use Rattle.symbolic_engine.specs.Origins.{IsRunOf};
 
 use sn_width::NoMemory;
+use std::alloc::Global;
 use std::marker::{Brand, Model, PhantomData};
 use sym_state::SymState;
 
@@ -25,9 +26,9 @@ impl Origin for Brand {
     ghost start = { no_start };
 }
 
-/// A state of a run of this exploration.
+/// A state of a run of this exploration. It stands on the heap, so that a run is moved as one pointer.
 pub struct Run<B: Origin> {
-    state: SymState,
+    state: Box<SymState>,
     of: PhantomData<B>,
 }
 
@@ -41,15 +42,24 @@ impl<B: Origin> Model for Run<B> {
 
     ghost coded = { Prim.hlevel (codes, the_formula.the_row.coded) };
 
-    ghost view = { λ run. run.state };
+    ghost view = { λ run. run.state.value };
 
-    ghost invariant = { λ run. IsRunOf B.start run.state };
+    ghost invariant = { λ run. IsRunOf B.start run.state.value };
 }
 
 impl<B: Origin> Run<B> {
-    pub(crate) fn of(state: SymState) -> Run<B>
+    pub(crate) fn new(alloc: Global, state: SymState) -> Result<Run<B>, NoMemory>
         requires { IsRunOf B.start state }
-        ensures { result ≡ state }
+        ensures { IfOk result (λ run. run ≡ state) }
+    {
+        let state = Box::new(alloc, state)?;
+        Ok(Run::<B>::of(state))
+    }
+
+    /// The run whose state stands there.
+    pub(crate) fn of(state: Box<SymState>) -> Run<B>
+        requires { IsRunOf B.start state.value }
+        ensures { result ≡ state.value }
     {
         Run {
             state,
@@ -58,14 +68,11 @@ impl<B: Origin> Run<B> {
     }
 
     /// The same run, where it stands.
-    pub(crate) fn fork(&self) -> Result<Run<B>, NoMemory>
+    pub(crate) fn fork(&self, alloc: Global) -> Result<Run<B>, NoMemory>
         ensures { IfOk result (λ copy. copy ≡ self.now) }
     {
         let state = self.state.fork()?;
-        Ok(Run {
-            state,
-            of: PhantomData,
-        })
+        Run::<B>::new(alloc, state)
     }
 
     /// Says that the state is of a run of this exploration. It does nothing.
@@ -83,12 +90,21 @@ impl<B: Origin> Run<B> {
         &self.state
     }
 
+    /// The state, where it stands.
+    pub(crate) fn into_box(self) -> Box<SymState>
+        ensures is { result.value ≡ self }
+        ensures run { IsRunOf B.start self }
+    {
+        let Run { state, of: _ } = self;
+        state
+    }
+
     pub(crate) fn into_state(self) -> SymState
         ensures is { result ≡ self }
         ensures run { IsRunOf B.start self }
     {
         let Run { state, of: _ } = self;
-        state
+        Box::into_inner(state)
     }
 }
 

@@ -1,6 +1,6 @@
 //! What a decision makes of a node.
 
-ghost use Rattle.std.specs.Prelude.{◌≡◌, true, IfOk};
+ghost use Rattle.std.specs.Prelude.{◌≡◌, true, IfOk, OnOk};
 ghost use Rattle.net_check.specs.Network.{network};
 ghost use Rattle.symbolic_engine.specs.Stages.{has_typed_test};
 ghost use Rattle.symbolic_engine.specs.Turning.{IsAwaited, IsNoted, IsStageBehind};
@@ -17,24 +17,23 @@ use sn_width::NoMemory;
 use std::alloc::Global;
 use sym_state::SymState;
 
-/// The state with the decision that is awaited, and with the formula of its test.
-fn with_decision(
+/// Adds the decision that is awaited, and the formula of its test.
+fn note(
     alloc: Global,
-    state: SymState,
+    state: &mut SymState,
     wait: &Wait<'_>,
     decision: Decision,
-) -> Result<SymState, NoMemory>
+) -> Result<(), NoMemory>
     requires awaited { IsAwaited wait.now decision }
-    requires typed { has_typed_test state wait.now ≡ true }
-    ensures { IfOk result (λ there. IsNoted wait.now state decision there) }
+    requires typed { has_typed_test state.old wait.now ≡ true }
+    ensures { OnOk result (IsNoted wait.now state.old decision state.new) }
 {
     the_tests_of_types();
-    let mut state = state;
     match wait {
         Wait::Asked { test, .. } => {
             let formula = test.copy(alloc)?;
             state.constrain(alloc, formula, decision)?;
-            Ok(state)
+            Ok(())
         }
         Wait::Forked { .. } => {
             let Decision::Copy(number) = decision else {
@@ -42,7 +41,7 @@ fn with_decision(
                 unreachable!()
             };
             state.copy(alloc, number)?;
-            Ok(state)
+            Ok(())
         }
     }
 }
@@ -56,9 +55,9 @@ pub(crate) fn noted<B: Origin>(
     requires { IsAwaited node.now.wait decision }
     ensures { IfOk result (λ there. IsNoted node.now.wait node.now.run decision there) }
 {
-    let here = node.run.fork()?;
-    let state = here.into_state();
-    let state = with_decision(alloc, state, &node.wait, decision)?;
+    let here = node.run.fork(alloc)?;
+    let mut state = here.into_box();
+    note(alloc, &mut *state, &node.wait, decision)?;
     Ok(Run::<B>::of(state))
 }
 

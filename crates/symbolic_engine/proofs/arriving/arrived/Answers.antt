@@ -8,9 +8,9 @@ use Rattle.symbolic_engine.proofs.arriving.arrived.Goals as goal
 pub of-requires : goal.of-requires
 of-requires g c =
     let place = place_at c.args.node c.args.side c.args.port in
-    subst (IsRunOf g.B.Origin.start) (sym (c.in_ok-arrive.ensures.arrived ∙ ap (λ (x : Symbolic). with_place x place) c.into_state-state.ensures.is))
-    (run_placed g.B.Origin.start c.args.run place c.into_state-state.ensures.run)
+    subst (IsRunOf g.B.Origin.start) (sym (c.in_ok-arrive.ensures.arrived ∙ ap (λ (x : Symbolic). with_place x place) (c.deref_mut.ensures.value ∙ c.into_box-state.ensures.is)))
+    (run_placed g.B.Origin.start c.args.run place c.into_box-state.ensures.run)
 
 pub returns : goal.returns
 returns g c =
-    c.of.ensures ∙ c.in_ok-arrive.ensures.arrived ∙ ap (λ (x : Symbolic). with_place x (place_at c.args.node c.args.side c.args.port)) c.into_state-state.ensures.is
+    c.of.ensures ∙ c.in_ok-arrive.ensures.arrived ∙ ap (λ (x : Symbolic). with_place x (place_at c.args.node c.args.side c.args.port)) (c.deref_mut.ensures.value ∙ c.into_box-state.ensures.is)

@@ -18,7 +18,7 @@ use Rattle.symbolic_engine.proofs.moving.run_on.Goals as goal
 
 pub of-run-requires : goal.of-run-requires
 of-run-requires g c =
-    run_on g.B.Origin.start c.args.run c.next.new.machine (c.in_ok-found.ensures.rest ∙ ap rest_of c.into_state-state.ensures.is) c.into_state-state.ensures.run
+    run_on g.B.Origin.start c.args.run c.next.new.machine (c.in_ok-found.ensures.rest ∙ ap rest_of (c.deref_mut.ensures.value ∙ c.into_box-state.ensures.is)) c.into_box-state.ensures.run
 
 pub returns-in-Ended : goal.returns-in-Ended
 returns-in-Ended g c =
@@ -29,8 +29,8 @@ returns-in-Ended g c =
     let old = reverse c.args.frames.items in
     let new = reverse c.next.new.frames.items in
     IfOk-weaker c.behind.result _ _
-    (λ moved m. moves_still (views_of {origin = g.B.Origin} s net) net c.args.running x c.into_state-state.result y old new c.in_ok-found.found c.args.steps.now c.next.new.steps
-    c.into_state-state.ensures.is c.in_ok-found.ensures.rest c.in_ok-found.ensures.course c.into_state-state.ensures.run moved
+    (λ moved m. moves_still (views_of {origin = g.B.Origin} s net) net c.args.running x c.deref_mut.result.now y old new c.in_ok-found.found c.args.steps.now c.next.new.steps
+    (c.deref_mut.ensures.value ∙ c.into_box-state.ensures.is) c.in_ok-found.ensures.rest c.in_ok-found.ensures.course c.into_box-state.ensures.run moved
     (λ begun. subst (λ (move : Move Formula). IsMove (views_of {origin = g.B.Origin} s net) (point_at begun (location_of s y (move_tree net c.args.running move new y))) begun moved) (sym c.in-Ended.is)
     (subst (λ (z : Symbolic). IsMove (views_of {origin = g.B.Origin} s net) (point_at begun (location_of s z (move_tree net c.args.running (Ended c.in-Ended.exit) new z))) begun moved) c.of-run.ensures (m begun))))
     c.behind.ensures
@@ -43,8 +43,8 @@ returns g c =
     let y = c.next.new.machine in
     let old = reverse c.args.frames.items in
     let new = reverse c.next.new.frames.items in
-    moves_still (views_of {origin = g.B.Origin} s net) net c.args.running x c.into_state-state.result y old new c.in_ok-found.found c.args.steps.now c.next.new.steps
-    c.into_state-state.ensures.is c.in_ok-found.ensures.rest c.in_ok-found.ensures.course c.into_state-state.ensures.run c.asked.result
+    moves_still (views_of {origin = g.B.Origin} s net) net c.args.running x c.deref_mut.result.now y old new c.in_ok-found.found c.args.steps.now c.next.new.steps
+    (c.deref_mut.ensures.value ∙ c.into_box-state.ensures.is) c.in_ok-found.ensures.rest c.in_ok-found.ensures.course c.into_box-state.ensures.run c.asked.result
     (λ begun. subst (λ (move : Move Formula). IsMove (views_of {origin = g.B.Origin} s net) (point_at begun (location_of s y (move_tree net c.args.running move new y))) begun c.asked.result) (sym c.in-Asked.is)
     (subst (λ (z : Symbolic). IsMove (views_of {origin = g.B.Origin} s net) (point_at begun (location_of s z (move_tree net c.args.running (Asked c.in-Asked.question c.in-Asked.test) new z))) begun c.asked.result) c.of-run.ensures (c.asked.ensures net begun)))
 
