@@ -10,7 +10,7 @@ ghost use Rattle.record_checks.specs.Parts.{AreTakenBy, IsJudged};
 ghost use Rattle.record_checks.specs.Stops.{LeadsTo, trees_of};
 ghost use Rattle.record_checks.specs.Trails.{IsTrail};
 
-use crate::fields::{are_same_fields, are_same_places, is_same_end};
+use crate::fields::{are_fields_of, are_same_places, is_same_end};
 use crate::guide::Guide;
 use crate::part::Part;
 use crate::trail::{Trail, lead, top};
@@ -67,8 +67,7 @@ fn is_shown_by(
     if !are_same_places(&places, path.places) {
         return Ok(false);
     }
-    let fields = state.fields(alloc)?;
-    Ok(are_same_fields(&fields, path.fields))
+    are_fields_of(alloc, state, path.fields)
 }
 
 /// Whether the cause of the verdict, where it has one, may be given for the condition.

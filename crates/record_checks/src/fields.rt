@@ -1,13 +1,18 @@
-//! Whether what is shown of two packets is the same.
+//! Whether what a record shows is that of a state, whose values are lent.
 
-ghost use Rattle.std.specs.Prelude.{◌≡◌, ◌↔◌, IsTrue, map};
+ghost use Rattle.std.specs.Prelude.{◌≡◌, ◌↔◌, IsTrue, IfOk, map, option_map};
+ghost use Rattle.cell_stacks.specs.Cells.{lent_cell, lent_stack};
+ghost use Rattle.metadata_scopes.specs.Scopes.{lent_meta};
 ghost use Rattle.path_records.specs.Shown.{fields_seen, held_head, held_meta};
+ghost use Rattle.sefl_meaning.specs.Fields.{fields_of};
 
 use cell_stacks::Cell;
 use lin_term::Term;
 use path_records::Fields;
 use sefl_meaning::{End, Place};
-use sn_width::{NameId, NodeId, TagId};
+use sn_width::{NameId, NoMemory, NodeId, TagId};
+use std::alloc::Global;
+use sym_state::SymState;
 
 pub(crate) fn are_same_places(first: &[Place], second: &[Place]) -> bool
     ensures { IsTrue result ↔ (first.now ≡ second.now) }
@@ -21,8 +26,8 @@ pub(crate) fn is_same_end(first: &End, second: &End) -> bool
     first == second
 }
 
-fn is_same_value(first: &Option<Term>, second: &Option<Term>) -> bool
-    ensures { IsTrue result ↔ (first.now ≡ second.now) }
+fn is_same_value(first: &Option<&Term>, second: &Option<Term>) -> bool
+    ensures { IsTrue result ↔ (option_map (λ value. value.now) first.now ≡ second.now) }
 {
     match first {
         None => second.is_none(),
@@ -33,8 +38,8 @@ fn is_same_value(first: &Option<Term>, second: &Option<Term>) -> bool
     }
 }
 
-fn is_same_cell(first: &Cell<Term>, second: &Cell<Term>) -> bool
-    ensures { IsTrue result ↔ (first.now ≡ second.now) }
+fn is_same_cell(first: &Cell<&Term>, second: &Cell<Term>) -> bool
+    ensures { IsTrue result ↔ (lent_cell first.now ≡ second.now) }
 {
     if first.width != second.width {
         return false;
@@ -42,8 +47,8 @@ fn is_same_cell(first: &Cell<Term>, second: &Cell<Term>) -> bool
     is_same_value(&first.value, &second.value)
 }
 
-fn are_same_cells(first: &[Cell<Term>], second: &[Cell<Term>]) -> bool
-    ensures { IsTrue result ↔ (first.now ≡ second.now) }
+fn are_same_cells(first: &[Cell<&Term>], second: &[Cell<Term>]) -> bool
+    ensures { IsTrue result ↔ (map lent_cell first.now ≡ second.now) }
 {
     if first.len() != second.len() {
         return false;
@@ -62,10 +67,12 @@ fn are_same_tags(first: &[(TagId, i32)], second: &[(TagId, i32)]) -> bool
     first == second
 }
 
+type LentHead<'a> = (i32, Vec<Cell<&'a Term>>);
+
 type Head = (i32, Vec<Cell<Term>>);
 
-fn is_same_head(first: &Head, second: &Head) -> bool
-    ensures { IsTrue result ↔ (held_head first.now ≡ held_head second.now) }
+fn is_same_head(first: &LentHead<'_>, second: &Head) -> bool
+    ensures { IsTrue result ↔ (lent_stack first.now ≡ held_head second.now) }
 {
     if first.0 != second.0 {
         return false;
@@ -73,8 +80,8 @@ fn is_same_head(first: &Head, second: &Head) -> bool
     are_same_cells(&first.1, &second.1)
 }
 
-fn are_same_heads(first: &[Head], second: &[Head]) -> bool
-    ensures { IsTrue result ↔ (map held_head first.now ≡ map held_head second.now) }
+fn are_same_heads(first: &[LentHead<'_>], second: &[Head]) -> bool
+    ensures { IsTrue result ↔ (map lent_stack first.now ≡ map held_head second.now) }
 {
     if first.len() != second.len() {
         return false;
@@ -87,10 +94,12 @@ fn are_same_heads(first: &[Head], second: &[Head]) -> bool
     true
 }
 
+type LentMeta<'a> = (Option<NodeId>, NameId, Vec<Cell<&'a Term>>);
+
 type Meta = (Option<NodeId>, NameId, Vec<Cell<Term>>);
 
-fn is_same_meta(first: &Meta, second: &Meta) -> bool
-    ensures { IsTrue result ↔ (held_meta first.now ≡ held_meta second.now) }
+fn is_same_meta(first: &LentMeta<'_>, second: &Meta) -> bool
+    ensures { IsTrue result ↔ (lent_meta first.now ≡ held_meta second.now) }
 {
     if first.0 != second.0 || first.1 != second.1 {
         return false;
@@ -98,8 +107,8 @@ fn is_same_meta(first: &Meta, second: &Meta) -> bool
     are_same_cells(&first.2, &second.2)
 }
 
-fn are_same_metas(first: &[Meta], second: &[Meta]) -> bool
-    ensures { IsTrue result ↔ (map held_meta first.now ≡ map held_meta second.now) }
+fn are_same_metas(first: &[LentMeta<'_>], second: &[Meta]) -> bool
+    ensures { IsTrue result ↔ (map lent_meta first.now ≡ map held_meta second.now) }
 {
     if first.len() != second.len() {
         return false;
@@ -112,15 +121,22 @@ fn are_same_metas(first: &[Meta], second: &[Meta]) -> bool
     true
 }
 
-/// Whether the fields are the same.
-pub(crate) fn are_same_fields(first: &Fields, second: &Fields) -> bool
-    ensures { IsTrue result ↔ (fields_seen first.now ≡ fields_seen second.now) }
+/// Whether these fields are what the state carries.
+pub(crate) fn are_fields_of(
+    alloc: Global,
+    state: &SymState,
+    fields: &Fields,
+) -> Result<bool, NoMemory>
+    ensures { IfOk result (λ yes. IsTrue yes ↔ (fields_of state.now.carried ≡ fields_seen fields.now)) }
 {
-    if !are_same_tags(&first.tags, &second.tags) {
-        return false;
+    let tags = state.layers().tags(alloc)?;
+    if !are_same_tags(&tags, &fields.tags) {
+        return Ok(false);
     }
-    if !are_same_heads(&first.heads, &second.heads) {
-        return false;
+    let heads = state.layers().heads(alloc)?;
+    if !are_same_heads(&heads, &fields.heads) {
+        return Ok(false);
     }
-    are_same_metas(&first.metas, &second.metas)
+    let metas = state.scopes().metas(alloc)?;
+    Ok(are_same_metas(&metas, &fields.metas))
 }

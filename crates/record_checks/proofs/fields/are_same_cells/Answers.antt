@@ -1,6 +1,7 @@
 use Rattle.std.proofs.Common.{◌≤◌, length, true, arith}
 use Rattle.lin_term.specs.Terms.{LinearTerm}
 use Rattle.cell_stacks.specs.declared.cell.Cell.{Cell}
+use Rattle.cell_stacks.specs.Cells.{lent_cell}
 use Rattle.record_checks.proofs.Same.{all_members, plain}
 use Rattle.record_checks.proofs.fields.are_same_cells.Goals as goal
 
@@ -11,4 +12,4 @@ returns c =
     let k = c.loop-place.place in
     let long : length xs ≤ k = c.loop-place-test.false in
     let other : length ys ≤ k = let l = c.loop-place.invariant.long in omega (arith, long, l) in
-    plain true xs ys (all_members (λ (x : Cell LinearTerm). x) xs ys k long other c.loop-place.invariant.same)
+    plain lent_cell true xs ys (all_members lent_cell (λ (x : Cell LinearTerm). x) xs ys k long other c.loop-place.invariant.same)
