@@ -15,7 +15,7 @@ use Rattle.path_solver.specs.Bases.{HasValues, IsBaseOf, broken_in}
 use Rattle.path_solver.specs.Decisions.{IsDecisionOn}
 use Rattle.exact_records.specs.Points.{IsKnown}
 use Rattle.symbolic_engine.specs.Finding.{values_in, broken_in as broken_by}
-use Rattle.symbolic_engine.proofs.Running.{some_same}
+use Rattle.symbolic_engine.proofs.RunLemmas.{some_same}
 
 -- a decision's values are a base, and a base stays one with more symbols
 pub record BasesKnown : Type 0 where

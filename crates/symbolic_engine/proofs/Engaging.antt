@@ -46,7 +46,7 @@ use Rattle.symbolic_engine.specs.Seeing.{finished_at, standing_at, views_of, wai
 use Rattle.symbolic_engine.specs.Stages.{stage_tree, wait_tree}
 use Rattle.symbolic_engine.specs.Turning.{IsNoted}
 use Rattle.symbolic_engine.proofs.Explored.{leads_there}
-use Rattle.symbolic_engine.proofs.Running.{condition_here, no_choices, no_tests, some_same}
+use Rattle.symbolic_engine.proofs.RunLemmas.{condition_here, no_choices, no_tests, some_same}
 use Rattle.symbolic_engine.proofs.Turns.{noted_point, run_noted}
 
 -- ---- the first place

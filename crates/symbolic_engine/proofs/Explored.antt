@@ -42,7 +42,7 @@ use Rattle.symbolic_engine.specs.Seeing.{views_of}
 use Rattle.symbolic_engine.specs.Finds.{handed_tree}
 use Rattle.symbolic_engine.specs.Exploring.{AreFound, ArrivedFor, ArrivesIn, ExploredFor, FollowedFor, ObservedFor}
 use Rattle.symbolic_engine.specs.Leading.{LeadsThere, WaitsAs}
-use Rattle.symbolic_engine.proofs.Running.{all_tests}
+use Rattle.symbolic_engine.proofs.RunLemmas.{all_tests}
 
 -- ---- the start
 

@@ -14,7 +14,7 @@ use Rattle.sefl_meaning.specs.Steps.{allocated, deallocated, evaluated, tag_crea
 use Rattle.sefl_meaning.specs.Runs.{Progress, off, go, forked, failed, in_iteration, iterations_of}
 use Rattle.sefl_meaning.specs.Courses.{Course, ends, asks, at_if, at_constrain, after, begin, chosen, course_code, course_in, course_iterations, step, unless_fault, with_state}
 use Rattle.code_frames.specs.declared.frame.Frame.{Frame}
-use Rattle.code_frames.specs.declared.frame.Frame.TheVariants.{Code, Turns}
+use Rattle.code_frames.specs.declared.frame.Frame.TheVariants.{Code, Iterations}
 use Rattle.code_frames.specs.declared.frame.Move.{Move}
 use Rattle.code_frames.specs.declared.frame.Move.TheVariants.{Ended, Asked}
 use Rattle.code_frames.specs.Frames.{course_after, course_frames, of_frame, scene_in}
@@ -108,7 +108,7 @@ module _ {V F : Type 0} (o : Values V F) where
 
   grows_frame : (net : Network) (node : NodeId) (frame : Frame) (p : Progress V) → Grows p.choices (of_frame o net node frame p)
   grows_frame net node (Code iterations site code) p = grows_code (code_tree code.now) (scene_in net node iterations) site p
-  grows_frame net node (Turns iterations var site body keys) p =
+  grows_frame net node (Iterations iterations var site body keys) p =
       grows_iterations (λ key q. course_code o (in_iteration (scene_in net node iterations) var.now key) site (code_tree body.now) q)
       (λ key q. grows_code (code_tree body.now) (in_iteration (scene_in net node iterations) var.now key) site q) keys p
 

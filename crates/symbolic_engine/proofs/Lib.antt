@@ -1,5 +1,5 @@
 pub mod Growing
-pub mod Running
+pub mod RunLemmas
 pub mod Ports
 pub mod Asking
 pub mod Turns

@@ -35,7 +35,7 @@ use Rattle.symbolic_engine.specs.Origins.{IsRunOf, location_of, progress_in}
 use Rattle.symbolic_engine.specs.Stages.{behind_running, behind_side, from_port, inside_tree, onward_of, stage_tree}
 use Rattle.symbolic_engine.specs.Seeing.{standing_at}
 use Rattle.symbolic_engine.proofs.Growing.{Grown, grown_at_move}
-use Rattle.symbolic_engine.proofs.Running.{move_from, reaches_here, tests_same, wider_by}
+use Rattle.symbolic_engine.proofs.RunLemmas.{move_from, reaches_here, tests_same, wider_by}
 
 -- ---- the code of a port
 

@@ -35,7 +35,7 @@ use Rattle.symbolic_engine.specs.Origins.{IsRunOf, entries_seen, location_of, pr
 use Rattle.symbolic_engine.specs.Stages.{behind_running, inside_tree, onward_of, side_tree, stage_tree, wait_tree}
 use Rattle.symbolic_engine.specs.Turning.{IsAwaited, IsCopyOf, IsNoted, IsStageBehind, copy_of, tree_behind}
 use Rattle.symbolic_engine.specs.Seeing.{standing_at, waiting_at}
-use Rattle.symbolic_engine.proofs.Running.{run_copied, run_decided, some_same, tests_decided}
+use Rattle.symbolic_engine.proofs.RunLemmas.{run_copied, run_decided, some_same, tests_decided}
 
 -- ---- decisions
 

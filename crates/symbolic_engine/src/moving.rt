@@ -9,7 +9,7 @@ ghost use Rattle.symbolic_engine.specs.declared.stage.Wait.TheVariants.{Asked as
 ghost use Rattle.symbolic_engine.specs.Origins.{location_of};
 ghost use Rattle.symbolic_engine.specs.Stages.{inside_tree, wait_tree};
 ghost use Rattle.symbolic_engine.specs.Turning.{offer_of};
-ghost use Rattle.symbolic_engine.specs.Seeing.{standing_at, views_of};
+ghost use Rattle.symbolic_engine.specs.Seeing.{MovedFrom, standing_at, views_of};
 
 use crate::arriving::{arrive, behind, ended};
 use crate::origin::{Origin, Run};

@@ -17,7 +17,7 @@ use std::alloc::Global;
 /// The room that a text has at the start, in bytes.
 const ROOM: usize = 1024;
 
-#[tactic(auto, unfolding(crate::specs::Walks::walk_data))]
+#[tactic(auto, unfolding(crate::specs::WalkTexts::walk_data))]
 fn write_walk(alloc: Global, out: &mut JsonText, net: &Net, walk: &Walk) -> Result<(), NoMemory>
     ensures { Gains (walk_data (network net.now) (trail_of walk.now)) result out.old out.new }
 {
@@ -35,7 +35,7 @@ fn write_walk(alloc: Global, out: &mut JsonText, net: &Net, walk: &Walk) -> Resu
     Ok(())
 }
 
-#[tactic(auto, unfolding(crate::specs::Walks::walk_list))]
+#[tactic(auto, unfolding(crate::specs::WalkTexts::walk_list))]
 fn write_walk_list(
     alloc: Global,
     out: &mut JsonText,
@@ -52,7 +52,7 @@ fn write_walk_list(
     Ok(())
 }
 
-#[tactic(auto, unfolding(crate::specs::Walks::walks_data))]
+#[tactic(auto, unfolding(crate::specs::WalkTexts::walks_data))]
 fn write_walks(alloc: Global, out: &mut JsonText, net: &Net, walks: &[Walk]) -> Result<(), NoMemory>
     ensures { Gains (walks_data (network net.now) (map trail_of walks.now)) result out.old out.new }
 {
@@ -68,7 +68,7 @@ fn write_walks(alloc: Global, out: &mut JsonText, net: &Net, walks: &[Walk]) -> 
 
 /// The walks as one line of JSON, keys ascending, with a line feed at its end. An id that is none of
 /// the net's, which no walk of an accepted net has, is shown with an empty name.
-#[tactic(auto, unfolding(crate::specs::Walks::walks_text))]
+#[tactic(auto, unfolding(crate::specs::WalkTexts::walks_text))]
 pub fn walks_text(alloc: Global, net: &Net, walks: &[Walk]) -> Result<String, NoMemory>
     ensures { IfOk result (λ text. string_bytes text ≡ walks_text (network net.now) (map trail_of walks.now)) }
 {

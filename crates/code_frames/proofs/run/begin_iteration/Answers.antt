@@ -11,11 +11,11 @@ use Rattle.code_frames.proofs.run.begin_iteration.Goals as goal
 pub returns-clause-course : goal.returns-clause-course
 returns-clause-course g c = λ o net at.
     let key : Key = (c.in-Some.owner, c.in-Some.name) in
-    iteration_taken o net at c.sequences_associate.ensures.courses c.args.iterations c.in-Ok.inner c.args.var.now c.in_ok-clone.field-0 c.args.site (code_tree c.args.body.now)
+    iteration_taken o net at c.sequences_associate.ensures.courses c.args.iterations c.in_ok-inner.inner c.args.var.now c.in_ok-clone.field-0 c.args.site (code_tree c.args.body.now)
     c.args.keys c.in_ok-behind.behind c.in-Some.owner c.in-Some.name
     (reverse c.args.frames.now.items) (reverse c.push-2.new.self.items) (reverse c.push-3.new.self.items)
     (by_top c.args.keys c.in_ok-behind.behind key c.in-Some.ensures c.in_ok-behind.ensures)
-    c.in-Ok.ensures.on_top c.in_ok-clone.ensures.cases
+    c.in_ok-inner.ensures.on_top c.in_ok-clone.ensures.cases
     (put o net at c.args.frames.now.items c.push-2.new.self.items _ c.in_ok-push.ensures.items)
     (put o net at c.push-2.new.self.items c.push-3.new.self.items _ c.in_ok-push-2.ensures.items)
 

@@ -29,9 +29,9 @@ returns-in_ok-done-in-Code-clause-course g c =
     c.in_ok-done-in-Code.ensures.counted
     (λ begun. way o net node (progress_at (m.carried new) (m.choices new) (suc begun))
     ∙ ap (λ (here : Course _ _). after here (course_frames o net node mid)) (c.in_ok-done-in-Code.ensures.course (suc begun))
-    ∙ code_taken o net node c.sequences_associate.ensures.courses c.in-Code.iterations c.in-Ok.kept c.in-Code.site c.in_ok-behind-in-Code.behind instr (take (length code - 1) (drop 1 code)) code old mid
+    ∙ code_taken o net node c.sequences_associate.ensures.courses c.in-Code.iterations c.in_ok-kept-in-Code.kept c.in-Code.site c.in_ok-behind-in-Code.behind instr (take (length code - 1) (drop 1 code)) code old mid
     (progress_at (m.carried c.args.machine.now) (m.choices c.args.machine.now) begun)
-    (first_of code instr some c.instr-item.is) c.in-Ok.ensures.same c.in_ok-behind-in-Code.ensures (put o net node c.args.frames.now.items c.push.new.self.items _ c.in_ok-push-in-Code.ensures.items)
+    (first_of code instr some c.instr-item.is) c.in_ok-kept-in-Code.ensures.same c.in_ok-behind-in-Code.ensures (put o net node c.args.frames.now.items c.push.new.self.items _ c.in_ok-push-in-Code.ensures.items)
     ∙ ap (λ (f : Frame). course_frames o net node (f ∷ old) (progress_at (m.carried c.args.machine.now) (m.choices c.args.machine.now) begun)) (sym c.in-Code.is)))
     c.put.ensures.course
 

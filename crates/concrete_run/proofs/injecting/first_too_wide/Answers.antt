@@ -20,7 +20,7 @@ loop-field-preserved c =
           subst (λ k. Fit c.args.fields.now (c.loop-field.field-index + 1) c.args.values.now k) (sym w.number-is)
           (fit_unknown c.args.fields.now c.loop-field.field-index c.args.values.now c.loop-field.number f (get_or c.args.values.now c.loop-field.number 0)
           c.loop-field-test.true c.field-item.is (none_of f.value c.is_none.result c.is_none.ensures w.if-is_none.true) refl
-          (fits_up_to (width_of f.target) w.width_of.result w.max.result (get_or c.args.values.now c.loop-field.number 0) w.width_of.ensures w.max.ensures.value w.if-values-number.false)
+          (fits_up_to (width_of f.target) w.width.result w.max.result (get_or c.args.values.now c.loop-field.number 0) w.width.ensures w.max.ensures.value w.if-values-number.false)
           c.loop-field.invariant)
       | else-is_none w ↦
           (let given = some_of f.value c.is_none.result c.is_none.ensures w.if-is_none.false in

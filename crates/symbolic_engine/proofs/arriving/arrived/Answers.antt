@@ -2,7 +2,7 @@ use Rattle.std.proofs.Common.{sym, ap, subst, ◌∙◌}
 use Rattle.sefl_meaning.specs.Walks.{place_at}
 use Rattle.sym_state.specs.Symbolic.{Symbolic, with_place}
 use Rattle.symbolic_engine.specs.Origins.{IsRunOf}
-use Rattle.symbolic_engine.proofs.Running.{run_placed}
+use Rattle.symbolic_engine.proofs.RunLemmas.{run_placed}
 use Rattle.symbolic_engine.proofs.arriving.arrived.Goals as goal
 
 pub of-requires : goal.of-requires

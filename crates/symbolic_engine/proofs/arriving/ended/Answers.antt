@@ -1,7 +1,7 @@
 use Rattle.std.proofs.Common.{refl}
 use Rattle.sefl_meaning.specs.Trees.{over}
 use Rattle.symbolic_engine.specs.Origins.{progress_in}
-use Rattle.symbolic_engine.proofs.Running.{stops_here}
+use Rattle.symbolic_engine.proofs.RunLemmas.{stops_here}
 use Rattle.symbolic_engine.proofs.arriving.ended.Goals as goal
 
 pub returns : goal.returns

@@ -5,7 +5,7 @@ use Rattle.symbolic_engine.specs.declared.stage.Wait.TheVariants.{Forked}
 use Rattle.symbolic_engine.specs.Origins.{progress_in}
 use Rattle.symbolic_engine.specs.Stages.{onward_of, wait_tree}
 use Rattle.symbolic_engine.proofs.Ports.{count_of_copies}
-use Rattle.symbolic_engine.proofs.Running.{stops_here}
+use Rattle.symbolic_engine.proofs.RunLemmas.{stops_here}
 use Rattle.symbolic_engine.proofs.arriving.forked.Goals as goal
 
 pub returns : goal.returns

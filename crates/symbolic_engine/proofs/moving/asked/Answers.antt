@@ -3,7 +3,7 @@ use Rattle.path_formula.specs.View.{view}
 use Rattle.symbolic_engine.specs.declared.stage.Wait.TheVariants.{Asked}
 use Rattle.symbolic_engine.specs.Stages.{wait_tree}
 use Rattle.symbolic_engine.proofs.Asking.{asking_node}
-use Rattle.symbolic_engine.proofs.Running.{stops_here}
+use Rattle.symbolic_engine.proofs.RunLemmas.{stops_here}
 use Rattle.symbolic_engine.proofs.moving.asked.Goals as goal
 
 pub invariant_of-node : goal.invariant_of-node

@@ -13,7 +13,7 @@ use Rattle.path_exec.specs.Moves.{IsMove}
 use Rattle.symbolic_engine.specs.Origins.{location_of}
 use Rattle.symbolic_engine.specs.Seeing.{views_of}
 use Rattle.symbolic_engine.proofs.Ports.{move_tree, moves_still}
-use Rattle.symbolic_engine.proofs.Running.{run_on}
+use Rattle.symbolic_engine.proofs.RunLemmas.{run_on}
 use Rattle.symbolic_engine.proofs.moving.run_on.Goals as goal
 
 pub of-run-requires : goal.of-run-requires

@@ -1,7 +1,7 @@
 use Rattle.std.proofs.Common.{sym, subst, ◌∙◌}
 use Rattle.net_check.specs.Network.{network}
 use Rattle.symbolic_engine.specs.Origins.{IsRunOf}
-use Rattle.symbolic_engine.proofs.Running.{first_run}
+use Rattle.symbolic_engine.proofs.RunLemmas.{first_run}
 use Rattle.symbolic_engine.proofs.Engaging.{begins_at}
 use Rattle.symbolic_engine.proofs.engine.ExplorerEngine.begin.Goals as goal
 

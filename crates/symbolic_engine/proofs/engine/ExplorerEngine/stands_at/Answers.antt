@@ -2,7 +2,7 @@ use Rattle.std.proofs.Common.{◌≡◌, ◌↔◌, IsTrue, Some, ap, sym, ◌�
 use Rattle.sn_tree.specs.Ends.{first}
 use Rattle.sefl_meaning.specs.declared.walk.Place.{Place}
 use Rattle.sym_state.specs.Symbolic.{Symbolic}
-use Rattle.symbolic_engine.proofs.Running.{some_same}
+use Rattle.symbolic_engine.proofs.RunLemmas.{some_same}
 use Rattle.symbolic_engine.proofs.Engaging.{ends_first, first_ends}
 use Rattle.symbolic_engine.proofs.engine.ExplorerEngine.stands_at.Goals as goal
 

@@ -5,7 +5,7 @@ use Rattle.sym_state.specs.Symbolic.{Symbolic}
 use Rattle.symbolic_engine.specs.declared.stage.Stage.TheVariants.{Entering}
 use Rattle.symbolic_engine.specs.Finding.{IsFoundOf}
 use Rattle.symbolic_engine.specs.Origins.{IsRunOf, condition_seen}
-use Rattle.symbolic_engine.proofs.Running.{first_run}
+use Rattle.symbolic_engine.proofs.RunLemmas.{first_run}
 use Rattle.symbolic_engine.proofs.Engaging.{begins_at, open_there, refuted_there}
 use Rattle.symbolic_engine.proofs.engine.ExplorerEngine.try_begin.Goals as goal
 
