@@ -1,4 +1,4 @@
--- What a sink of which no put fails takes of a piece.
+-- What a sink takes of a piece, where no put fails.
 use Rattle.std.proofs.Common.{ℕ, ◌≡◌, List, [], ◌++◌, Contains, Some, ap, sym, subst, refl, append-nil, arith}
 use Rattle.sn_edge.specs.MemSink.{SinkState, after_put}
 use Rattle.sn_edge.specs.Pieces.{IsPrefix}

@@ -14,7 +14,7 @@ use Rattle.command_edge.specs.declared.fault.InputFault.{InputFault}
 use Rattle.command_runs.specs.Jobs.{HasFilled, IsBadAt, IsTaken, JobFails, ListsFound, first_bad}
 use Rattle.command_runs.specs.Loading.{LoadsJob, LoadsNoJob}
 
--- From state to state: that a file of at most so many bytes, under a name, has these bytes, or is refused; that a file has this
+-- From state to state: that the file under a name has these bytes, no more than a limit, or is refused; that the file has this
 -- job, with code for its tables, or is refused; that a job whose nodes have code is accepted as a net and an injection, or its pattern at a site
 -- is refused.
 pub record Outside (S : Type 0) : Type 1 where

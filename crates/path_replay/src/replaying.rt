@@ -95,7 +95,7 @@ fn runs_from<'a, B: Origin>(
     Ok(Runs { engine, condition })
 }
 
-/// The same as `confirm` for records that are handed over one by one, of which none is kept. All are taken, also behind one that
+/// The same as `confirm` for records that are handed over one by one. It keeps none of them. It takes all, also behind one that
 /// is not confirmed.
 pub fn confirm_given<S: Supply>(
     alloc: Global,

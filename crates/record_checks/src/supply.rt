@@ -14,7 +14,7 @@ pub trait Supply {
     /// More records than this are not handed over.
     ghost left: { Self → ℕ };
 
-    /// The next record.
+    /// The next record. Behind an error nothing is said of what is left.
     fn next(&mut self) -> Result<Option<Record>, NoMemory>
         ensures step { IfOk result (λ found. steps self.old found self.new) }
         ensures fewer { IfOk result (λ found. IfSome found (λ _. left self.new < left self.old)) };

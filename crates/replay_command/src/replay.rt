@@ -72,7 +72,7 @@ fn text_of_whole(alloc: Global, job: &Accepted, bytes: &[u8]) -> Result<String, 
     text_of_counts(alloc, job, report.hops, &report.records)
 }
 
-/// The records of a report in its printed form, each of which is confirmed as it is read.
+/// The records of a report in its printed form. Each is confirmed as it is read.
 #[derive(Drop)]
 struct AsRead<'a, N: OfNet> {
     records: PrintedRecords<'a, N>,
@@ -101,7 +101,7 @@ fn text_of_answer(alloc: Global, answer: Result<Confirmed, ReplayFault>) -> Resu
     }
 }
 
-/// The text of the counts of the records of a report in its printed form, none of which is kept; None also where that form is
+/// The text of the counts of the records of a report in its printed form. It keeps none of them. None also where that form is
 /// not seen.
 fn text_of_printed<N: OfNet>(
     alloc: Global,

@@ -62,7 +62,7 @@ pub record RanAfter (files : GivenState) (before : ℕ) (words : List (List ℕ)
       → ((blamed : Status) → BlamesInput blamed → Cause around (files, before) (left, refusals) (inputs command) (work command) blamed → ⊥)
       → IsAnswered status
 
--- these files, of which none was asked for yet
+-- these files, before any is asked for
 abbrev pub unasked : List (List ℕ × List ℕ) → GivenState
 unasked entries = record { entries = entries; misses = 0; excesses = 0 }
 

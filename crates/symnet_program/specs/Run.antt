@@ -62,7 +62,7 @@ module _ {S : Type 0} (o : Outside S) (u v : S) where
   IsRun None status part = ((status ≡ Usage) ⊎ (status ≡ NoMemory)) × (v ≡ u) × (part ≡ [])
   IsRun (Some c) status part = IsRunOf c status part
 
--- How what was written was put, by what sinks tell and what one put may answer and leave: with a text it was put in pieces, each of which was
+-- How what was written was put, by what sinks tell and what one put may answer and leave: with a text it was put in pieces, and each was
 -- taken whole; where the sink failed, up to a piece that failed; where memory ended, behind the last piece nothing, or one for which there was none;
 -- and with any other status nothing was put.
 module _ {K : Type 0} (told : K → SinkTold) (gives : K → List ℕ → Put → K → Type 0) (old new : K) where
