@@ -1,10 +1,10 @@
 -- What holds of each pair of a list of stacks, and what stands at a key after a change.
-use Rattle.std.proofs.Common.{Result, Ok, Err, OnOk, OnErr, subst, sym, ◌≡◌, Bool, true, false, cond, List, [], ◌∷◌, ◌++◌, unwrap_or, Option, Some, None, IfSome, Bor}
+use Rattle.std.proofs.Common.{Result, Ok, Err, OnOk, OnErr, subst, sym, refl, ◌≡◌, ◌↔◌, IsTrue, Bool, true, false, cond, List, [], ◌∷◌, ◌++◌, unwrap_or, Option, Some, None, IfSome, Bor}
 use Rattle.std.specs.List.{AllByRecursion, filter}
 use Rattle.std.specs.declared.cmp.Ordering.{Ordering}
 use Rattle.std.specs.Option.{option_map}
 use Rattle.sn_tree.specs.Ends.{first, last}
-use Rattle.sn_tree.specs.Pairs.{pairs_at, pairs_before, pairs_after, next_after, last_before, pair_of}
+use Rattle.sn_tree.specs.Pairs.{pairs_at, pairs_before, pairs_after, pairs_with, next_after, last_before, pair_of}
 use Rattle.cell_stacks.specs.Stacks.{IsNonEmpty, NoneEmpty, stack_at, with_stack}
 
 all_append : {X : Type 0} (P : X → Type 0) (xs ys : List X) → AllByRecursion P xs → AllByRecursion P ys → AllByRecursion P (xs ++ ys)
@@ -54,6 +54,16 @@ module _ {K X : Type 0} (cmp : K → K → Ordering) (key : K) (stacks : List (K
   pub last_is_full : option_map pair_of lent ≡ last_before cmp key stacks → IfSome lent (λ p. IsNonEmpty p.1.now)
   last_is_full e = of_lent_pair (λ p. IsNonEmpty p.1) lent (rw e (last_of_all (λ p. IsNonEmpty p.1) (pairs_before cmp key stacks) (all_kept _ _ stacks full)))
 
-pub none_empty_changed : {K X A E : Type 0} (cmp : K → K → Ordering) (result : Result A E) (key : K) (stack : List X) (old new : List (K × List X)) → OnOk result (new ≡ with_stack cmp key stack old) → OnErr result (new ≡ old) → NoneEmpty old → NoneEmpty new
-none_empty_changed cmp (Ok x) key stack old new put kept a = subst NoneEmpty (sym put) (none_empty_with_stack cmp key stack old a)
-none_empty_changed cmp (Err x) key stack old new put kept a = subst NoneEmpty (sym kept) a
+no_yes : false ≡ true → ⊥
+no_yes e = cc
+
+pub filled : {X : Type 0} (stack : List X) (empty : Bool) → empty ≡ false → IsTrue empty ↔ (stack ≡ []) → IsNonEmpty stack
+filled [] true is same = cc
+filled [] false is same = absurd (no_yes (same.1 refl))
+filled (x ∷ xs) empty is same = tt
+
+-- after a stack with a member was put at the key, or after nothing was
+pub none_empty_set : {K X A E : Type 0} (cmp : K → K → Ordering) (result : Result A E) (key : K) (stack : List X) (old new : List (K × List X)) → IsNonEmpty stack → OnOk result (new ≡ pairs_with cmp key stack old) → OnErr result (new ≡ old) → NoneEmpty old → NoneEmpty new
+none_empty_set cmp result key [] old new full put kept all = absurd full
+none_empty_set cmp (Ok x) key (y ∷ ys) old new full put kept all = subst NoneEmpty (sym put) (none_empty_with_stack cmp key (y ∷ ys) old all)
+none_empty_set cmp (Err x) key (y ∷ ys) old new full put kept all = subst NoneEmpty (sym kept) all

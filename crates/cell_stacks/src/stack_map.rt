@@ -62,12 +62,8 @@ impl<K: Ord + Copy, X: Drop> StackMap<K, X> {
         ensures ok { OnOk result (self.new ≡ with_stack K.cmp key (member ∷ stack_at K.cmp key self.old) self.old) }
         ensures err { OnErr result (self.new ≡ self.old) }
     {
-        let pushed = match self.stacks.get(&key) {
-            None => Shared::empty().push(alloc, member),
-            Some(stack) => stack.push(alloc, member),
-        };
-        let stack = pushed?;
-        self.put(alloc, key, stack)
+        let stack = self.with_member(alloc, &key, member)?;
+        self.stacks.set(alloc, key, stack)
     }
 
     /// Removes the top member at the key, if there is one.
@@ -76,7 +72,12 @@ impl<K: Ord + Copy, X: Drop> StackMap<K, X> {
         ensures err { OnErr result (self.new ≡ self.old) }
     {
         let stack = self.members_below(&key)?;
-        self.put(alloc, key, stack)
+        if stack.is_empty() {
+            let stacks = self.stacks.without(alloc, &key)?;
+            self.stacks = stacks;
+            return Ok(());
+        }
+        self.stacks.set(alloc, key, stack)
     }
 
     /// Puts a member in place of the top one at the key, or alone where the key is absent.
@@ -87,7 +88,7 @@ impl<K: Ord + Copy, X: Drop> StackMap<K, X> {
     {
         let stack = self.members_below(&key)?;
         let stack = stack.push(alloc, member)?;
-        self.put(alloc, key, stack)
+        self.stacks.set(alloc, key, stack)
     }
 
     /// The stack of the least greater key; `None` exactly where there is no such key.
@@ -116,6 +117,16 @@ impl<K: Ord + Copy, X: Drop> StackMap<K, X> {
         Ok(pairs)
     }
 
+    /// The stack at the key with one more member on top.
+    fn with_member(&self, alloc: Global, key: &K, member: X) -> Result<Shared<X>, NoMemory>
+        ensures { IfOk result (λ stack. stack ≡ member ∷ stack_at K.cmp key.now self.now) }
+    {
+        match self.stacks.get(key) {
+            None => Shared::empty().push(alloc, member),
+            Some(stack) => stack.push(alloc, member),
+        }
+    }
+
     /// The stack below the top member at the key; empty where the key is absent.
     fn members_below(&self, key: &K) -> Result<Shared<X>, NoMemory>
         ensures { IfOk result (λ stack. stack ≡ tail (stack_at K.cmp key.now self.now)) }
@@ -129,33 +140,4 @@ impl<K: Ord + Copy, X: Drop> StackMap<K, X> {
         let below = below.fork()?;
         Ok(below)
     }
-
-    /// Puts a stack at the key, in place of what was there; an empty one goes.
-    fn put(&mut self, alloc: Global, key: K, stack: Shared<X>) -> Result<(), NoMemory>
-        ensures ok { OnOk result (self.new ≡ with_stack K.cmp key stack self.old) }
-        ensures err { OnErr result (self.new ≡ self.old) }
-    {
-        changed(alloc, &mut self.stacks, key, stack)
-    }
-}
-
-/// Puts this stack at the key, in place of what was there; an empty one goes.
-fn changed<K: Ord + Copy, X: Drop>(
-    alloc: Global,
-    stacks: &mut Tree<K, Shared<X>>,
-    key: K,
-    stack: Shared<X>,
-) -> Result<(), NoMemory>
-    ensures ok { OnOk result (stacks.new ≡ with_stack K.cmp key stack stacks.old) }
-    ensures err { OnErr result (stacks.new ≡ stacks.old) }
-{
-    if stack.is_empty() {
-        let tree = stacks.without(alloc, &key)?;
-        *stacks = tree;
-        return Ok(());
-    }
-    let Ok(()) = stacks.set(alloc, key, stack) else {
-        return Err(NoMemory);
-    };
-    Ok(())
 }

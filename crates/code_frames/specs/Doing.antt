@@ -1,7 +1,11 @@
 -- What an instruction does, before the frames that are left.
-use Rattle.std.specs.Prelude.{ℕ, true, false, List, Option, None, Some}
+use Rattle.std.specs.Prelude.{◌≡◌, ℕ, true, false, List, Option, None, Some, Result, Ok, Err}
+use Rattle.sn_width.specs.declared.faults.StepFault.{StepFault}
+use Rattle.sn_width.specs.declared.faults.StepFault.TheVariants as faults
 use Rattle.sn_width.specs.declared.ids.NodeId.{NodeId}
-use Rattle.net_check.specs.Network.{Network}
+use Rattle.net_check.specs.Network.{Network, network}
+use Rattle.sefl_meaning.specs.declared.walk.Failure.TheVariants as failures
+use Rattle.sefl_meaning.specs.Carried.{Scene}
 use Rattle.sefl_meaning.specs.Values.{Values}
 use Rattle.sefl_meaning.specs.Runs.{off, go, forked, failed}
 use Rattle.sefl_meaning.specs.Courses.{ends, asks}
@@ -10,8 +14,12 @@ use Rattle.code_frames.specs.declared.frame.Move.{Move}
 use Rattle.code_frames.specs.declared.frame.Move.TheVariants as moves
 use Rattle.code_frames.specs.declared.instrs.Done.{Done}
 use Rattle.code_frames.specs.declared.instrs.Done.TheVariants.{On, Runs, Go, Forked, Failed, Asked}
-use Rattle.code_frames.specs.Frames.{Part, WaitsFor, asking_of, branch_of, course_after, course_frames, of_frame}
+use Rattle.code_frames.specs.declared.instrs.Point.{Point}
+use Rattle.code_frames.specs.Frames.{Part, WaitsFor, asking_of, branch_of, course_after, course_frames, of_frame, scene_in}
 use Rattle.code_frames.specs.Weights.{frame_weight, question_weight}
+
+abbrev pub scene_of_point : Point → Scene
+scene_of_point point = scene_in (network point.net.now) point.node point.iterations
 
 module _ {V F T : Type 0} (o : Values V F) (net : Network) (node : NodeId) (truth : T → F) where
   abbrev pub course_of : Done T → Part V F
@@ -29,6 +37,12 @@ module _ {V F T : Type 0} (o : Values V F) (net : Network) (node : NodeId) (trut
   course_on (Some move) frames p = course_after o net node truth move frames p
 
 module _ {T : Type 0} where
+  -- what a step comes to that was taken, or refused, at a site
+  abbrev pub Settles : Result (Unit {0}) StepFault → ℕ → Done T → Type 0
+  Settles (Ok taken) site done = done ≡ On
+  Settles (Err (faults.Layout fault)) site done = done ≡ Failed (failures.Layout fault) site
+  Settles (Err faults.NoMemory) site done = ⊥
+
   -- a test that it asks has the property
   abbrev pub AsksFor : (T → Type 0) → Done T → Type 0
   AsksFor Fit On = Unit {0}

@@ -1,17 +1,19 @@
 //! What an instruction does.
 
-ghost use Rattle.std.specs.Prelude.{◌≡◌, ◌+◌, ◌<◌, ◌≤◌, ℕ, IfOk, OnOk, true};
+ghost use Rattle.std.specs.Prelude.{◌≡◌, ◌+◌, ◌<◌, ◌≤◌, ℕ, IfOk, OnOk};
 ghost use Rattle.sefl_syntax.specs.Trees.{branch, constrain, each};
 ghost use Rattle.sefl_syntax.specs.Views.{code_tree, cond_tree, instr_tree};
 ghost use Rattle.net_check.specs.Network.{Network, network};
+ghost use Rattle.instr_steps.specs.Scenes.{scene_of};
 ghost use Rattle.sefl_meaning.specs.Courses.{course_in};
 ghost use Rattle.sefl_meaning.specs.declared.walk.Failure.TheVariants.{Layout as LayoutFailure};
 ghost use Rattle.code_frames.specs.declared.instrs.Done.TheVariants.{Failed as FailedAt};
-ghost use Rattle.code_frames.specs.Doing.{AsksFor, course_of, done_weight};
-ghost use Rattle.code_frames.specs.Frames.{progress_at, scene_in};
-ghost use Rattle.code_frames.specs.Steps.{is_step};
+ghost use Rattle.code_frames.specs.Acts.{flow_tree};
+ghost use Rattle.code_frames.specs.Doing.{AsksFor, Settles, course_of, done_weight, scene_of_point};
+ghost use Rattle.code_frames.specs.Frames.{progress_at};
 ghost use Rattle.code_frames.specs.Weights.{code_weight, instr_weight};
 
+use crate::act::{Act, Flow, act_of};
 use crate::frame::{Frame, Question};
 use crate::machine::Machine;
 use instr_steps::Scene;
@@ -35,102 +37,65 @@ pub(crate) enum Done<'a, T: Drop> {
     Asked { question: Question<'a>, test: T },
 }
 
-/// Runs an instruction of a box, at a site, in these iterations of Fors.
+/// Where an instruction runs: in a box, in these iterations of Fors, at a site.
+#[derive(Drop)]
+pub(crate) struct Point<'r> {
+    pub(crate) net: &'r Net,
+    pub(crate) node: NodeId,
+    pub(crate) iterations: Shared<Iteration>,
+    pub(crate) site: u32,
+}
+
+impl<'r> Point<'r> {
+    fn scene(&self) -> Scene<'_>
+        ensures { scene_of result ≡ scene_of_point self.now }
+    {
+        Scene {
+            net: self.net,
+            node: self.node,
+            iterations: &self.iterations,
+        }
+    }
+}
+
+/// Runs an instruction.
 pub(crate) fn run_instr<'a, M: Machine, L: Ledger>(
     alloc: Global,
     machine: &mut M,
-    net: &Net,
-    node: NodeId,
-    iterations: Shared<Iteration>,
-    site: u32,
+    point: Point<'_>,
     instr: &'a Instr,
     steps: &mut Steps<L>,
 ) -> Result<Done<'a, M::Test>, NoMemory>
     ensures course { IfOk result (λ done. (begun : ℕ)
-        → course_of (M.values machine.old) (network net.now) node M.truth done
+        → course_of (M.values machine.old) (network point.entry.net.now) point.entry.node M.truth done
         (progress_at (M.carried machine.new) (M.choices machine.new) begun)
-        ≡ course_in (M.values machine.old) (scene_in (network net.now) node iterations) site (instr_tree instr.now)
+        ≡ course_in (M.values machine.old) (scene_of_point point.entry) point.entry.site (instr_tree instr.now)
         (progress_at (M.carried machine.old) (M.choices machine.old) begun)) }
     ensures counted { OnOk result (steps.new ≡ steps.old + 1) }
     ensures kept { OnOk result (M.values machine.new ≡ M.values machine.old) }
     ensures rest { OnOk result (M.rest machine.new ≡ M.rest machine.old) }
     ensures fit { IfOk result (AsksFor (M.IsFit machine.new)) }
-    ensures weight { IfOk result (λ done. done_weight (network net.now) done < instr_weight (network net.now)
-        (instr_tree instr.now)) }
+    ensures weight { IfOk result (λ done. done_weight (network point.entry.net.now) done
+        < instr_weight (network point.entry.net.now) (instr_tree instr.now)) }
 {
-    match instr {
-        Instr::Constrain(test) => ask(alloc, machine, net, node, iterations, site, test, steps),
-        Instr::If { test, first, other } => branch(
-            alloc, machine, net, node, iterations, site, test, first, other, steps,
-        ),
-        Instr::For { var, pattern, body } => each(
-            alloc, machine, net, node, iterations, site, var, pattern, body, steps,
-        ),
-        Instr::Fail(text) => {
-            machine.pass(steps);
-            let text = text.clone()?;
-            let failure = Failure::Message { text };
-            Ok(Done::Failed { failure, site })
+    match act_of(instr) {
+        Act::Step(step) => {
+            let taken = machine.step(alloc, &point.scene(), step, steps);
+            settled(taken, point.site)
         }
-        Instr::Forward(port) => {
-            machine.pass(steps);
-            Ok(Done::Go(*port))
+        Act::Choose(target) => {
+            let taken = machine.choose(alloc, &point.scene(), target, steps);
+            settled(taken, point.site)
         }
-        Instr::Fork(ports) => {
-            machine.pass(steps);
-            Ok(Done::Forked(ports))
-        }
-        Instr::Block(body) => {
-            machine.pass(steps);
-            Ok(Done::Runs(Frame::Code {
-                iterations,
-                site: behind_item(site)?,
-                code: body,
-            }))
-        }
-        Instr::NoOp => {
-            machine.pass(steps);
-            Ok(Done::On)
-        }
-        Instr::Allocate(_) => take(alloc, machine, net, node, iterations, site, instr, steps),
-        Instr::Deallocate(_) => take(alloc, machine, net, node, iterations, site, instr, steps),
-        Instr::Assign { .. } => take(alloc, machine, net, node, iterations, site, instr, steps),
-        Instr::AssignAny(_) => take(alloc, machine, net, node, iterations, site, instr, steps),
-        Instr::CreateTag { .. } => take(alloc, machine, net, node, iterations, site, instr, steps),
-        Instr::SetTag { .. } => take(alloc, machine, net, node, iterations, site, instr, steps),
-        Instr::DestroyTag(_) => take(alloc, machine, net, node, iterations, site, instr, steps),
+        Act::Flow(flow) => go_on(alloc, machine, point, flow, steps),
     }
 }
 
-/// An instruction without a test, a block or a port.
-fn take<'a, M: Machine, L: Ledger>(
-    alloc: Global,
-    machine: &mut M,
-    net: &Net,
-    node: NodeId,
-    iterations: Shared<Iteration>,
-    site: u32,
-    instr: &Instr,
-    steps: &mut Steps<L>,
-) -> Result<Done<'a, M::Test>, NoMemory>
-    requires { is_step (instr_tree instr.now) ≡ true }
-    ensures course { IfOk result (λ done. (begun : ℕ)
-        → course_of (M.values machine.old) (network net.now) node M.truth done
-        (progress_at (M.carried machine.new) (M.choices machine.new) begun)
-        ≡ course_in (M.values machine.old) (scene_in (network net.now) node iterations) site (instr_tree instr.now)
-        (progress_at (M.carried machine.old) (M.choices machine.old) begun)) }
-    ensures counted { steps.new ≡ steps.old + 1 }
-    ensures kept { M.values machine.new ≡ M.values machine.old }
-    ensures rest { M.rest machine.new ≡ M.rest machine.old }
-    ensures fit { IfOk result (AsksFor (M.IsFit machine.new)) }
-    ensures weight { IfOk result (λ done. (at : Network) → done_weight at done ≡ 0) }
+/// What a step that was taken, or refused, at a site comes to.
+fn settled<'a, T: Drop>(taken: Result<(), StepFault>, site: u32) -> Result<Done<'a, T>, NoMemory>
+    ensures { IfOk result (Settles taken site) }
 {
-    let at = Scene {
-        net,
-        node,
-        iterations: &iterations,
-    };
-    match machine.step(alloc, &at, instr, steps) {
+    match taken {
         Ok(()) => Ok(Done::On),
         Err(StepFault::Layout(fault)) => Ok(refused(fault, site)),
         Err(StepFault::NoMemory) => Err(NoMemory),
@@ -145,33 +110,90 @@ fn refused<'a, T: Drop>(fault: LayoutFault, site: u32) -> Done<'a, T>
     Done::Failed { failure, site }
 }
 
+/// Runs an instruction that says what runs next.
+fn go_on<'a, M: Machine, L: Ledger>(
+    alloc: Global,
+    machine: &M,
+    point: Point<'_>,
+    flow: Flow<'a>,
+    steps: &mut Steps<L>,
+) -> Result<Done<'a, M::Test>, NoMemory>
+    ensures course { IfOk result (λ done. (begun : ℕ)
+        → course_of (M.values machine.now) (network point.entry.net.now) point.entry.node M.truth done
+        (progress_at (M.carried machine.now) (M.choices machine.now) begun)
+        ≡ course_in (M.values machine.now) (scene_of_point point.entry) point.entry.site (flow_tree flow.entry)
+        (progress_at (M.carried machine.now) (M.choices machine.now) begun)) }
+    ensures counted { OnOk result (steps.new ≡ steps.old + 1) }
+    ensures fit { IfOk result (AsksFor (M.IsFit machine.now)) }
+    ensures weight { IfOk result (λ done. done_weight (network point.entry.net.now) done
+        < instr_weight (network point.entry.net.now) (flow_tree flow.entry)) }
+{
+    match flow {
+        Flow::Constrain(test) => ask(alloc, machine, point, test, steps),
+        Flow::If { test, first, other } => {
+            branch(alloc, machine, point, test, first, other, steps)
+        }
+        Flow::For { var, pattern, body } => {
+            each(alloc, machine, point, var, pattern, body, steps)
+        }
+        Flow::Fail(text) => {
+            machine.pass(steps);
+            let text = text.clone()?;
+            let failure = Failure::Message { text };
+            Ok(Done::Failed {
+                failure,
+                site: point.site,
+            })
+        }
+        Flow::Forward(port) => {
+            machine.pass(steps);
+            Ok(Done::Go(port))
+        }
+        Flow::Fork(ports) => {
+            machine.pass(steps);
+            Ok(Done::Forked(ports))
+        }
+        Flow::Block(body) => {
+            machine.pass(steps);
+            let Point {
+                net: _,
+                node: _,
+                iterations,
+                site,
+            } = point;
+            Ok(Done::Runs(Frame::Code {
+                iterations,
+                site: behind_item(site)?,
+                code: body,
+            }))
+        }
+        Flow::NoOp => {
+            machine.pass(steps);
+            Ok(Done::On)
+        }
+    }
+}
+
 /// A Constrain: asks whether its condition holds.
 fn ask<'a, M: Machine, L: Ledger>(
     alloc: Global,
     machine: &M,
-    net: &Net,
-    node: NodeId,
-    iterations: Shared<Iteration>,
-    site: u32,
+    point: Point<'_>,
     test: &Cond,
     steps: &mut Steps<L>,
 ) -> Result<Done<'a, M::Test>, NoMemory>
     ensures course { IfOk result (λ done. (begun : ℕ)
-        → course_of (M.values machine.now) (network net.now) node M.truth done
+        → course_of (M.values machine.now) (network point.entry.net.now) point.entry.node M.truth done
         (progress_at (M.carried machine.now) (M.choices machine.now) begun)
-        ≡ course_in (M.values machine.now) (scene_in (network net.now) node iterations) site
+        ≡ course_in (M.values machine.now) (scene_of_point point.entry) point.entry.site
         (constrain (cond_tree test.now))
         (progress_at (M.carried machine.now) (M.choices machine.now) begun)) }
     ensures counted { steps.new ≡ steps.old + 1 }
     ensures fit { IfOk result (AsksFor (M.IsFit machine.now)) }
     ensures weight { IfOk result (λ done. (at : Network) → done_weight at done ≡ 0) }
 {
-    let at = Scene {
-        net,
-        node,
-        iterations: &iterations,
-    };
-    match machine.test(alloc, &at, test, steps) {
+    let site = point.site;
+    match machine.test(alloc, &point.scene(), test, steps) {
         Ok(test) => {
             let question = Question::Constrain { site };
             Ok(Done::Asked { question, test })
@@ -185,19 +207,16 @@ fn ask<'a, M: Machine, L: Ledger>(
 fn branch<'a, M: Machine, L: Ledger>(
     alloc: Global,
     machine: &M,
-    net: &Net,
-    node: NodeId,
-    iterations: Shared<Iteration>,
-    site: u32,
+    point: Point<'_>,
     test: &Cond,
     first: &'a [Instr],
     other: &'a [Instr],
     steps: &mut Steps<L>,
 ) -> Result<Done<'a, M::Test>, NoMemory>
     ensures course { IfOk result (λ done. (begun : ℕ)
-        → course_of (M.values machine.now) (network net.now) node M.truth done
+        → course_of (M.values machine.now) (network point.entry.net.now) point.entry.node M.truth done
         (progress_at (M.carried machine.now) (M.choices machine.now) begun)
-        ≡ course_in (M.values machine.now) (scene_in (network net.now) node iterations) site
+        ≡ course_in (M.values machine.now) (scene_of_point point.entry) point.entry.site
         (branch (cond_tree test.now) (code_tree first.now) (code_tree other.now))
         (progress_at (M.carried machine.now) (M.choices machine.now) begun)) }
     ensures counted { steps.new ≡ steps.old + 1 }
@@ -205,12 +224,14 @@ fn branch<'a, M: Machine, L: Ledger>(
     ensures weight { IfOk result (λ done. (at : Network)
         → done_weight at done ≤ code_weight at (code_tree first.now) + code_weight at (code_tree other.now)) }
 {
-    let at = Scene {
-        net,
-        node,
-        iterations: &iterations,
-    };
-    match machine.test(alloc, &at, test, steps) {
+    let asked = machine.test(alloc, &point.scene(), test, steps);
+    let Point {
+        net: _,
+        node: _,
+        iterations,
+        site,
+    } = point;
+    match asked {
         Ok(test) => {
             let question = Question::If {
                 iterations,
@@ -229,26 +250,29 @@ fn branch<'a, M: Machine, L: Ledger>(
 fn each<'a, M: Machine, L: Ledger>(
     alloc: Global,
     machine: &M,
-    net: &Net,
-    node: NodeId,
-    iterations: Shared<Iteration>,
-    site: u32,
+    point: Point<'_>,
     var: &'a Name,
     pattern: &Text,
     body: &'a [Instr],
     steps: &mut Steps<L>,
 ) -> Result<Done<'a, M::Test>, NoMemory>
     ensures course { IfOk result (λ done. (begun : ℕ)
-        → course_of (M.values machine.now) (network net.now) node M.truth done
+        → course_of (M.values machine.now) (network point.entry.net.now) point.entry.node M.truth done
         (progress_at (M.carried machine.now) (M.choices machine.now) begun)
-        ≡ course_in (M.values machine.now) (scene_in (network net.now) node iterations) site
+        ≡ course_in (M.values machine.now) (scene_of_point point.entry) point.entry.site
         (each var.now pattern.now (code_tree body.now))
         (progress_at (M.carried machine.now) (M.choices machine.now) begun)) }
     ensures counted { OnOk result (steps.new ≡ steps.old + 1) }
     ensures fit { IfOk result (AsksFor (M.IsFit machine.now)) }
-    ensures weight { IfOk result (λ done. done_weight (network net.now) done
-        < instr_weight (network net.now) (each var.now pattern.now (code_tree body.now))) }
+    ensures weight { IfOk result (λ done. done_weight (network point.entry.net.now) done
+        < instr_weight (network point.entry.net.now) (each var.now pattern.now (code_tree body.now))) }
 {
+    let Point {
+        net,
+        node,
+        iterations,
+        site,
+    } = point;
     let inner = behind_item(site)?;
     let found = net.found(pattern);
     let keys = machine.iterations(alloc, node, found, steps)?;

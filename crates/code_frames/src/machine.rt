@@ -1,17 +1,17 @@
 //! What code runs on.
 
-ghost use Rattle.std.specs.Prelude.{◌≡◌, ◌+◌, ℕ, List, IfOk, true};
+ghost use Rattle.std.specs.Prelude.{◌≡◌, ◌+◌, ℕ, List, IfOk};
 ghost use Rattle.cell_stacks.specs.Outcome.{Meets};
 ghost use Rattle.metadata_scopes.specs.Snapshot.{snapshot};
-ghost use Rattle.sefl_syntax.specs.Views.{cond_tree, instr_tree};
+ghost use Rattle.sefl_syntax.specs.Views.{cond_tree};
 ghost use Rattle.sefl_meaning.specs.Carried.{Carried};
 ghost use Rattle.sefl_meaning.specs.Terms.{truth_in};
 ghost use Rattle.sefl_meaning.specs.Values.{Values};
 ghost use Rattle.instr_steps.specs.Scenes.{GivesBy, scene_of};
-ghost use Rattle.code_frames.specs.Steps.{done_by, is_step};
+ghost use Rattle.code_frames.specs.Steps.{chosen, stepped};
 
-use instr_steps::Scene;
-use sefl_syntax::{Cond, Instr};
+use instr_steps::{Scene, Step};
+use sefl_syntax::{Cond, Target};
 use sn_width::{NameId, NoMemory, NodeId, StepFault, Steps};
 use std::alloc::Global;
 use std::sync::ledger::Ledger;
@@ -49,16 +49,30 @@ pub trait Machine {
     /// The test is one that this machine may make.
     ghost IsFit: { Self → Self.Test → Type 0 };
 
-    /// Takes an instruction without a test, a block or a port. A refused one changes nothing.
+    /// Takes a step on what is carried. A refused one changes nothing.
     fn step<L: Ledger>(
         &mut self,
         alloc: Global,
         at: &Scene<'_>,
-        instr: &Instr,
+        step: Step<'_>,
         steps: &mut Steps<L>,
     ) -> Result<(), StepFault>
-        requires { is_step (instr_tree instr.now) ≡ true }
-        ensures step { Meets (done_by (values self.old) (scene_of at.now) (instr_tree instr.now)
+        ensures step { Meets (stepped (values self.old) (scene_of at.now) step.entry (carried self.old))
+            result (carried self.old) (carried self.new) }
+        ensures choices { choices self.new ≡ choices self.old }
+        ensures kept { values self.new ≡ values self.old }
+        ensures rest { rest self.new ≡ rest self.old }
+        ensures counted { steps.new ≡ steps.old + 1 };
+
+    /// Puts the next choice, at the target's width, into the top cell. A refused one changes nothing.
+    fn choose<L: Ledger>(
+        &mut self,
+        alloc: Global,
+        at: &Scene<'_>,
+        target: &Target,
+        steps: &mut Steps<L>,
+    ) -> Result<(), StepFault>
+        ensures choice { Meets (chosen (values self.old) (scene_of at.now) target.now
             (carried self.old, choices self.old))
             result (carried self.old, choices self.old) (carried self.new, choices self.new) }
         ensures kept { values self.new ≡ values self.old }

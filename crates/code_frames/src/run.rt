@@ -12,7 +12,7 @@ ghost use Rattle.code_frames.specs.Frames.{GoesOn, WaitsFor, course_after, cours
 ghost use Rattle.code_frames.specs.Weights.{IsBelow, code_weight, frames_weight, question_weight, iterations_weight};
 
 use crate::frame::{Exit, Frame, Move, Question};
-use crate::instrs::{Done, run_instr};
+use crate::instrs::{Done, Point, run_instr};
 use crate::machine::Machine;
 use net_check::{Net, behind_code, behind_instr, behind_item};
 use sefl_meaning::laws::{Truths, sequences_associate};
@@ -144,7 +144,13 @@ fn step_frame<'a, M: Machine, L: Ledger>(
                 site: behind,
                 code: rest,
             })?;
-            let done = run_instr(alloc, machine, net, node, iterations, site, instr, steps)?;
+            let point = Point {
+                net,
+                node,
+                iterations,
+                site,
+            };
+            let done = run_instr(alloc, machine, point, instr, steps)?;
             put::<M>(done, frames)
         }
         Frame::Iterations {

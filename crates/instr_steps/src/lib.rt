@@ -9,5 +9,5 @@ mod values;
 pub use cell_values::{Arithmetic, Numbers, Scene, reduced};
 pub use conditions::truth_of;
 pub use injecting::injected;
-pub use steps::{allocate, assign, create_tag, deallocate, destroy_tag, put, set_tag};
+pub use steps::{Step, put, take};
 pub use values::value_of;

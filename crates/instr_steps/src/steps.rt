@@ -5,6 +5,7 @@ ghost use Rattle.sefl_syntax.specs.Views.{expr_tree};
 ghost use Rattle.sefl_meaning.specs.Steps.{allocated, assigned, deallocated, evaluated, tag_created, tag_destroyed, tag_set};
 ghost use Rattle.sefl_meaning.specs.View.{carried_of};
 ghost use Rattle.instr_steps.specs.Scenes.{scene_of};
+ghost use Rattle.instr_steps.specs.Stepping.{stepped};
 
 use crate::values::value_of;
 use cell_values::{Arithmetic, Scene};
@@ -13,8 +14,40 @@ use sefl_syntax::{Addr, Expr, Name, Target};
 use sn_width::StepFault;
 use std::alloc::Global;
 
+/// An instruction that changes what is carried, and makes no choice, by its parts.
+#[derive(Clone, Copy)]
+pub enum Step<'a> {
+    Allocate(&'a Target),
+    Deallocate(&'a Target),
+    Assign { target: &'a Target, value: &'a Expr },
+    CreateTag { name: &'a Name, addr: &'a Addr },
+    SetTag { name: &'a Name, addr: &'a Addr },
+    DestroyTag(&'a Name),
+}
+
+/// Takes a step. A refused one changes nothing.
+pub fn take<A: Arithmetic>(
+    alloc: Global,
+    o: &A,
+    at: &Scene<'_>,
+    state: &mut Carried<A::Value>,
+    step: Step<'_>,
+) -> Result<(), StepFault>
+    ensures { Meets (stepped (A.values o.now) (scene_of at.now) step.entry (carried_of state.old)) result
+        (carried_of state.old) (carried_of state.new) }
+{
+    match step {
+        Step::Allocate(target) => allocate(alloc, at, state, target),
+        Step::Deallocate(target) => deallocate(alloc, at, state, target),
+        Step::Assign { target, value } => assign(alloc, o, at, state, target, value),
+        Step::CreateTag { name, addr } => create_tag(alloc, at, state, name, addr),
+        Step::SetTag { name, addr } => set_tag(alloc, at, state, name, addr),
+        Step::DestroyTag(name) => destroy_tag(alloc, at, state, name),
+    }
+}
+
 /// Puts an unset cell on top.
-pub fn allocate<V: Drop>(
+pub(crate) fn allocate<V: Drop>(
     alloc: Global,
     at: &Scene<'_>,
     state: &mut Carried<V>,
@@ -42,7 +75,7 @@ pub fn allocate<V: Drop>(
 }
 
 /// Removes the top cell.
-pub fn deallocate<V: Drop>(
+fn deallocate<V: Drop>(
     alloc: Global,
     at: &Scene<'_>,
     state: &mut Carried<V>,
@@ -99,7 +132,7 @@ pub fn put<V: Drop>(
 }
 
 /// Puts an expression's value, at the target's width, into the top cell. The expression's faults come first.
-pub fn assign<A: Arithmetic>(
+fn assign<A: Arithmetic>(
     alloc: Global,
     o: &A,
     at: &Scene<'_>,
@@ -115,7 +148,7 @@ pub fn assign<A: Arithmetic>(
 }
 
 /// Puts an address on top of the tag's list.
-pub fn create_tag<V: Drop>(
+fn create_tag<V: Drop>(
     alloc: Global,
     at: &Scene<'_>,
     state: &mut Carried<V>,
@@ -131,7 +164,7 @@ pub fn create_tag<V: Drop>(
 }
 
 /// Puts an address in place of the tag's top one, or alone.
-pub fn set_tag<V: Drop>(
+pub(crate) fn set_tag<V: Drop>(
     alloc: Global,
     at: &Scene<'_>,
     state: &mut Carried<V>,
@@ -147,7 +180,7 @@ pub fn set_tag<V: Drop>(
 }
 
 /// Removes the tag's top address.
-pub fn destroy_tag<V: Drop>(
+fn destroy_tag<V: Drop>(
     alloc: Global,
     at: &Scene<'_>,
     state: &mut Carried<V>,

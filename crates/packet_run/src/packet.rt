@@ -2,7 +2,6 @@
 
 ghost use Rattle.std.specs.Prelude.{◌≡◌, IfOk, OnOk};
 ghost use Rattle.cell_stacks.specs.Outcome.{Meets};
-ghost use Rattle.sefl_syntax.specs.Trees.{assign_any};
 ghost use Rattle.sefl_syntax.specs.Views.{code_tree};
 ghost use Rattle.net_check.specs.Network.{network};
 ghost use Rattle.sefl_meaning.specs.Carried.{scene_at};
@@ -10,11 +9,11 @@ ghost use Rattle.sefl_meaning.specs.Runs.{noting, run_code};
 ghost use Rattle.sefl_meaning.specs.Values.{numbers};
 ghost use Rattle.sefl_meaning.specs.View.{carried_of, trail_of};
 ghost use Rattle.instr_steps.specs.Scenes.{scene_of};
-ghost use Rattle.code_frames.specs.Steps.{done_by};
+ghost use Rattle.code_frames.specs.Steps.{chosen};
 ghost use Rattle.packet_run.specs.Packets.{RunsAs, given_of, progress_of};
 
-use code_frames::{Exit, Frame, Machine, Move, answer, next, take_plain};
-use instr_steps::{Numbers, Scene, put, truth_of};
+use code_frames::{Exit, Frame, Machine, Move, answer, next};
+use instr_steps::{Numbers, Scene, Step, put, take, truth_of};
 use net_check::Net;
 use sefl_meaning::laws::runs_are_ways;
 use sefl_meaning::{Decision, End, Place, State, Walk};
@@ -102,21 +101,29 @@ impl<'a> Machine for Packet<'a> {
         &mut self,
         alloc: Global,
         at: &Scene<'_>,
-        instr: &Instr,
+        step: Step<'_>,
         steps: &mut Steps<L>,
     ) -> Result<(), StepFault> {
         steps.tick();
-        match instr {
-            Instr::AssignAny(target) => choose(
-                alloc,
-                &self.numbers,
-                at,
-                &mut self.state,
-                &mut self.choices,
-                target,
-            ),
-            _ => take_plain(alloc, &self.numbers, at, &mut self.state, instr),
-        }
+        take(alloc, &self.numbers, at, &mut self.state, step)
+    }
+
+    fn choose<L: Ledger>(
+        &mut self,
+        alloc: Global,
+        at: &Scene<'_>,
+        target: &Target,
+        steps: &mut Steps<L>,
+    ) -> Result<(), StepFault> {
+        steps.tick();
+        choose(
+            alloc,
+            &self.numbers,
+            at,
+            &mut self.state,
+            &mut self.choices,
+            target,
+        )
     }
 
     fn test<L: Ledger>(
@@ -155,7 +162,7 @@ fn choose(
     choices: &mut Vec<Width>,
     target: &Target,
 ) -> Result<(), StepFault>
-    ensures { Meets (done_by (numbers o.now.numbers.now o.now.unknowns) (scene_of at.now) (assign_any target.now)
+    ensures { Meets (chosen (numbers o.now.numbers.now o.now.unknowns) (scene_of at.now) target.now
         (carried_of state.old, choices.old.items))
         result (carried_of state.old, choices.old.items) (carried_of state.new, choices.new.items) }
 {

@@ -7,9 +7,7 @@ ghost use Rattle.net_check.specs.Sound.{AreOfOneJob};
 use crate::here::{Answer, accepted, answer, answered, begun, code_of, job_of};
 use cell_stacks::Cell;
 use concrete_run::start;
-use instr_steps::{
-    Numbers, Scene, allocate, assign, create_tag, deallocate, destroy_tag, put, set_tag, truth_of,
-};
+use instr_steps::{Numbers, Scene, Step, put, take, truth_of};
 use lin_term::Term;
 use net_check::Accepted;
 use path_records::Fields;
@@ -98,16 +96,20 @@ fn step_in_numbers(
     instr: &Instr,
 ) -> Result<(), StepFault> {
     match instr {
-        Instr::Allocate(target) => allocate(alloc, at, state, target),
-        Instr::Deallocate(target) => deallocate(alloc, at, state, target),
-        Instr::Assign { target, value } => assign(alloc, o, at, state, target, value),
+        Instr::Allocate(target) => take(alloc, o, at, state, Step::Allocate(target)),
+        Instr::Deallocate(target) => take(alloc, o, at, state, Step::Deallocate(target)),
+        Instr::Assign { target, value } => {
+            take(alloc, o, at, state, Step::Assign { target, value })
+        }
         Instr::AssignAny(target) => {
             let number = o.choice(target.width(), choice);
             put(alloc, at, state, target, number)
         }
-        Instr::CreateTag { name, addr } => create_tag(alloc, at, state, name, addr),
-        Instr::SetTag { name, addr } => set_tag(alloc, at, state, name, addr),
-        Instr::DestroyTag(name) => destroy_tag(alloc, at, state, name),
+        Instr::CreateTag { name, addr } => {
+            take(alloc, o, at, state, Step::CreateTag { name, addr })
+        }
+        Instr::SetTag { name, addr } => take(alloc, o, at, state, Step::SetTag { name, addr }),
+        Instr::DestroyTag(name) => take(alloc, o, at, state, Step::DestroyTag(name)),
         _ => panic!(rt; "not one step"),
     }
 }

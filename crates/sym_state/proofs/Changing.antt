@@ -1,4 +1,4 @@
--- Instructions that only touch what is carried, and choices: what they keep, and what they do with numbers.
+-- Steps on what is carried, and choices: what they keep, and what they do with numbers.
 use Rattle.std.proofs.Common.{◌≡◌, ℕ, zero, suc, ◌+◌, ◌≤◌, List, [], ◌∷◌, ◌++◌, drop, take, length, arith, length-drop, Result, Ok, Err, IfOk, refl, sym, ap, ◌∙◌}
 use Rattle.sn_width.specs.declared.faults.LayoutFault.{LayoutFault}
 use Rattle.sn_width.specs.declared.faults.StepFault.{StepFault}
@@ -14,10 +14,10 @@ use Rattle.sefl_meaning.specs.Carried.{Carried, Scene, carried_valued}
 use Rattle.sefl_meaning.specs.Steps.{allocated, assigned, deallocated, evaluated, tag_created, tag_set, tag_destroyed}
 use Rattle.sefl_meaning.specs.Terms.{value_in}
 use Rattle.term_values.specs.TermValues.{symbol_term}
-use Rattle.sym_state.specs.Changes.{changed}
+use Rattle.instr_steps.specs.Stepping.{stepped}
 use Rattle.sym_state.specs.Symbolic.{Symbolic, choices_of, numbers_in, with_symbol}
-use Rattle.sym_state.specs.declared.changes.Change.{Change}
-use Rattle.sym_state.specs.declared.changes.Change.TheVariants.{Allocate, Deallocate, Assign, CreateTag, SetTag, DestroyTag}
+use Rattle.instr_steps.specs.declared.steps.Step.{Step}
+use Rattle.instr_steps.specs.declared.steps.Step.TheVariants.{Allocate, Deallocate, Assign, CreateTag, SetTag, DestroyTag}
 use Rattle.sym_state.proofs.Keeping.{left_by, meets_valued, on_ok_keeps, on_ok_on_ok, then_keeps}
 
 module _ {V F : Type 0} (fits : ℕ → V → Type 0) (Holds : Carried V → Type 0) (o : Values V F) (at : Scene) (s : Carried V)
@@ -28,16 +28,16 @@ module _ {V F : Type 0} (fits : ℕ → V → Type 0) (Holds : Carried V → Typ
     (on_create : (name : List ℕ) (addr : Addr) → IfOk (tag_created at name addr s) Holds)
     (on_set : (name : List ℕ) (addr : Addr) → IfOk (tag_set at name addr s) Holds)
     (on_destroy : (name : List ℕ) → IfOk (tag_destroyed at name s) Holds) where
-  pub changed_keeps : (change : Change) → IfOk (changed o at change s) Holds
-  changed_keeps (Allocate target) = on_allocate target.now
-  changed_keeps (Deallocate target) = on_deallocate target.now
-  changed_keeps (Assign target value) =
+  pub stepped_keeps : (step : Step) → IfOk (stepped o at step s) Holds
+  stepped_keeps (Allocate target) = on_allocate target.now
+  stepped_keeps (Deallocate target) = on_deallocate target.now
+  stepped_keeps (Assign target value) =
       let w : ℕ = width_of target.now in
       then_keeps (fits w) Holds (value_in o at w (expr_tree value.now) s) (λ a. assigned at target.now a s)
       (on_value w (expr_tree value.now)) (λ a h. on_assign target.now a h)
-  changed_keeps (CreateTag name addr) = on_create name.now addr.now
-  changed_keeps (SetTag name addr) = on_set name.now addr.now
-  changed_keeps (DestroyTag name) = on_destroy name.now
+  stepped_keeps (CreateTag name addr) = on_create name.now addr.now
+  stepped_keeps (SetTag name addr) = on_set name.now addr.now
+  stepped_keeps (DestroyTag name) = on_destroy name.now
 
 module _ {V F W G : Type 0} (f : V → W) (o : Values V F) (p : Values W G) (at : Scene) (s : Carried V)
     (on_allocate : (target : Target) → allocated at target (carried_valued f s) ≡ on_ok (carried_valued f) (allocated at target s))
@@ -46,13 +46,13 @@ module _ {V F W G : Type 0} (f : V → W) (o : Values V F) (p : Values W G) (at 
     (on_create : (name : List ℕ) (addr : Addr) → tag_created at name addr (carried_valued f s) ≡ on_ok (carried_valued f) (tag_created at name addr s))
     (on_set : (name : List ℕ) (addr : Addr) → tag_set at name addr (carried_valued f s) ≡ on_ok (carried_valued f) (tag_set at name addr s))
     (on_destroy : (name : List ℕ) → tag_destroyed at name (carried_valued f s) ≡ on_ok (carried_valued f) (tag_destroyed at name s)) where
-  pub changed_commutes : (change : Change) → changed p at change (carried_valued f s) ≡ on_ok (carried_valued f) (changed o at change s)
-  changed_commutes (Allocate target) = on_allocate target.now
-  changed_commutes (Deallocate target) = on_deallocate target.now
-  changed_commutes (Assign target value) = on_assign target.now (expr_tree value.now)
-  changed_commutes (CreateTag name addr) = on_create name.now addr.now
-  changed_commutes (SetTag name addr) = on_set name.now addr.now
-  changed_commutes (DestroyTag name) = on_destroy name.now
+  pub stepped_commutes : (step : Step) → stepped p at step (carried_valued f s) ≡ on_ok (carried_valued f) (stepped o at step s)
+  stepped_commutes (Allocate target) = on_allocate target.now
+  stepped_commutes (Deallocate target) = on_deallocate target.now
+  stepped_commutes (Assign target value) = on_assign target.now (expr_tree value.now)
+  stepped_commutes (CreateTag name addr) = on_create name.now addr.now
+  stepped_commutes (SetTag name addr) = on_set name.now addr.now
+  stepped_commutes (DestroyTag name) = on_destroy name.now
 
 -- the choices stand behind the unknown fields
 pub next_choice : (u : ℕ) (widths : List ℕ) → u ≤ length widths → u + length (drop u widths) ≡ length widths

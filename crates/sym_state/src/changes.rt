@@ -1,26 +1,26 @@
-//! Instructions that only touch what is carried, and choices.
+//! Steps on what is carried, and choices.
 
-ghost use Rattle.std.specs.Prelude.{◌≤◌, ℕ, List, length};
+ghost use Rattle.std.specs.Prelude.{◌≡◌, ◌≤◌, ℕ, List, length};
 ghost use Rattle.cell_stacks.specs.Outcome.{Meets, on_ok};
+ghost use Rattle.code_frames.specs.Steps.{chosen};
 ghost use Rattle.instr_steps.specs.Scenes.{scene_of};
+ghost use Rattle.instr_steps.specs.Stepping.{stepped};
 ghost use Rattle.job_items.specs.AtomRules.{width_of};
 ghost use Rattle.net_check.specs.Network.{network};
 ghost use Rattle.sefl_meaning.specs.Steps.{assigned};
 ghost use Rattle.sefl_meaning.specs.Valued.{CarriedFits};
 ghost use Rattle.sefl_meaning.specs.Values.{numbers};
-ghost use Rattle.sefl_meaning.specs.View.{carried_of};
-ghost use Rattle.sym_state.specs.Changes.{changed};
-ghost use Rattle.sym_state.specs.Symbolic.{choices_of, numbers_in, scene_in, with_carried, with_symbol};
+ghost use Rattle.sym_state.specs.Symbolic.{choices_of, held_of, numbers_in, rest_of, scene_in, with_carried, with_symbol};
 ghost use Rattle.term_values.specs.Fits.{typed_fits};
 ghost use Rattle.term_values.specs.TermValues.{symbol_term, terms};
 
 use crate::state::SymState;
-use instr_steps::{Scene, allocate, assign, create_tag, deallocate, destroy_tag, put, set_tag};
+use instr_steps::{Scene, Step, put, take};
 use lin_term::Term;
 use net_check::Net;
+use sefl_meaning::Iteration;
 use sefl_meaning::laws::{expressions_keep, steps_commute, steps_keep, valuing_commutes};
-use sefl_meaning::{Carried, Iteration};
-use sefl_syntax::{Addr, Expr, Name, Target};
+use sefl_syntax::Target;
 use sn_tree::Shared;
 use sn_width::{Num, StepFault};
 use std::alloc::Global;
@@ -29,52 +29,25 @@ use term_values::laws::{
 };
 use term_values::{Formulas, Terms};
 
-/// An instruction that only touches what is carried, by its parts.
-#[derive(Clone, Copy)]
-pub(crate) enum Change<'a> {
-    Allocate(&'a Target),
-    Deallocate(&'a Target),
-    Assign { target: &'a Target, value: &'a Expr },
-    CreateTag { name: &'a Name, addr: &'a Addr },
-    SetTag { name: &'a Name, addr: &'a Addr },
-    DestroyTag(&'a Name),
-}
-
-/// Takes the instruction on these terms.
-fn apply(
-    alloc: Global,
-    o: &Terms,
-    at: &Scene<'_>,
-    carried: &mut Carried<Term>,
-    change: Change<'_>,
-) -> Result<(), StepFault>
-    ensures { Meets (changed (terms o.now.unknowns) (scene_of at.now) change.entry (carried_of carried.old)) result
-        (carried_of carried.old) (carried_of carried.new) }
-{
-    match change {
-        Change::Allocate(target) => allocate(alloc, at, carried, target),
-        Change::Deallocate(target) => deallocate(alloc, at, carried, target),
-        Change::Assign { target, value } => assign(alloc, o, at, carried, target, value),
-        Change::CreateTag { name, addr } => create_tag(alloc, at, carried, name, addr),
-        Change::SetTag { name, addr } => set_tag(alloc, at, carried, name, addr),
-        Change::DestroyTag(name) => destroy_tag(alloc, at, carried, name),
-    }
-}
-
 impl SymState {
-    /// Takes the instruction on the terms that are carried. At all values of the symbols that is what it does with numbers.
+    /// Takes the step on the terms that are carried. At all values of the symbols that is what it does with numbers.
     pub(crate) fn change(
         &mut self,
         alloc: Global,
         at: &Scene<'_>,
-        change: Change<'_>,
+        step: Step<'_>,
     ) -> Result<(), StepFault>
         ensures step { Meets (on_ok (with_carried self.old)
-            (changed (terms self.old.unknowns) (scene_of at.now) change.entry self.old.carried)) result self.old
+            (stepped (terms self.old.unknowns) (scene_of at.now) step.entry self.old.carried)) result self.old
             self.new }
-        ensures commutes { (v : List ℕ) → Meets (changed (numbers v self.old.unknowns) (scene_of at.now) change.entry
+        ensures commutes { (v : List ℕ) → Meets (stepped (numbers v self.old.unknowns) (scene_of at.now) step.entry
             (numbers_in v self.old))
             result (numbers_in v self.old) (numbers_in v self.new) }
+        ensures carried { Meets (stepped (terms self.old.unknowns) (scene_of at.now) step.entry self.old.carried) result
+            self.old.carried self.new.carried }
+        ensures unknowns { self.new.unknowns ≡ self.old.unknowns }
+        ensures choices { choices_of self.new ≡ choices_of self.old }
+        ensures rest { rest_of self.new ≡ rest_of self.old }
     {
         valuing_commutes::<Term, Formulas, Num, bool>();
         steps_commute::<Term, Num>();
@@ -86,26 +59,26 @@ impl SymState {
         let o = Terms {
             unknowns: self.unknowns,
         };
-        apply(alloc, &o, at, &mut self.carried, change)
+        take(alloc, &o, at, &mut self.carried, step)
     }
 
-    /// Takes the instruction at the port that was arrived at last.
+    /// Takes the step at the port that was arrived at last.
     pub(crate) fn change_here(
         &mut self,
         alloc: Global,
         net: &Net,
         bound: &Shared<Iteration>,
-        change: Change<'_>,
+        step: Step<'_>,
     ) -> Result<(), StepFault>
         ensures step { Meets (on_ok (with_carried self.old)
-            (changed (terms self.old.unknowns) (scene_in (network net.now) bound.now self.old) change.entry
+            (stepped (terms self.old.unknowns) (scene_in (network net.now) bound.now self.old) step.entry
             self.old.carried)) result self.old self.new }
-        ensures commutes { (v : List ℕ) → Meets (changed (numbers v self.old.unknowns)
-            (scene_in (network net.now) bound.now self.old) change.entry (numbers_in v self.old))
+        ensures commutes { (v : List ℕ) → Meets (stepped (numbers v self.old.unknowns)
+            (scene_in (network net.now) bound.now self.old) step.entry (numbers_in v self.old))
             result (numbers_in v self.old) (numbers_in v self.new) }
     {
         let at = self.scene(net, bound);
-        self.change(alloc, &at, change)
+        self.change(alloc, &at, step)
     }
 
     /// Puts the next symbol, at the target's width, into the top cell. At all values of the symbols that is the next choice.
@@ -123,7 +96,10 @@ impl SymState {
             ((numbers v self.old.unknowns).choice (width_of target.now) (length (choices_of self.old)))
             (numbers_in v self.old))
             result (numbers_in v self.old) (numbers_in v self.new) }
-        ensures known { self.old.unknowns ≤ length self.old.condition.widths }
+        ensures choice { Meets (chosen (terms self.old.unknowns) (scene_of at.now) target.now (held_of self.old)) result
+            (held_of self.old) (held_of self.new) }
+        ensures unknowns { self.new.unknowns ≡ self.old.unknowns }
+        ensures rest { rest_of self.new ≡ rest_of self.old }
     {
         steps_commute::<Term, Num>();
         steps_keep::<Term>();

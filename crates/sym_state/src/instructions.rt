@@ -10,8 +10,8 @@ ghost use Rattle.sefl_syntax.specs.Views.{expr_tree};
 ghost use Rattle.sym_state.specs.Symbolic.{choices_of, numbers_in, scene_in, with_carried, with_symbol};
 ghost use Rattle.term_values.specs.TermValues.{symbol_term, terms};
 
-use crate::changes::Change;
 use crate::state::SymState;
+use instr_steps::Step;
 use net_check::Net;
 use sefl_meaning::Iteration;
 use sefl_syntax::{Addr, Expr, Name, Target};
@@ -42,7 +42,7 @@ impl SymState {
         ensures counted { steps.new ≡ steps.old + 1 }
     {
         steps.tick();
-        self.change_here(alloc, net, bound, Change::Allocate(target))
+        self.change_here(alloc, net, bound, Step::Allocate(target))
     }
 
     /// Removes the top cell.
@@ -63,7 +63,7 @@ impl SymState {
         ensures counted { steps.new ≡ steps.old + 1 }
     {
         steps.tick();
-        self.change_here(alloc, net, bound, Change::Deallocate(target))
+        self.change_here(alloc, net, bound, Step::Deallocate(target))
     }
 
     /// Puts an expression's value, at the target's width, into the top cell. The expression's faults come first.
@@ -85,7 +85,7 @@ impl SymState {
         ensures counted { steps.new ≡ steps.old + 1 }
     {
         steps.tick();
-        self.change_here(alloc, net, bound, Change::Assign { target, value })
+        self.change_here(alloc, net, bound, Step::Assign { target, value })
     }
 
     /// Puts a new symbol, at the target's width, into the top cell. Its number is that of the symbols before.
@@ -130,7 +130,7 @@ impl SymState {
     {
         steps.tick();
         let iterations = Shared::empty();
-        self.change_here(alloc, net, &iterations, Change::CreateTag { name, addr })
+        self.change_here(alloc, net, &iterations, Step::CreateTag { name, addr })
     }
 
     /// Puts an address in place of the tag's top one, or alone.
@@ -152,7 +152,7 @@ impl SymState {
     {
         steps.tick();
         let iterations = Shared::empty();
-        self.change_here(alloc, net, &iterations, Change::SetTag { name, addr })
+        self.change_here(alloc, net, &iterations, Step::SetTag { name, addr })
     }
 
     /// Removes the tag's top address.
@@ -173,6 +173,6 @@ impl SymState {
     {
         steps.tick();
         let iterations = Shared::empty();
-        self.change_here(alloc, net, &iterations, Change::DestroyTag(name))
+        self.change_here(alloc, net, &iterations, Step::DestroyTag(name))
     }
 }

@@ -3,10 +3,7 @@
 use crate::cells::{Answer, answered, width_of};
 use crate::jobs::{accepted, job_of, nothing};
 use crate::same::check;
-use instr_steps::{
-    Numbers, Scene, allocate, assign, create_tag, deallocate, destroy_tag, put, reduced, set_tag,
-    truth_of, value_of,
-};
+use instr_steps::{Numbers, Scene, Step, put, reduced, take, truth_of, value_of};
 use net_check::{Accepted, Net};
 use sefl_meaning::{Iteration, State};
 use sefl_syntax::{Body, Cond, Instr, Job, Name, Target};
@@ -108,16 +105,20 @@ fn step(
 ) -> Result<(), StepFault> {
     let o = numbers();
     match instr {
-        Instr::Allocate(target) => allocate(alloc, at, state, target),
-        Instr::Deallocate(target) => deallocate(alloc, at, state, target),
-        Instr::Assign { target, value } => assign(alloc, &o, at, state, target, value),
+        Instr::Allocate(target) => take(alloc, &o, at, state, Step::Allocate(target)),
+        Instr::Deallocate(target) => take(alloc, &o, at, state, Step::Deallocate(target)),
+        Instr::Assign { target, value } => {
+            take(alloc, &o, at, state, Step::Assign { target, value })
+        }
         Instr::AssignAny(target) => {
             let choice = o.choice(target.width(), 0);
             put(alloc, at, state, target, choice)
         },
-        Instr::CreateTag { name, addr } => create_tag(alloc, at, state, name, addr),
-        Instr::SetTag { name, addr } => set_tag(alloc, at, state, name, addr),
-        Instr::DestroyTag(name) => destroy_tag(alloc, at, state, name),
+        Instr::CreateTag { name, addr } => {
+            take(alloc, &o, at, state, Step::CreateTag { name, addr })
+        }
+        Instr::SetTag { name, addr } => take(alloc, &o, at, state, Step::SetTag { name, addr }),
+        Instr::DestroyTag(name) => take(alloc, &o, at, state, Step::DestroyTag(name)),
         _ => panic!(rt; "not one step"),
     }
 }

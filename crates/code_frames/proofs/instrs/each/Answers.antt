@@ -9,13 +9,13 @@ pub returns-clause-course : goal.returns-clause-course
 returns-clause-course g c = λ begun.
     let m = g.M.Machine in
     let machine = c.args.machine.now in
-    iterations_put (m.values machine) (network c.args.net.now) c.args.node c.args.iterations c.args.site c.in_ok-inner.inner c.args.var.now c.args.pattern.now
+    iterations_put (m.values machine) (network c.args.point.net.now) c.args.point.node c.args.point.iterations c.args.point.site c.in_ok-inner.inner c.args.var.now c.args.pattern.now
     (code_tree c.args.body.now) c.found-found.result.now c.in_ok-keys.keys.items c.in_ok-keys-2.keys (m.carried machine) (m.choices machine)
     c.in_ok-inner.ensures c.found-found.ensures c.in_ok-keys.ensures.keys c.in_ok-keys-2.ensures begun
 
 pub returns-clause-weight : goal.returns-clause-weight
 returns-clause-weight g c =
-    let net = network c.args.net.now in
-    iterations_weigh c.args.node (names_found net c.args.pattern.now) c.found-found.result.now (g.M.Machine.carried c.args.machine.now).scopes
+    let net = network c.args.point.net.now in
+    iterations_weigh c.args.point.node (names_found net c.args.pattern.now) c.found-found.result.now (g.M.Machine.carried c.args.machine.now).scopes
     c.in_ok-keys.keys.items c.in_ok-keys-2.keys (code_weight net (code_tree c.args.body.now))
     c.found-found.ensures c.in_ok-keys.ensures.keys c.in_ok-keys-2.ensures

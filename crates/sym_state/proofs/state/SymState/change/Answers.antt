@@ -9,11 +9,11 @@ use Rattle.sefl_meaning.specs.Values.{numbers}
 use Rattle.sefl_meaning.specs.View.{carried_of}
 use Rattle.term_values.specs.Fits.{term_fits, typed_fits}
 use Rattle.term_values.specs.TermValues.{terms}
-use Rattle.sym_state.specs.Changes.{changed}
+use Rattle.instr_steps.specs.Stepping.{stepped}
 use Rattle.sym_state.specs.Symbolic.{Symbolic, numbers_in}
 use Rattle.sym_state.proofs.Keeping.{left_by, meets_valued}
 use Rattle.sym_state.proofs.Typing.{FitLaws, closer}
-use Rattle.sym_state.proofs.Changing.{changed_keeps, changed_commutes}
+use Rattle.sym_state.proofs.Changing.{stepped_keeps, stepped_commutes}
 use Rattle.sym_state.proofs.state.SymState.change.Goals as goal
 
 pub invariant_of-self : goal.invariant_of-self
@@ -26,12 +26,12 @@ invariant_of-self c =
     let held = c.self.invariant.fits in
     let laws = c.steps_keep.ensures in
     record {
-      fits = left_by (CarriedFits fits) (changed o at c.args.change s) c.apply.result s (carried_of c.apply.new.carried) c.apply.ensures
-          (changed_keeps (Fits fits) (CarriedFits fits) o at s (λ target. laws.allocated fits at target s held) (λ target. laws.deallocated fits at target s held)
+      fits = left_by (CarriedFits fits) (stepped o at c.args.step s) c.take.result s (carried_of c.take.new.state) c.take.ensures
+          (stepped_keeps (Fits fits) (CarriedFits fits) o at s (λ target. laws.allocated fits at target s held) (λ target. laws.deallocated fits at target s held)
           (λ w e. c.expressions_keep.ensures.values fits o (c.terms_keep_types.ensures.sums widths c.self.inside.unknowns) at w e s held)
           (λ target value h. laws.assigned fits at target value s held h)
           (λ name addr. laws.created fits at name addr s held) (λ name addr. laws.set fits at name addr s held) (λ name. laws.destroyed fits at name s held)
-          c.args.change)
+          c.args.step)
           held;
       known = c.self.invariant.known;
     }
@@ -48,11 +48,11 @@ returns-clause-commutes c = λ v.
     let tests : FitLaws = record { fits = c.the_tests_of_fitting_terms.ensures.fits; typed = c.the_tests_of_fitting_terms.ensures.typed } in
     let held : CarriedFits term_fits s = c.steps_keep.ensures.weaker (typed_fits widths) term_fits s (closer tests widths) c.self.invariant.fits in
     let laws = c.steps_commute.ensures in
-    subst (λ (old : Symbolic). Meets (changed (numbers v old.unknowns) at c.args.change (numbers_in v old)) c.apply.result (numbers_in v old)
-    (carried_valued f (carried_of c.apply.new.carried))) c.self.view_is
-    (meets_valued (carried_valued f) (changed o at c.args.change s) (changed p at c.args.change (carried_valued f s)) c.apply.result s (carried_of c.apply.new.carried)
-    (changed_commutes f o p at s (λ target. laws.allocated term_fits f at target s held) (λ target. laws.deallocated term_fits f at target s held)
+    subst (λ (old : Symbolic). Meets (stepped (numbers v old.unknowns) at c.args.step (numbers_in v old)) c.take.result (numbers_in v old)
+    (carried_valued f (carried_of c.take.new.state))) c.self.view_is
+    (meets_valued (carried_valued f) (stepped o at c.args.step s) (stepped p at c.args.step (carried_valued f s)) c.take.result s (carried_of c.take.new.state)
+    (stepped_commutes f o p at s (λ target. laws.allocated term_fits f at target s held) (λ target. laws.deallocated term_fits f at target s held)
     (λ target e. c.valuing_commutes.ensures.evaluated term_fits o p f (λ t. truth_at t v) (c.values_respect_the_operations.ensures v unknowns) at target e s held)
     (λ name addr. laws.created term_fits f at name addr s held) (λ name addr. laws.set term_fits f at name addr s held) (λ name. laws.destroyed term_fits f at name s held)
-    c.args.change)
-    c.apply.ensures)
+    c.args.step)
+    c.take.ensures)

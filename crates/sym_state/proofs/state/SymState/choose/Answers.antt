@@ -1,11 +1,15 @@
-use Rattle.std.proofs.Common.{ℕ, length, sym, subst}
+use Rattle.std.proofs.Common.{ℕ, length, refl, sym, subst}
 use Rattle.job_items.specs.AtomRules.{width_of}
 use Rattle.lin_term.specs.Terms.{LinearTerm, value_at}
 use Rattle.instr_steps.specs.Scenes.{scene_of}
+use Rattle.sefl_meaning.specs.Steps.{assigned}
 use Rattle.sefl_meaning.specs.Valued.{CarriedFits, Fits}
 use Rattle.term_values.specs.Fits.{term_fits, typed_fits}
+use Rattle.term_values.specs.TermValues.{symbol_term}
+use Rattle.sym_state.specs.Symbolic.{rest_of, with_symbol}
 use Rattle.sym_state.proofs.Typing.{FitLaws, closer}
-use Rattle.sym_state.proofs.Changing.{chosen_commutes}
+use Rattle.sym_state.proofs.Changing.{chosen_commutes, fields_stay, stays}
+use Rattle.sym_state.proofs.Holding.{chosen_step}
 use Rattle.sym_state.proofs.state.SymState.choose.Goals as goal
 
 pub returns-clause-commutes : goal.returns-clause-commutes
@@ -23,3 +27,22 @@ returns-clause-commutes c = λ v.
     (λ term is. c.steps_commute.ensures.assigned term_fits f at target term old.carried held
     (subst (λ (t : LinearTerm). Fits term_fits w t) (sym is) (respects.keeps.unknown w (length widths))))
     c.choose_symbol.ensures.step
+
+pub returns-clause-choice : goal.returns-clause-choice
+returns-clause-choice c =
+    chosen_step (scene_of c.args.at.now) c.args.target.now c.args.self.now c.choose_symbol.new.self c.choose_symbol.result c.choose_symbol.ensures.known c.choose_symbol.ensures.step
+
+pub returns-clause-unknowns : goal.returns-clause-unknowns
+returns-clause-unknowns c =
+    let old = c.args.self.now in
+    let w = width_of c.args.target.now in
+    stays (λ s. s.unknowns) (with_symbol old w) (assigned (scene_of c.args.at.now) c.args.target.now (symbol_term w (length old.condition.widths)) old.carried)
+    c.choose_symbol.result old c.choose_symbol.new.self (λ s. refl) c.choose_symbol.ensures.step
+
+pub returns-clause-rest : goal.returns-clause-rest
+returns-clause-rest c =
+    let old = c.args.self.now in
+    let w = width_of c.args.target.now in
+    stays rest_of (with_symbol old w) (assigned (scene_of c.args.at.now) c.args.target.now (symbol_term w (length old.condition.widths)) old.carried)
+    c.choose_symbol.result old c.choose_symbol.new.self
+    (λ s j. record (rest_of old) { fields = fields_stay old.unknowns old.condition.widths w c.choose_symbol.ensures.known j }) c.choose_symbol.ensures.step
