@@ -1,3 +1,4 @@
 pub mod Having
 pub mod Reading
 pub mod Printed
+pub mod Lasting

@@ -5,6 +5,7 @@ mod decoder;
 mod ends;
 mod fields;
 mod items;
+mod lasting;
 pub mod laws;
 mod leaves;
 pub mod lines;

@@ -1,12 +1,13 @@
 //! Reports in their printed form, read record by record: each record is printed again and compared with the text, so
 //! that what finds it there needs no proof.
 
-ghost use Rattle.std.specs.Prelude.{◌≡◌, ◌++◌, ◌<◌, false, [], length, IfOk, IfSome, IsTrue};
+ghost use Rattle.std.specs.Prelude.{◌≡◌, ◌++◌, ◌<◌, false, [], length, IfOk, IfSome, IsTrue, IsUtf8};
 ghost use Rattle.net_check.specs.Network.{network};
 ghost use Rattle.report_forms.specs.Fits.{RecordFits};
 ghost use Rattle.path_report.specs.Printed.{BeginsWith, BeginsWithAll, IsFrame, IsNext, IsOpened, IsPrinted, begun};
 
 use crate::decoder::Decoder;
+use crate::lasting::LastRecord;
 use crate::report::{ReportFault, read_whole};
 use crate::scanned::Direct;
 use crate::scanner::{Miss, Scanner};
@@ -148,11 +149,17 @@ fn by_value(alloc: Global, net: &Net, text: &[u8]) -> Result<Option<Record>, NoM
 }
 
 /// The record that the text begins with, read as it is printed, and else by its value.
-fn some_record(alloc: Global, net: &Net, text: &[u8]) -> Result<Option<Record>, NoMemory>
+fn some_record<'b, N: OfNet>(
+    alloc: Global,
+    net: &Net,
+    last: &mut LastRecord<'b, N>,
+    text: &'b [u8],
+) -> Result<Option<Record>, NoMemory>
+    requires { network net.now ≡ N.net }
     ensures { IfOk result (λ found. IfSome found (λ item. RecordFits (network net.now) item)) }
 {
     let direct = Direct { alloc, net };
-    match direct.record(&mut Scanner::new(text)) {
+    match direct.record(&mut Scanner::new(text), last) {
         Ok(item) => Ok(Some(item)),
         Err(Miss::NoMemory) => Err(NoMemory),
         Err(Miss::Form) => by_value(alloc, net, text),
@@ -185,6 +192,7 @@ fn first_record<'b, N: OfNet>(
     alloc: Global,
     net: &Net,
     pieces: &mut Pieces<'_, N>,
+    last: &mut LastRecord<'b, N>,
     later: bool,
     text: &'b [u8],
 ) -> Result<Option<(Record, &'b [u8])>, NoMemory>
@@ -194,7 +202,7 @@ fn first_record<'b, N: OfNet>(
     ensures shorter { IfOk result (λ found. IfSome found (λ first. length first.1.now < length text.now)) }
 {
     let bare = text.strip_prefix(b",").unwrap_or(text);
-    let Some(item) = some_record(alloc, net, bare)? else {
+    let Some(item) = some_record(alloc, net, last, bare)? else {
         return Ok(None);
     };
     pieces.write(later, &item)?;
@@ -210,6 +218,7 @@ pub struct PrintedRecords<'a, N: OfNet> {
     alloc: Global,
     net: &'a Net,
     pieces: Pieces<'a, N>,
+    last: LastRecord<'a, N>,
     /// Whether a record was read.
     later: bool,
     /// What is not read yet.
@@ -238,12 +247,14 @@ impl<'a, N: OfNet> PrintedRecords<'a, N> {
             alloc,
             net,
             pieces: Pieces::new(alloc, net),
+            last: LastRecord::new(alloc),
             later: false,
             left: text,
         }
     }
 
-    /// The next record; None where the text does not begin with one that is printed so.
+    /// The next record; None where the text does not begin with one that is printed so. Behind an error nothing is said of
+    /// what is left.
     pub fn next(&mut self) -> Result<Option<Record>, NoMemory>
         ensures { IfOk result (λ found. IsNext N.net self.old found self.new) }
     {
@@ -251,6 +262,7 @@ impl<'a, N: OfNet> PrintedRecords<'a, N> {
             self.alloc,
             self.net,
             &mut self.pieces,
+            &mut self.last,
             self.later,
             self.left,
         )? {
@@ -271,6 +283,35 @@ impl<'a, N: OfNet> PrintedRecords<'a, N> {
     }
 }
 
+/// Whether the bytes are text.
+fn is_text(bytes: &[u8]) -> bool
+    ensures { IsTrue result → IsUtf8 bytes.now }
+{
+    match str::from_utf8(bytes) {
+        Ok(_) => true,
+        Err(_) => false,
+    }
+}
+
+/// The same of bytes that are text.
+fn open_text<'a, N: OfNet>(
+    alloc: Global,
+    net: &'a Net,
+    bytes: &'a [u8],
+) -> Result<Option<(Report, PrintedRecords<'a, N>)>, NoMemory>
+    requires net { network net.now ≡ N.net }
+    requires utf8 { IsUtf8 bytes.now }
+    ensures { IfOk result (λ found. IfSome found (λ opened. IsOpened N.net bytes.now opened.0 opened.1)) }
+{
+    let Some((head, text, tail)) = cut_report(bytes) else {
+        return Ok(None);
+    };
+    match frame(alloc, net, head, tail)? {
+        Some(frame) => Ok(Some((frame, PrintedRecords::new(alloc, net, text)))),
+        None => Ok(None),
+    }
+}
+
 /// What stands around the records of a report in its printed form, as a report without records, and those records; None also
 /// where that form is not seen.
 pub fn open_printed<'a, N: OfNet>(
@@ -281,15 +322,10 @@ pub fn open_printed<'a, N: OfNet>(
     requires { network net.now ≡ N.net }
     ensures { IfOk result (λ found. IfSome found (λ opened. IsOpened N.net bytes.now opened.0 opened.1)) }
 {
-    if str::from_utf8(bytes).is_err() {
-        return Ok(None);
-    }
-    let Some((head, text, tail)) = cut_report(bytes) else {
-        return Ok(None);
-    };
-    match frame(alloc, net, head, tail)? {
-        Some(frame) => Ok(Some((frame, PrintedRecords::new(alloc, net, text)))),
-        None => Ok(None),
+    if is_text(bytes) {
+        open_text(alloc, net, bytes)
+    } else {
+        Ok(None)
     }
 }
 

@@ -4,13 +4,16 @@ ghost use Rattle.std.specs.Prelude.{◌≡◌, true, IfOk};
 ghost use Rattle.std.specs.List.{AllByRecursion};
 ghost use Rattle.net_check.specs.Network.{network};
 ghost use Rattle.path_records.specs.Shown.{fields_seen};
+ghost use Rattle.run_text.specs.Held.{held_meta};
 ghost use Rattle.report_names.specs.Names.{knows};
 ghost use Rattle.report_names.specs.Own.{IsOwnName, IsOwnPlace, IsOwnTag};
-ghost use Rattle.report_forms.specs.Fits.{BeforeFits, CauseFits, CellFits, DecisionFits, EndFits, FieldsFit, OwnerFits, RecordFits, StepFits, VerdictFits};
+ghost use Rattle.report_forms.specs.Fits.{BeforeFits, CauseFits, CellFits, DecisionFits, EndFits, FieldsFit, MetaFits, OwnerFits, RecordFits, StepFits, VerdictFits};
 
 use crate::ends::failure_of;
+use crate::lasting::{LastItems, LastList, LastRecord, Member};
 use crate::scanner::{Miss, Scanner};
 use cell_stacks::Cell;
+use kept_texts::OfNet;
 use lin_term::Term;
 use net_check::Net;
 use path_records::{Fields, Record};
@@ -60,7 +63,7 @@ impl Item for Num {
     }
 }
 
-impl Item for Decision {
+impl Member for Decision {
     ghost use Rattle.report_forms.specs.Fits.{DecisionFits};
 
     ghost Fits = { λ net decision. DecisionFits decision };
@@ -80,7 +83,7 @@ impl Item for Decision {
     }
 }
 
-impl Item for Place {
+impl Member for Place {
     ghost use Rattle.report_names.specs.Names.{knows};
     ghost use Rattle.report_names.specs.Own.{IsOwnPlace};
 
@@ -91,17 +94,17 @@ impl Item for Place {
     }
 }
 
-impl Item for (TagId, i32) {
+impl Member for (TagId, i32) {
     ghost use Rattle.report_forms.specs.Fits.{TagFits};
 
     ghost Fits = { TagFits };
 
     fn scan(direct: &Direct<'_>, text: &mut Scanner<'_>) -> Result<(TagId, i32), Miss> {
-        text.pass(b"[")?;
+        text.pass_byte(b'[')?;
         let tag = direct.tag_name(text)?;
-        text.pass(b",")?;
+        text.pass_byte(b',')?;
         let address = text.integer()?;
-        text.pass(b"]")?;
+        text.pass_byte(b']')?;
         Ok((tag, address))
     }
 }
@@ -112,11 +115,11 @@ impl Item for (SymId, Num) {
     ghost Fits = { λ net part. PartFits part };
 
     fn scan(_direct: &Direct<'_>, text: &mut Scanner<'_>) -> Result<(SymId, Num), Miss> {
-        text.pass(b"[")?;
+        text.pass_byte(b'[')?;
         let symbol = text.count()?;
-        text.pass(b",")?;
+        text.pass_byte(b',')?;
         let coefficient = text.large()?;
-        text.pass(b"]")?;
+        text.pass_byte(b']')?;
         Ok((SymId(symbol), coefficient))
     }
 }
@@ -127,9 +130,9 @@ impl Item for Cell<Term> {
     ghost Fits = { λ net cell. CellFits cell };
 
     fn scan(direct: &Direct<'_>, text: &mut Scanner<'_>) -> Result<Cell<Term>, Miss> {
-        text.pass(b"[")?;
+        text.pass_byte(b'[')?;
         let width = width(text)?;
-        if text.passes(b"]") {
+        if text.passes_byte(b']') {
             return Ok(Cell { width, value: None });
         }
         direct.set_cell(text, width)
@@ -143,33 +146,26 @@ impl Item for (i32, Vec<Cell<Term>>) {
     ghost Fits = { λ net head. HeadFits (held_head head) };
 
     fn scan(direct: &Direct<'_>, text: &mut Scanner<'_>) -> Result<(i32, Vec<Cell<Term>>), Miss> {
-        text.pass(b"[")?;
+        text.pass_byte(b'[')?;
         let address = text.integer()?;
-        text.pass(b",")?;
+        text.pass_byte(b',')?;
         let cells = direct.list::<Cell<Term>>(text)?;
-        text.pass(b"]")?;
+        text.pass_byte(b']')?;
         Ok((address, cells))
     }
 }
 
-impl Item for (Option<NodeId>, NameId, Vec<Cell<Term>>) {
-    ghost use Rattle.run_text.specs.Held.{held_meta};
-    ghost use Rattle.report_forms.specs.Fits.{MetaFits};
+/// The owner of metadata, `None` for a global, and its name.
+impl Member for (Option<NodeId>, NameId) {
+    ghost use Rattle.path_report.specs.Lasting.{KeyFits};
 
-    ghost Fits = { λ net meta. MetaFits net (held_meta meta) };
+    ghost Fits = { KeyFits };
 
-    fn scan(
-        direct: &Direct<'_>,
-        text: &mut Scanner<'_>,
-    ) -> Result<(Option<NodeId>, NameId, Vec<Cell<Term>>), Miss> {
-        text.pass(b"[")?;
+    fn scan(direct: &Direct<'_>, text: &mut Scanner<'_>) -> Result<(Option<NodeId>, NameId), Miss> {
         let owner = direct.owner(text)?;
-        text.pass(b",")?;
+        text.pass_byte(b',')?;
         let name = direct.meta_name(text)?;
-        text.pass(b",")?;
-        let cells = direct.list::<Cell<Term>>(text)?;
-        text.pass(b"]")?;
-        Ok((owner, name, cells))
+        Ok((owner, name))
     }
 }
 
@@ -180,7 +176,7 @@ impl Item for Refute {
 
     fn scan(direct: &Direct<'_>, text: &mut Scanner<'_>) -> Result<Refute, Miss> {
         let step = direct.step(text)?;
-        text.pass(b"]")?;
+        text.pass_byte(b']')?;
         Ok(step)
     }
 }
@@ -214,7 +210,7 @@ fn end(alloc: Global, text: &mut Scanner<'_>) -> Result<End, Miss>
     text.pass(b",\"site\":")?;
     let site = Site(text.id()?);
     let failure = failure(alloc, text, number)?;
-    text.pass(b"}")?;
+    text.pass_byte(b'}')?;
     Ok(End::Failed { failure, site })
 }
 
@@ -282,10 +278,10 @@ impl Direct<'_> {
     fn list<T: Item>(&self, text: &mut Scanner<'_>) -> Result<Vec<T>, Miss>
         ensures { IfOk result (λ found. AllByRecursion (T.Fits (network self.now.net.now)) found.items) }
     {
-        let mut found = Vec::new(self.alloc);
         if text.opens()? {
-            return Ok(found);
+            return Ok(Vec::new(self.alloc));
         }
+        let mut found = Vec::with_capacity(self.alloc, 1)?;
         for _ in 0..text.room() {
             found.push(T::scan(self, text)?)?;
             if text.closes()? {
@@ -296,15 +292,72 @@ impl Direct<'_> {
         Err(Miss::Form)
     }
 
+    /// The same, where what the last list begins with is not read anew.
+    fn list_after<'b, N: OfNet, T: Member>(
+        &self,
+        text: &mut Scanner<'b>,
+        last: &mut LastList<'b, N, T>,
+    ) -> Result<Vec<T>, Miss>
+        requires { network self.now.net.now ≡ N.net }
+        ensures { IfOk result (λ found. AllByRecursion (T.Fits N.net) found.items) }
+    {
+        if text.opens()? {
+            return Ok(Vec::new(self.alloc));
+        }
+        last.follow(self, text)?;
+        Ok(last.copied(self.alloc)?)
+    }
+
+    /// The same of metadata, whose keys are not read anew.
+    #[tactic(auto, using(crate::proofs::PrintedLemmas::pushed))]
+    fn metas_after<'b, N: OfNet>(
+        &self,
+        text: &mut Scanner<'b>,
+        last: &mut LastItems<'b, N, (Option<NodeId>, NameId)>,
+    ) -> Result<Vec<(Option<NodeId>, NameId, Vec<Cell<Term>>)>, Miss>
+        requires { network self.now.net.now ≡ N.net }
+        ensures { IfOk result (λ found. AllByRecursion (λ meta. MetaFits N.net (held_meta meta)) found.items) }
+    {
+        if text.opens()? {
+            return Ok(Vec::new(self.alloc));
+        }
+        let mut found = Vec::with_capacity(self.alloc, last.room())?;
+        for place in 0..text.room() {
+            found.push(self.meta_after(text, last, place)?)?;
+            if text.closes()? {
+                found.shrink_to_fit();
+                return Ok(found);
+            }
+        }
+        Err(Miss::Form)
+    }
+
+    fn meta_after<'b, N: OfNet>(
+        &self,
+        text: &mut Scanner<'b>,
+        last: &mut LastItems<'b, N, (Option<NodeId>, NameId)>,
+        place: usize,
+    ) -> Result<(Option<NodeId>, NameId, Vec<Cell<Term>>), Miss>
+        requires { network self.now.net.now ≡ N.net }
+        ensures { IfOk result (λ meta. MetaFits N.net (held_meta meta)) }
+    {
+        text.pass_byte(b'[')?;
+        let (owner, name) = last.item(self, text, place)?;
+        text.pass_byte(b',')?;
+        let cells = self.list::<Cell<Term>>(text)?;
+        text.pass_byte(b']')?;
+        Ok((owner, name, cells))
+    }
+
     /// What stands behind the width of a cell that is set.
     fn set_cell(&self, text: &mut Scanner<'_>, width: Width) -> Result<Cell<Term>, Miss>
         ensures { IfOk result CellFits }
     {
-        text.pass(b",")?;
+        text.pass_byte(b',')?;
         let constant = text.large()?;
-        text.pass(b",")?;
+        text.pass_byte(b',')?;
         let parts = self.list::<(SymId, Num)>(text)?;
-        text.pass(b"]")?;
+        text.pass_byte(b']')?;
         match Term::of_parts(width, constant, parts) {
             Some(term) => Ok(Cell {
                 width,
@@ -315,16 +368,21 @@ impl Direct<'_> {
     }
 
     #[tactic(auto, using(crate::proofs::PrintedLemmas::mapped))]
-    fn fields(&self, text: &mut Scanner<'_>) -> Result<Fields, Miss>
-        ensures { IfOk result (λ fields. FieldsFit (network self.now.net.now) (fields_seen fields)) }
+    fn fields<'b, N: OfNet>(
+        &self,
+        text: &mut Scanner<'b>,
+        last: &mut LastRecord<'b, N>,
+    ) -> Result<Fields, Miss>
+        requires { network self.now.net.now ≡ N.net }
+        ensures { IfOk result (λ fields. FieldsFit N.net (fields_seen fields)) }
     {
         text.pass(b"{\"heads\":")?;
         let heads = self.list::<(i32, Vec<Cell<Term>>)>(text)?;
         text.pass(b",\"metas\":")?;
-        let metas = self.list::<(Option<NodeId>, NameId, Vec<Cell<Term>>)>(text)?;
+        let metas = self.metas_after(text, &mut last.metas)?;
         text.pass(b",\"tags\":")?;
-        let tags = self.list::<(TagId, i32)>(text)?;
-        text.pass(b"}")?;
+        let tags = self.list_after(text, &mut last.tags)?;
+        text.pass_byte(b'}')?;
         Ok(Fields { tags, heads, metas })
     }
 
@@ -351,7 +409,7 @@ impl Direct<'_> {
     {
         if text.passes(b"{\"sat\":") {
             let values = Listed::from_vec(self.list::<Num>(text)?);
-            text.pass(b"}")?;
+            text.pass_byte(b'}')?;
             return Ok(Verdict::Sat { values });
         }
         text.pass(b"{\"undecided\":{\"cause\":")?;
@@ -375,7 +433,7 @@ impl Direct<'_> {
     {
         if text.passes(b"[\"empty\",") {
             let symbol = SymId(text.count()?);
-            text.pass(b",")?;
+            text.pass_byte(b',')?;
             let picks = Listed::from_vec(self.list::<u32>(text)?);
             return Ok(Refute::Empty { symbol, picks });
         }
@@ -392,16 +450,22 @@ impl Direct<'_> {
         Ok(Refute::Cycle { bounds })
     }
 
-    fn path(&self, text: &mut Scanner<'_>, decisions: Vec<Decision>) -> Result<Record, Miss>
-        requires { AllByRecursion DecisionFits decisions.items }
-        ensures { IfOk result (RecordFits (network self.now.net.now)) }
+    fn path<'b, N: OfNet>(
+        &self,
+        text: &mut Scanner<'b>,
+        last: &mut LastRecord<'b, N>,
+        decisions: Vec<Decision>,
+    ) -> Result<Record, Miss>
+        requires net { network self.now.net.now ≡ N.net }
+        requires decisions { AllByRecursion DecisionFits decisions.items }
+        ensures { IfOk result (RecordFits N.net) }
     {
         text.pass(b",\"end\":")?;
         let end = end(self.alloc, text)?;
         text.pass(b",\"fields\":")?;
-        let fields = self.fields(text)?;
+        let fields = self.fields(text, last)?;
         text.pass(b",\"kind\":\"path\",\"places\":")?;
-        let places = self.list::<Place>(text)?;
+        let places = self.list_after(text, &mut last.places)?;
         text.pass(b",\"verdict\":")?;
         let verdict = self.verdict(text)?;
         Ok(Record::Path {
@@ -413,12 +477,17 @@ impl Direct<'_> {
         })
     }
 
-    fn pruned(&self, text: &mut Scanner<'_>) -> Result<Record, Miss>
-        ensures { IfOk result (RecordFits (network self.now.net.now)) }
+    fn pruned<'b, N: OfNet>(
+        &self,
+        text: &mut Scanner<'b>,
+        last: &mut LastRecord<'b, N>,
+    ) -> Result<Record, Miss>
+        requires { network self.now.net.now ≡ N.net }
+        ensures { IfOk result (RecordFits N.net) }
     {
         let before = self.before(text)?;
         text.pass(b",\"decisions\":")?;
-        let decisions = self.list::<Decision>(text)?;
+        let decisions = self.list_after(text, &mut last.decisions)?;
         text.pass(b",\"kind\":\"pruned\",\"refutation\":")?;
         let refutation = Listed::from_vec(self.list::<Refute>(text)?);
         Ok(Record::Pruned {
@@ -429,17 +498,22 @@ impl Direct<'_> {
     }
 
     /// The record of a text. Nothing is claimed of what stands behind it.
-    pub(crate) fn record(&self, text: &mut Scanner<'_>) -> Result<Record, Miss>
-        ensures { IfOk result (RecordFits (network self.now.net.now)) }
+    pub(crate) fn record<'b, N: OfNet>(
+        &self,
+        text: &mut Scanner<'b>,
+        last: &mut LastRecord<'b, N>,
+    ) -> Result<Record, Miss>
+        requires { network self.now.net.now ≡ N.net }
+        ensures { IfOk result (RecordFits N.net) }
     {
         if text.passes(b"{\"before\":") {
-            return self.pruned(text);
+            return self.pruned(text, last);
         }
         text.pass(b"{\"decisions\":")?;
-        let decisions = self.list::<Decision>(text)?;
+        let decisions = self.list_after(text, &mut last.decisions)?;
         if text.passes(b",\"kind\":\"unexplored\"}") {
             return Ok(Record::Unexplored { decisions });
         }
-        self.path(text, decisions)
+        self.path(text, last, decisions)
     }
 }
