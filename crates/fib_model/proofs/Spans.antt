@@ -74,6 +74,9 @@ module _ (rows ordered : List Row) (p : IsPermutation rows ordered) (is : All Is
   pub ordered_rows : All IsRow ordered
   ordered_rows = All-permutation IsRow rows ordered p is
 
+  pub ordered_lengths : All (λ r. r.1 ≤ 32) ordered
+  ordered_lengths = λ k d h. (ordered_rows k d h).0
+
   pub spans_start : IsNonDecreasingBy order_key ordered → StartFrom 0 (map span_of ordered)
   spans_start sorted =
       starts 0 ordered (recursion_from_All (λ r. r.1 ≤ 32) ordered (λ k d h. (ordered_rows k d h).0)) (in_order ordered sorted)

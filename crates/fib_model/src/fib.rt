@@ -28,6 +28,15 @@ impl Model for Fib {
     ghost invariant = { λ fib. IsFib fib.ports fib.rows.items };
 }
 
+impl Fib {
+    /// How many ports there are.
+    pub fn ports(&self) -> u32
+        ensures { result ≡ self.now.ports }
+    {
+        self.ports
+    }
+}
+
 fn triples_of(alloc: Global, rows: &[Row]) -> Result<Vec<(u64, u32, u32)>, TableFault>
     ensures rows { IfOk result (λ triples. triples.items ≡ map triple rows.now) }
     ensures fault { IfErr result (λ fault. fault ≡ TableFault.NoMemory) }

@@ -1,6 +1,6 @@
 //! The nodes of forwarding tables.
 
-ghost use Rattle.std.specs.Prelude.{◌≡◌, ℕ, ◌<◌, ◌^◌, [], IsPermutation, IfOk};
+ghost use Rattle.std.specs.Prelude.{◌≡◌, ℕ, ◌<◌, ◌^◌, ◌≤◌, [], IsPermutation, IfOk, All};
 ghost use Rattle.std.specs.List.Sorted.{IsNonDecreasingBy};
 ghost use Rattle.sefl_syntax.specs.Views.{node_tree};
 ghost use Rattle.table_nodes.specs.Exits.{exits};
@@ -32,6 +32,17 @@ fn longest_first(alloc: Global, rows: &[(u64, u32, u32)]) -> Result<Vec<(u64, u3
     let mut ordered = Vec::from_slice(alloc, rows)?;
     ordered.sort_unstable_by_key(|row| chain_key(*row));
     Ok(ordered)
+}
+
+impl Fib {
+    /// The rows in the order of style chain: by descending length, and then by ascending address.
+    pub fn chain_rows(&self, alloc: Global) -> Result<Vec<(u64, u32, u32)>, NoMemory>
+        ensures same { IfOk result (λ ordered. IsPermutation self.now.rows ordered.items) }
+        ensures order { IfOk result (λ ordered. IsNonDecreasingBy chain_key ordered.items) }
+        ensures lengths { IfOk result (λ ordered. All (λ row. row.1 ≤ 32) ordered.items) }
+    {
+        longest_first(alloc, &self.rows)
+    }
 }
 
 fn chain(alloc: Global, ports: u32, rows: &[(u64, u32, u32)]) -> Result<RawNode, NoMemory>

@@ -2,6 +2,7 @@
 use Rattle.std.proofs.Common.{◌≡◌, ◌∙◌, refl, sym, ap, subst, ℕ, ◌^◌, ◌≤◌, ◌<◌, ◌==◌, inl, inr, List, [], ◌∷◌, map, Option, None, Some, option_map, All, IsPermutation, true≢false, arith}
 use Rattle.std.specs.Prelude.{find}
 use Rattle.std.specs.List.{AllByRecursion}
+use Rattle.std.specs.List.Sorted.{IsNonDecreasingBy}
 use Rattle.std.proofs.lemmas.List.Elements.{All-from_recursion, recursion_from_All}
 use Rattle.std.proofs.lemmas.List.Sorted.{All-permutation, IsPermutation-sym}
 use Rattle.std.proofs.lemmas.Option.{none-some, same_Some}
@@ -14,7 +15,7 @@ use Rattle.table_nodes.specs.TableNodes as nodes
 use Rattle.table_nodes.specs.TableNodes.{Sends, InRange, row_guard, port_or, ports_from}
 use Rattle.table_nodes.specs.Laws.{NodesSend}
 use Rattle.mac_model.specs.MacTables.{Row, MacSeen, IsMac, NoneTwice}
-use Rattle.mac_model.specs.Nodes.{IsMacNode, mac_port, whole}
+use Rattle.mac_model.specs.Nodes.{IsMacNode, address_key, mac_port, whole}
 use Rattle.mac_model.proofs.RowLemmas.{Has, IsFor, found_is, rows_held}
 
 member_is : (P : Row → Type 0) (rows : List Row) (x : Row) → AllByRecursion P rows → Has rows x → P x
@@ -71,6 +72,11 @@ mac_exits law mac Chain node is made =
     law Mac mac.ports (mac_port mac.rows) (map (row_guard Mac) (map whole made.0)) Chain node made.3 (chain_sends mac.ports mac.rows made.0 is made.1) (in_range mac.ports mac.rows is)
 mac_exits law mac Grouped node is made = law Mac mac.ports (mac_port mac.rows) [] Grouped node made tt (in_range mac.ports mac.rows is)
 mac_exits law mac Egress node is made = law Mac mac.ports (mac_port mac.rows) [] Egress node made tt (in_range mac.ports mac.rows is)
+
+-- the rows are the table's, by ascending address
+pub wholes_are : (rows ordered : List Row) (wholes : List nodes.Row) → IsPermutation rows ordered → IsNonDecreasingBy address_key ordered → wholes ≡ map whole ordered
+    → (ordered : List Row) × IsPermutation rows ordered × IsNonDecreasingBy address_key ordered × (wholes ≡ map whole ordered)
+wholes_are rows ordered wholes same order is = (ordered, same, order, is)
 
 whole_lengths : (rows : List Row) → AllByRecursion (λ (row : nodes.Row). row.1 ≤ 48) (map whole rows)
 whole_lengths [] = tt

@@ -1,11 +1,11 @@
 //! The nodes of MAC tables.
 
-ghost use Rattle.std.specs.Prelude.{◌≡◌, ℕ, ◌<◌, ◌^◌, IsPermutation, IfOk, map};
+ghost use Rattle.std.specs.Prelude.{◌≡◌, ℕ, ◌<◌, ◌^◌, List, IsPermutation, IfOk, map};
 ghost use Rattle.std.specs.List.Sorted.{IsNonDecreasingBy};
 ghost use Rattle.sefl_syntax.specs.Views.{node_tree};
 ghost use Rattle.table_nodes.specs.Exits.{exits};
 ghost use Rattle.table_nodes.specs.TableNodes.{port_or, ports_from};
-ghost use Rattle.mac_model.specs.MacTables.{IsMac};
+ghost use Rattle.mac_model.specs.MacTables.{IsMac, Row};
 ghost use Rattle.mac_model.specs.Nodes.{IsMacNode, address_key, mac_port, whole};
 
 use crate::sets::{own_sets, passing_sets};
@@ -34,6 +34,18 @@ fn whole_rows(alloc: Global, rows: &[(u64, u32)]) -> Result<Vec<(u64, u32, u32)>
         wholes.push((row.0, 48, row.1))?;
     }
     Ok(wholes)
+}
+
+impl MacTable {
+    /// The rows in the order of style chain, by ascending address: the address, its 48 bits, and the port.
+    #[tactic(auto, using(crate::proofs::NodeLemmas::wholes_are))]
+    pub fn chain_rows(&self, alloc: Global) -> Result<Vec<(u64, u32, u32)>, NoMemory>
+        ensures { IfOk result (λ wholes. (ordered : List Row) × IsPermutation self.now.rows ordered
+            × IsNonDecreasingBy address_key ordered × (wholes.items ≡ map whole ordered)) }
+    {
+        let ordered = in_order(alloc, &self.rows)?;
+        whole_rows(alloc, &ordered)
+    }
 }
 
 fn chain(alloc: Global, ports: u32, rows: &[(u64, u32)]) -> Result<RawNode, NoMemory>

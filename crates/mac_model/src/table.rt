@@ -28,6 +28,15 @@ impl Model for MacTable {
     ghost invariant = { λ table. IsMac table.ports table.rows.items };
 }
 
+impl MacTable {
+    /// How many ports there are.
+    pub fn ports(&self) -> u32
+        ensures { result ≡ self.now.ports }
+    {
+        self.ports
+    }
+}
+
 fn pairs_of(alloc: Global, rows: &[Row]) -> Result<Vec<(u64, u32)>, TableFault>
     ensures rows { IfOk result (λ pairs. pairs.items ≡ map pair rows.now) }
     ensures fault { IfErr result (λ fault. fault ≡ TableFault.NoMemory) }
