@@ -1,3 +1,4 @@
 pub mod Faults
 pub mod Nodes
 pub mod Ordered
+pub mod ChainLemmas

@@ -1,1 +1,2 @@
 pub mod FileNodes
+pub mod ChainTexts

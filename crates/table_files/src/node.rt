@@ -32,7 +32,7 @@ impl From<NoMemory> for FileFault {
     }
 }
 
-fn file_fault(fault: TableFault) -> FileFault
+pub(crate) fn file_fault(fault: TableFault) -> FileFault
     ensures { result ≡ file_fault fault }
 {
     match fault {
