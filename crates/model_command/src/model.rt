@@ -1,20 +1,17 @@
 //! The command `model` of a table's file.
 
-ghost use Rattle.std.specs.Prelude.{◌≡◌, true, IfOk, IfErr, string_bytes};
-ghost use Rattle.sefl_syntax.specs.Name.{is_name};
+ghost use Rattle.std.specs.Prelude.{◌≡◌, IfOk, IfErr, string_bytes};
 ghost use Rattle.sefl_syntax.specs.NetText.{node_text};
 ghost use Rattle.sefl_syntax.specs.NetWords.{kind_text};
 ghost use Rattle.sefl_syntax.specs.Trees.{NodeTree};
-ghost use Rattle.sefl_syntax.specs.Views.{node_tree};
 ghost use Rattle.table_files.specs.FileNodes.{IsNodeOf};
 ghost use Rattle.model_command.specs.Models.{IsModelRefusal, ModelComes};
 
 use command_edge::{Ending, OwnFault};
 use command_runs::{ByteFile, OnePiece};
-use sefl_syntax::{Name, RawNode, Style, TableKind, Text, print_node};
-use sn_width::NoMemory;
+use sefl_syntax::{Style, TableKind, Text};
 use std::alloc::Global;
-use table_files::{FileFault, file_node};
+use table_files::{FileFault, file_text};
 
 /// The node, in a style, of the table of this kind whose file the source is.
 #[derive(Clone, Copy)]
@@ -22,34 +19,6 @@ pub struct TableModel<'a> {
     pub source: ByteFile<'a>,
     pub kind: TableKind,
     pub style: Style,
-}
-
-/// The name that the text is.
-fn name_of(alloc: Global, text: &str) -> Result<Name, NoMemory>
-    requires { is_name text.now ≡ true }
-    ensures { IfOk result (λ name. name ≡ text.now) }
-{
-    let Some(name) = Name::of(alloc, text)? else {
-        unreachable!();
-    };
-    Ok(name)
-}
-
-/// The name of the node that is printed.
-fn node_name(alloc: Global, kind: TableKind) -> Result<Name, NoMemory>
-    ensures { IfOk result (λ name. name ≡ kind_text kind) }
-{
-    match kind {
-        TableKind::Mac => name_of(alloc, "mac"),
-        TableKind::Fib => name_of(alloc, "fib"),
-    }
-}
-
-/// The text of a node, under the name of its table's kind.
-fn text_of_node(alloc: Global, kind: TableKind, node: &RawNode) -> Result<String, NoMemory>
-    ensures { IfOk result (λ text. string_bytes text ≡ node_text (kind_text kind) (node_tree node.now)) }
-{
-    Ok(print_node(alloc, &node_name(alloc, kind)?, node)?)
 }
 
 /// The text of the node of a table's bytes.
@@ -64,12 +33,8 @@ fn text_of_table(
         × (string_bytes text ≡ node_text (kind_text kind) node)) }
     ensures refused { IfErr result (IsModelRefusal kind style name.now bytes.now) }
 {
-    match file_node(alloc, kind, bytes, style) {
-        Ok(node) => {
-            let text = text_of_node(alloc, kind, &node);
-            drop(node);
-            Ok(text?)
-        }
+    match file_text(alloc, kind, bytes, style) {
+        Ok(text) => Ok(text),
         Err(FileFault::Bad { line, kind }) => Err(OwnFault::BadTable {
             name: Text::of(alloc, name)?,
             line,
