@@ -1,13 +1,16 @@
 //! Filter lists, and the files that they have.
 
-ghost use Rattle.std.specs.Prelude.{◌≡◌, ◌<◌, ◌≤◌, ℕ, All, length, IfOk, IsTrue};
+ghost use Rattle.std.specs.Prelude.{◌≡◌, ◌<◌, ◌≤◌, ℕ, All, length, map, IfOk, IsTrue};
 ghost use Rattle.acl_rules.specs.Covers.{IsFate, IsHidden, IsRule, accepted, fate_seen};
+ghost use Rattle.acl_rules.specs.Comparing.{AreSame, IsAccepted, IsVerdict, joint_seen, verdict_seen};
 ghost use Rattle.acl_model.specs.Rules.{IsFaultOf, Reads};
 ghost use Rattle.table_lines.specs.declared.fault.TableFault.TheVariants.{Conflict};
 
 use crate::fault::AclFault;
 use crate::rules::Rules;
-use acl_rules::{Cover, Fate, Rule, check_cover, search};
+use acl_rules::{
+    Cover, Fate, JointCover, Rule, Verdict, check_cover, check_joints, compare, search,
+};
 use sn_width::NoMemory;
 use std::alloc::Global;
 use std::marker::Model;
@@ -58,6 +61,28 @@ impl Acl {
         ensures hidden { IfOk result (λ yes. IsTrue yes → IsHidden self.now rule) }
     {
         check_cover(alloc, &self.rules, rule, cover)
+    }
+
+    /// Whether the lists permit the same packets: covers that show it, or a packet in which they differ. Nothing is promised
+    /// about the choice of the packet or covers, or about time.
+    pub fn compare(&self, alloc: Global, other: &Acl) -> Result<Verdict, NoMemory>
+        ensures { IfOk result (λ verdict. IsVerdict self.now other.now (verdict_seen verdict)) }
+    {
+        compare(alloc, self.rules(), other.rules())
+    }
+
+    /// Whether the covers are accepted for the lists; then these permit the same packets.
+    pub fn check_joints(
+        &self,
+        alloc: Global,
+        other: &Acl,
+        joints: &[JointCover],
+    ) -> Result<bool, NoMemory>
+        ensures accepted { IfOk result (λ yes. IsTrue yes → IsAccepted self.now other.now (map joint_seen joints.now)) }
+        ensures refused { IfOk result (λ yes. IsAccepted self.now other.now (map joint_seen joints.now) → IsTrue yes) }
+        ensures same { IfOk result (λ yes. IsTrue yes → AreSame self.now other.now) }
+    {
+        check_joints(alloc, self.rules(), other.rules(), joints)
     }
 }
 

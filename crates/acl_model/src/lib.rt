@@ -9,6 +9,6 @@ mod node;
 mod rules;
 
 pub use acl::{Acl, read_acl};
-pub use acl_rules::{Cover, Fate, Rule};
+pub use acl_rules::{Cover, Fate, JointCover, Rule, Side, Verdict};
 pub use fault::AclFault;
 pub use node::acl_node;
