@@ -55,7 +55,9 @@ RULE = ("a rule is `permit` or `deny`, a protocol, two prefixes (source, destina
 ROW = "a table is `ports N`, and then rows: an address or a prefix, and a port that is less than N\n"
 OF_WORDS = "a name is looked for from the folder in which the program runs\n"
 OF_JOB = "the file of a table is looked for from the folder in which the program runs, not from that of the job\n"
+CASES_TAKES = "--cases takes a number from 1 to 18,446,744,073,709,551,615, or all"
 NARROW = "narrow the injection by `where` lines or given values"
+OF_ASK = f"the exploration ended at its limit of records; yes and no are right: for the rest raise `--limit`, or {NARROW}"
 NOT_WRITTEN = "what was written is a beginning of the text, and not to be used: make room, or keep the reader open\n"
 UNCONFIRMED = {
     1: "the decisions of the record lead to no end, its values are no packet that takes them, or a part that was not tried is not open: explore the job again",
@@ -84,6 +86,8 @@ def job(text, **files):
 # The words, the files, and what standard error shows.
 CASES = [
     ("explore job", job(JOB), ""),
+    *((f"{words} --cases{value}", job(JOB), "")
+      for words in ("explore job", "ask job --limit 100000", "loops job", "compare job job") for value in (" all", "=all", "=1", " 18446744073709551615")),
     ("explore none", job(JOB), f"symnet: no file none\n{OF_WORDS}"),
     ("explore job", job(TABLE), f'symnet: no file sw.mac\njob:2:15:\nnode sw = mac "sw.mac" chain;\n              ^\n{OF_JOB}'),
     ("walk job none", job(JOB), f"symnet: no file none\n{OF_WORDS}"),
@@ -175,7 +179,22 @@ USAGES = [
     ("explore job --limit 5 --limit=6", "`--limit`: the option is given twice"),
     ("explore job --hops", "`--hops`: its value is missing"),
     ("explore --hops --limit 4 job", "`--hops`: its value is missing"),
-    ("ask job --limit 5", "`--limit`: the command has no such option"),
+    ("ask job --limit 0", "`0`: --limit takes a number from 1 to 100,000"),
+    ("loops job --limit=100001", "`100001`: --limit takes a number from 1 to 100,000"),
+    ("compare job other --limit few", "`few`: --limit takes a number from 1 to 100,000"),
+    ("rules list --limit 5", "`--limit`: the command has no such option"),
+    ("explore job --cases 0", f"`0`: {CASES_TAKES}"),
+    ("ask job --cases 18446744073709551616", f"`18446744073709551616`: {CASES_TAKES}"),
+    ("loops job --cases=some", f"`some`: {CASES_TAKES}"),
+    ("compare job other --cases ALL", f"`ALL`: {CASES_TAKES}"),
+    ("explore job --cases 1e3", f"`1e3`: {CASES_TAKES}"),
+    ("explore job --cases=", f"``: {CASES_TAKES}"),
+    ("explore job --cases", "`--cases`: its value is missing"),
+    ("ask --cases --hops 4 job", "`--cases`: its value is missing"),
+    ("explore job --cases all --cases=all", "`--cases`: the option is given twice"),
+    ("walk job packet --cases all", "`--cases`: the command has no such option"),
+    ("replay job report --cases=all", "`--cases`: the command has no such option"),
+    ("grow 5 5 --cases all", "`--cases`: the command has no such option"),
     ("replay job report --hops=5", "`--hops`: the command has no such option"),
     ("explore job --pruned some", "`some`: --pruned takes all or count"),
     ("loops job --open all", "`all`: --open takes numbers or visits"),
@@ -253,9 +272,12 @@ LAST = [
     ("explore job", job(changed("r.7", "r.0", changed("sw.1", "sw.5", TABLE)), **{"sw.mac": MAC}), "symnet: refused at 9 3",
      "port 5: box sw has 2 output ports, numbered from 0"),
     ("explore job --limit 1", job(JOB), "symnet: partial", f"what is written is right as far as it goes: for the rest raise `--limit`, or {NARROW}"),
-    ("ask job", job(MANY), "symnet: partial", f"the exploration ended at 10,000 records; yes and no are right: for the rest {NARROW}"),
-    ("loops job", job(MANY), "symnet: partial", f"the exploration ended at 10,000 records, and more paths may be cut: {NARROW}"),
-    ("compare job job", job(MANY), "symnet: partial", f"an exploration ended at 10,000 records, so nothing is known: {NARROW}, or compare smaller parts"),
+    ("ask job", job(MANY), "symnet: partial", OF_ASK),
+    ("ask job --limit 1", job(JOB), "symnet: partial", OF_ASK),
+    ("loops job --limit=1 --cases all", job(JOB), "symnet: partial",
+     f"the exploration ended at its limit of records, and more paths may be cut: raise `--limit`, or {NARROW}"),
+    ("compare job job --cases=all --limit 1", job(JOB), "symnet: partial",
+     f"an exploration ended at its limit of records, so nothing is known: raise `--limit`, {NARROW}, or compare smaller parts"),
     ("walk job packet --limit 1", job(changed("forward 0;", "fork 0, 0;"), packet="6"), "symnet: too many walks 2",
      "raise `--limit`, or lower `--hops` where the net has a loop with a `fork`"),
     ("replay job report", job(JOB, report="{"), "symnet: bad report 1 ",

@@ -26,6 +26,7 @@ RUNS = [
     ("click", "outputs of a tee", ["tee"], "click"),
     ("acl", "a rule as a node, grouped", ["rule"], "acl"),
     ("acl", "two rules decide and one is hidden", ["list"], "fates"),
+    ("acl", "two rules of one list are one of the other", ["left", "right"], "verdict"),
     ("grow", "one box", [], "grown"),
 ]
 

@@ -126,6 +126,6 @@ def change_ending(lines: List[str], row: Row, status: int, error: str, output: b
     head = row.pieces[first - 1][0] if first else row.lines["output"]
     tail = row.pieces[last][0] if last < len(row.pieces) else max([row.lines["output"], *(at for at, _ in row.pieces)]) + 1
     lines[row.lines["status"]] = f"status {status}"
-    lines[row.lines["error"]] = f"error {error}".rstrip(" ")
+    lines[row.lines["error"]] = f"error {error}" if error else "error"
     # The pieces come last, since the numbers of all lines behind them change.
     lines[head + 1:tail] = pieces(output[begin:end])

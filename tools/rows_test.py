@@ -78,6 +78,7 @@ def check_changes():
     expect("the last record", changed("one", 0, "", one.replace(b"2", b"3")), ([': {"decisions":[3]}'], [': {"decisions":[2]}']))
     expect("a record more", changed("one", 0, "", one.replace(b"}]}", b'},{"decisions":[3]}]}')), ([': ,', ': {"decisions":[3]}'], []))
     expect("a status", changed("one", 12, "symnet: partial", one), (["status 12", "error symnet: partial"], ["status 0", "error"]))
+    expect("a line with a blank at its end", changed("one", 14, "symnet: bad report 1 ", one)[0], ["status 14", "error symnet: bad report 1 "])
     expect("no output", changed("one", 1, "symnet: out of memory", b"")[1][-3:], [': {"walks":[{"decisions":[1]},', ': {"decisions":[2]}', "| ]}"])
     expect("an output", changed("two", 0, "", b"x\n"), (["| x"], ["status 2", "error symnet: usage"]))
 

@@ -5,13 +5,16 @@ use Rattle.sefl_syntax.specs.declared.net.Style.TheVariants.{Chain, Grouped}
 use Rattle.sefl_syntax.specs.NetText.{node_text}
 use Rattle.acl_rules.specs.declared.rule.Rule.{Rule}
 use Rattle.acl_rules.specs.Covers.{FateSeen, IsFate}
+use Rattle.acl_rules.specs.Comparing.{IsVerdict, VerdictSeen}
 use Rattle.acl_model.specs.Nodes.{acl_node}
 use Rattle.command_runs.specs.Inputs.{Given}
 use Rattle.command_edge.specs.Puts.{Outcome}
 use Rattle.acl_command.specs.declared.model.ListStyle.{ListStyle}
 use Rattle.acl_command.specs.declared.model.ListStyle.TheVariants as style
 use Rattle.acl_command.specs.Lists.{ListComes}
+use Rattle.acl_command.specs.BothLists.{ListsCome}
 use Rattle.acl_command.specs.Texts.{rules_text}
+use Rattle.acl_command.specs.VerdictTexts.{verdict_text}
 
 abbrev pub node_style : ListStyle → Style
 node_style style.Chain = Chain
@@ -34,3 +37,10 @@ IsRulesText rules whole = (fates : List FateSeen) × AreFates rules fates × (wh
 
 abbrev pub RulesComes : List ℕ → List Given → Outcome → Type 0
 RulesComes name = ListComes IsRulesText name
+
+abbrev pub IsVerdictText : List Rule → List Rule → List ℕ → Type 0
+IsVerdictText left right whole = (verdict : VerdictSeen) × IsVerdict left right verdict × (whole ≡ verdict_text verdict)
+
+-- on two lists, of files with these names
+abbrev pub BothRulesCome : List ℕ → List ℕ → List Given → Outcome → Type 0
+BothRulesCome left right = ListsCome IsVerdictText left right

@@ -25,7 +25,7 @@ fn write_inside(out: &mut JsonText, rule: u32) -> Result<(), NoMemory>
     Ok(())
 }
 
-fn write_cut(out: &mut JsonText, field: u8, at: u32) -> Result<(), NoMemory>
+pub(crate) fn write_cut(out: &mut JsonText, field: u8, at: u32) -> Result<(), NoMemory>
     ensures { Gains (step_data (Cover.Cut field at)) result out.old out.new }
 {
     lists_are_written();
@@ -59,7 +59,7 @@ fn write_cover(out: &mut JsonText, cover: &[Cover]) -> Result<(), NoMemory>
 }
 
 #[tactic(auto, unfolding(crate::specs::Texts::packet_data))]
-fn write_packet(out: &mut JsonText, values: &[u32]) -> Result<(), NoMemory>
+pub(crate) fn write_packet(out: &mut JsonText, values: &[u32]) -> Result<(), NoMemory>
     ensures { Gains (packet_data values.now) result out.old out.new }
 {
     out.begin_list()?;

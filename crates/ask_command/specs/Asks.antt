@@ -1,7 +1,7 @@
 -- What `ask` writes of an accepted job.
 use Rattle.std.specs.Prelude.{ℕ, ◌≡◌, ◌≤◌, List, [], ◌∷◌, ◌++◌, ◌⊎◌, length}
 use Rattle.sefl_syntax.specs.Trees.{AskTree}
-use Rattle.net_check.specs.Network.{Network, Entry}
+use Rattle.net_check.specs.Network.{Network, Entry, with_choices}
 use Rattle.exact_records.specs.Packets.{AreExactFor}
 use Rattle.exact_records.specs.Records.{RecordTree}
 use Rattle.hop_bounds.specs.Beyond.{AllUncut, GoBeyond}
@@ -71,7 +71,7 @@ module _ (hops limit : ℕ) (net : Network) (i : Entry) (asks : List AskTree) wh
   AnswersOf (refused (BadAsk number kind)) = IsFirstBad net i asks number kind
   AnswersOf (refused _) = ⊥
 
--- `ask` of a job
-abbrev pub AskComes : ℕ → ℕ → List Given → Outcome → Type 0
-AskComes hops limit (a_net net i asks ∷ []) outcome = AnswersOf hops limit net i asks outcome
-AskComes hops limit _ outcome = ⊥
+-- `ask` of a job, with this bound on choices of cases
+abbrev pub AskComes : ℕ → ℕ → ℕ → List Given → Outcome → Type 0
+AskComes most hops limit (a_net net i asks ∷ []) outcome = AnswersOf hops limit net (with_choices most i) asks outcome
+AskComes most hops limit _ outcome = ⊥

@@ -9,10 +9,12 @@ use explore_command::RecordLimit;
 use net_check::Accepted;
 use std::alloc::Global;
 
-/// The answers to the questions of a job, from one exploration with `hops` hops and the record limit `limit`.
+/// The answers to the questions of a job, from one exploration with `hops` hops, the record limit `limit`, and a bound on the choices
+/// of cases that decisions try.
 #[derive(Clone, Copy)]
 pub struct Ask<'a> {
     pub source: JobFile<'a>,
+    pub cases: u64,
     pub hops: u32,
     pub limit: RecordLimit,
 }
@@ -22,13 +24,15 @@ impl<'a> OnePiece for Ask<'a> {
 
     ghost source = { λ a. a.source };
 
-    ghost comes = { λ a. AskComes a.hops a.limit };
+    ghost comes = { λ a. AskComes a.cases a.hops a.limit };
 
     fn source(&self) -> &JobFile<'a> {
         &self.source
     }
 
     fn text(&self, alloc: Global, given: Accepted) -> Result<(Ending, String), OwnFault> {
-        text_of_answers(alloc, &given, self.hops, self.limit.count())
+        let mut job = given;
+        job.injection.set_choices(self.cases);
+        text_of_answers(alloc, &job, self.hops, self.limit.count())
     }
 }

@@ -1,7 +1,10 @@
 -- A report that was written is confirmed.
-use Rattle.std.proofs.Common.{◌≡◌, ℕ, inl, inr, List, [], ◌∷◌, map, refl, sym, ap, subst, ◌∙◌, Some, None, Result, Ok, Err}
+use Rattle.std.proofs.Common.{◌≡◌, ◌==◌, ℕ, Bool, true, false, inl, inr, List, [], ◌∷◌, map, refl, sym, ap, subst, ◌∙◌, Some, None, Result, Ok, Err}
 use Rattle.std.specs.List.{AllByRecursion}
-use Rattle.net_check.specs.Network.{Network, Entry}
+use Rattle.std.specs.Prelude.{if◌then◌else◌}
+use Rattle.std.proofs.lemmas.Bool.{eqb-true}
+use Rattle.net_check.specs.declared.injection.TheConstants.{USUAL_CHOICES}
+use Rattle.net_check.specs.Network.{Network, Entry, with_choices}
 use Rattle.path_records.specs.declared.records.Record.{Record}
 use Rattle.path_records.specs.declared.records.Record.TheVariants.{Path, Pruned, Unexplored}
 use Rattle.exact_records.specs.Exact.{IsGood}
@@ -23,10 +26,10 @@ use Rattle.command_edge.specs.Puts.{Outcome, text, refused}
 use Rattle.command_edge.specs.declared.ending.Ending.{Ending}
 use Rattle.command_edge.specs.declared.ending.Ending.TheVariants.{Done}
 use Rattle.command_edge.specs.declared.fault.OwnFault.TheVariants.{BadReport, NotConfirmed}
-use Rattle.explore_command.specs.Explores.{IsReport, is_done}
+use Rattle.explore_command.specs.Explores.{IsReport, is_done, said_by, said_choices}
 use Rattle.explore_command.specs.Headline.{IsReadBack}
 use Rattle.replay_command.specs.Counted.{confirmed_text}
-use Rattle.replay_command.specs.Replays.{IsCountsText, IsFirstOther, OfReport, ReplayOf, report_kind}
+use Rattle.replay_command.specs.Replays.{IsCountsText, IsFirstOther, OfReport, ReplayOf, report_kind, choices_of}
 
 -- ---- records by what is seen of them
 
@@ -74,26 +77,36 @@ not_other back net i hops limit rs number kind exact (part, k, at) =
 none_some : {A : Type 0} (x : A) → None ≡ Some x → ⊥
 none_some x e = cc e
 
+-- the bound that a report says is the injection's
+said_back : (most : ℕ) → choices_of (said_choices most) ≡ most
+said_back most = by (most == USUAL_CHOICES) refl
+  where
+    by : (b : Bool) → (most == USUAL_CHOICES) ≡ b → choices_of (if b then None else Some most) ≡ most
+    by true e = sym (eqb-true most USUAL_CHOICES e)
+    by false e = refl
+
 module _ (back : IsOneAnswer) (hops limit : ℕ) (net : Network) (i : Entry) (ending : Ending) (whole : List ℕ)
-    (report : IsReport hops limit Written net i ending whole) (read : IsReadBack net hops limit Written report.records ending whole) where
+    (report : IsReport hops limit Written net i ending whole) (read : IsReadBack net (said_by i) hops limit Written report.records ending whole) where
   abbrev rs : List RecordTree
   rs = record_trees report.records
 
   exact : AreExactFor net i hops limit rs
   exact = report.found.exact
 
-  same_report : (r : Report) → ReadsReport net whole (Ok r) → (r.hops ≡ hops) × (record_trees r.records.items ≡ rs)
+  same_report : (r : Report) → ReadsReport net whole (Ok r) → (r.cases ≡ said_by i) × (r.hops ≡ hops) × (record_trees r.records.items ≡ rs)
   same_report r reads =
-      let shown : seen.report_seen r ≡ seen.line_seen hops limit report.records (refuted_count report.records) (is_done ending) = read (Ok r) reads in (
+      let shown : seen.report_seen r ≡ seen.line_seen (said_by i) hops limit report.records (refuted_count report.records) (is_done ending) = read (Ok r) reads in (
+        ap (λ (x : seen.ReportSeen). x.cases) shown,
         ap (λ (x : seen.ReportSeen). x.hops) shown,
         trees_seen r.records.items ∙ (ap (λ (x : seen.ReportSeen). map tree_of x.records) shown ∙ sym (trees_seen report.records)),
       )
 
   -- a fact of the report of the bytes is one of these records
-  of_these : (Fact : ℕ → List RecordTree → Type 0) → OfReport net whole Fact → Fact hops rs
+  of_these : (Fact : ℕ → ℕ → List RecordTree → Type 0) → OfReport net whole Fact → Fact i.most_choices hops rs
   of_these Fact of =
       let same = same_report of.report of.reads in
-      subst (λ (n : ℕ). Fact n rs) same.0 (subst (Fact of.report.hops) same.1 of.holds)
+      subst (λ (m : ℕ). Fact m hops rs) (ap choices_of same.0 ∙ said_back i.most_choices)
+      (subst (λ (n : ℕ). Fact (choices_of of.report.cases) n rs) same.1 (subst (Fact (choices_of of.report.cases) of.report.hops) same.2 of.holds))
 
   no_fault : (f : ReportFault) (told : ℕ × List ℕ) → ReadsReport net whole (Err f) → report_kind f ≡ Some told → ⊥
   no_fault NotJson told reads e = read (Err NotJson) reads
@@ -105,9 +118,9 @@ module _ (back : IsOneAnswer) (hops limit : ℕ) (net : Network) (i : Entry) (en
 
   pub confirmed_back : (outcome : Outcome) → ReplayOf net i whole outcome → outcome ≡ text Done (confirmed_text (counts_of rs))
   confirmed_back (text e w) h =
-      let line = counted w (of_these (λ n xs. IsCountsText net i n xs w) h.1) in
+      let line = counted w (of_these (λ m n xs. IsCountsText net (with_choices m i) n xs w) h.1) in
       λ l. text (h.0 l) (line l)
   confirmed_back (refused (BadReport kind pointer)) h = absurd (no_fault h.fault (kind, pointer) h.reads h.told)
   confirmed_back (refused (NotConfirmed number kind)) h =
-      absurd (not_other back net i hops limit rs number kind exact (of_these (λ n xs. IsFirstOther net i n xs number kind) h))
+      absurd (not_other back net i hops limit rs number kind exact (of_these (λ m n xs. IsFirstOther net (with_choices m i) n xs number kind) h))
   confirmed_back (refused fault) h = absurd h

@@ -1,3 +1,4 @@
 pub mod Confirmed
+pub mod AllCases
 pub mod Alike
 pub mod Followed

@@ -12,6 +12,7 @@ ghost use Rattle.explore_command.specs.Explores.{IsReport};
 ghost use Rattle.explore_command.specs.Headline.{MayBeShown};
 ghost use Rattle.replay_command.specs.Counted.{confirmed_text};
 ghost use Rattle.replay_command.specs.Replays.{ReplayOf};
+ghost use Rattle.command_laws.specs.Cases.{AllCasesAreTried};
 ghost use Rattle.command_laws.specs.Following.{HitsAreFollowed, PathsAreFollowed};
 
 use explore_command::laws::reports_are_read_back;
@@ -22,7 +23,7 @@ use path_replay::laws::one_answer_for_a_net;
 /// of these records, and to nothing else.
 pub fn replays_confirm_what_explore_wrote()
     ensures { (hops limit : ℕ) (net : Network) (i : Entry) (ending : EndingOf) (whole : List ℕ) (outcome : Outcome)
-        → MayBeShown hops limit
+        → MayBeShown i.most_choices hops limit
         → (report : IsReport hops limit Written net i ending whole) → ReplayOf net i whole outcome
         → outcome ≡ text Done (confirmed_text (counts_of (record_trees report.records))) }
 {
@@ -39,7 +40,7 @@ pub fn replays_of_one_job_count_alike()
         → counts_of (record_trees report.records) ≡ counts_of (record_trees again.records) }
     ensures replays { (hops limit : ℕ) (net : Network) (i : Entry) (one other : EndingOf) (whole line : List ℕ)
         (a b : Outcome)
-        → MayBeShown hops limit → IsReport hops limit Written net i one whole
+        → MayBeShown i.most_choices hops limit → IsReport hops limit Written net i one whole
         → IsReport hops limit Written net i other line
         → ReplayOf net i whole a → ReplayOf net i line b → a ≡ b }
 {
@@ -56,4 +57,11 @@ pub fn walks_follow_paths()
 /// What `walk` writes of the packet that answers a question of `ask` has a walk along the path that showed the answer.
 pub fn walks_follow_hits()
     ensures { (net : Network) (i : Entry) (hops : ℕ) → HitsAreFollowed net i hops }
+{}
+
+/// Where the bound on choices of cases is the greatest, as `--cases all` sets it, no path is undecided for their number, and neither
+/// is what stands before a refuted side.
+#[tactic(auto, using(crate::proofs::AllCases::all_cases_are_tried))]
+pub fn all_cases_are_tried()
+    ensures { AllCasesAreTried }
 {}

@@ -12,7 +12,7 @@ use Rattle.sefl_reader.specs.Outcome.{Outcome, a_job}
 use Rattle.job_items.specs.declared.rule.Rule.{Rule}
 use Rattle.net_check.specs.Places.{node_position}
 use Rattle.net_check.specs.Network.{Network, Entry}
-use Rattle.net_check.specs.Sound.{IsSound, IsNetOf, IsEntryOf}
+use Rattle.net_check.specs.Sound.{IsSound, IsNetOf, IsGivenEntry}
 use Rattle.command_edge.specs.Files.{Files, HasFile, LoadFails}
 use Rattle.command_runs.specs.Flaws.{Flaw, syntax}
 use Rattle.command_runs.specs.Refusals.{fault_by_number, fault_by_rule, rule_number}
@@ -86,12 +86,13 @@ same_net j a b of_a of_b found = λ k. record {
 }
 
 -- and as one injection
-same_entry : (j : JobTree) (a b : Entry) → IsEntryOf j a → IsEntryOf j b → a ≡ b
+same_entry : (j : JobTree) (a b : Entry) → IsGivenEntry j a → IsGivenEntry j b → a ≡ b
 same_entry j a b of_a of_b =
-    let own : a.own ≡ b.own = of_a.own ∙ sym of_b.own in
+    let own : a.own ≡ b.own = of_a.0.own ∙ sym of_b.0.own in
     let node : a.node.0 ≡ b.node.0 =
-    same_Some a.node.0 b.node.0 (sym of_a.node ∙ (ap (λ o. node_position j.net o.node) own ∙ of_b.node)) in
-    λ k. record { own = own k; node = record { 0 = node k } }
+    same_Some a.node.0 b.node.0 (sym of_a.0.node ∙ (ap (λ o. node_position j.net o.node) own ∙ of_b.0.node)) in
+    let most : a.most_choices ≡ b.most_choices = of_a.1 ∙ sym of_b.1 in
+    λ k. record { own = own k; node = record { 0 = node k }; most_choices = most k }
 
 module _ (one_node : FilesHaveOneNode) (no_bad : NodesHaveNoBadLine) (w : World) where
   abbrev files : Files

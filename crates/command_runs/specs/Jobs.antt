@@ -13,7 +13,7 @@ use Rattle.pattern_answers.specs.Asking.{AsksAll}
 use Rattle.pattern_answers.specs.Told.{bad_site, found_by}
 use Rattle.net_check.specs.Acceptance.{IsBadPatternAt}
 use Rattle.net_check.specs.Network.{Network, Entry}
-use Rattle.net_check.specs.Sound.{IsSound, IsNetOf, IsEntryOf}
+use Rattle.net_check.specs.Sound.{IsSound, IsNetOf, IsGivenEntry}
 use Rattle.command_edge.specs.Files.{Files, HasFile, LoadFails}
 use Rattle.command_runs.specs.Flaws.{HasFlaw, flaw_of, Flaw}
 use Rattle.command_runs.specs.Refusals.{rule_number}
@@ -76,7 +76,7 @@ module _ {S : Type 0} (step : S → List ℕ → List ℕ → Found → S → Ty
   pub record IsTaken (u : S) (j : JobTree) (net : Network) (i : Entry) (v : S) : Type 0 where
     pub sound : IsSound j
     pub of_net : IsNetOf j net
-    pub of_entry : IsEntryOf j i
+    pub of_entry : IsGivenEntry j i
     pub asked : AsksAll step (names_of j).metas u (names_of j).patterns net.found v
     pub kept : PatternsKept (told u) (told v)
     pub found : ForSome (told u).matches (ListsFound j net)

@@ -8,7 +8,7 @@ use Rattle.sn_edge.specs.declared.patterns.Found.{Found}
 use Rattle.sefl_syntax.specs.Trees.{JobTree}
 use Rattle.pattern_answers.specs.Asking.{IsStep}
 use Rattle.net_check.specs.Network.{Network, Entry}
-use Rattle.net_check.specs.Sound.{IsSound, IsNetOf, IsEntryOf}
+use Rattle.net_check.specs.Sound.{IsSound, IsNetOf, IsGivenEntry}
 use Rattle.command_edge.specs.Files.{Files, HasFile, IsLoaded, IsNotLoaded, LoadFails}
 use Rattle.command_edge.specs.declared.fault.InputFault.{InputFault}
 use Rattle.command_runs.specs.Jobs.{HasFilled, IsBadAt, IsTaken, JobFails, ListsFound, first_bad}
@@ -52,7 +52,7 @@ world w = record {
   file_fails = λ u limit name fault v. LoadFails (Some w.at) limit name fault;
   has_job = λ u name job v. HasFilled (Some w.at) name job;
   job_fails = λ u name fault v. JobFails (Some w.at) name fault;
-  takes = λ u j net i v. IsSound j × IsNetOf j net × IsEntryOf j i × ForSome w.finds (ListsFound j net) × ForSome w.is_bad (λ b. first_bad b j ≡ None);
+  takes = λ u j net i v. IsSound j × IsNetOf j net × IsGivenEntry j i × ForSome w.finds (ListsFound j net) × ForSome w.is_bad (λ b. first_bad b j ≡ None);
   refuses = λ u j site v. IsSound j × ForSome w.is_bad (λ b. first_bad b j ≡ Some site.0);
 }
 

@@ -1,9 +1,11 @@
 -- The commands, and the words that give them.
-use Rattle.std.specs.Prelude.{ℕ, ◌≤◌, List, [], ◌∷◌, map, String, string_bytes, codes, Option, Some, None, option_map, option_and_then, if◌then◌else◌}
+use Rattle.std.specs.Prelude.{ℕ, ◌≤◌, ◌<◌, ◌^◌, List, [], ◌∷◌, map, String, string_bytes, codes, Option, Some, None, option_map, option_and_then, if◌then◌else◌}
+use Rattle.std.specs.Option.{option_or}
 use Rattle.std.specs.Str.{bytes_eq}
 use Rattle.std.specs.declared.alloc.Global.{Global}
 use Rattle.command_words.specs.Forms.{Form, Text, read_form, value_of}
-use Rattle.command_words.specs.Numbers.{number_in, number_or, seed_of}
+use Rattle.command_words.specs.Numbers.{count_of, number_in, number_or, seed_of}
+use Rattle.net_check.specs.declared.injection.TheConstants.{USUAL_CHOICES}
 use Rattle.command_words.specs.declared.command.TheConstants.{HOPS, LIMIT, MOST_BOXES, MOST_HOPS, MOST_LIMIT}
 use Rattle.command_words.specs.declared.command.Command.{Command as CommandOf}
 use Rattle.command_words.specs.declared.command.Command.TheVariants as given
@@ -18,22 +20,22 @@ use Rattle.sefl_syntax.specs.declared.net.Style.TheVariants.{Chain, Grouped, Egr
 use Rattle.sefl_syntax.specs.declared.net.TableKind.{TableKind}
 use Rattle.sefl_syntax.specs.declared.net.TableKind.TheVariants.{Mac, Fib}
 use Rattle.command_words.specs.declared.command.Verb.{Verb}
-use Rattle.command_words.specs.declared.command.Verb.TheVariants.{Explore, Walk, Replay, Ask, Loops, Compare, Model, Click, Acl, Rules, Grow}
+use Rattle.command_words.specs.declared.command.Verb.TheVariants.{Explore, Walk, Replay, Ask, Loops, Compare, Model, Click, Acl, Rules, BothRules, Grow}
 
 -- a command, with the names of the files that it reads, and what its options give
 pub data Command : Type 0 where
-  -- the job; hops and limit, and what is written of pruned records
-  explore : Text → ℕ → ℕ → RefutedSides → Command
+  -- the job; hops, limit and a bound on choices of cases, and what is written of pruned records
+  explore : Text → ℕ → ℕ → ℕ → RefutedSides → Command
   -- the job and the packet; hops and limit
   walk : Text → Text → ℕ → ℕ → Command
   -- the job and the report
   replay : Text → Text → Command
-  -- the job; hops
-  ask : Text → ℕ → Command
-  -- the job; hops, and what is written of paths without a loop
-  loops : Text → ℕ → Open → Command
-  -- the job and the other one; hops
-  compare : Text → Text → ℕ → Command
+  -- the job; hops, limit and a bound on choices of cases
+  ask : Text → ℕ → ℕ → ℕ → Command
+  -- the job; the same, and what is written of paths without a loop
+  loops : Text → ℕ → ℕ → ℕ → Open → Command
+  -- the job and the other one; hops, limit and a bound on choices of cases
+  compare : Text → Text → ℕ → ℕ → ℕ → Command
   -- a table's file; and the style of its node
   model : TableKind → Text → Style → Command
   -- the file of a Click configuration
@@ -42,51 +44,62 @@ pub data Command : Type 0 where
   acl : Text → FilterStyle → Command
   -- a filter list's file
   rules : Text → Command
+  -- a filter list's file and the other one
+  both_rules : Text → Text → Command
   -- the seed of a job, and the number of its boxes
   grow : ℕ → ℕ → Command
 
 abbrev pub command_of : CommandOf → Command
-command_of (given.Explore job hops limit pruned) = explore job.now hops limit pruned
+command_of (given.Explore job hops limit cases pruned) = explore job.now hops limit cases pruned
 command_of (given.Walk job packet hops limit) = walk job.now packet.now hops limit
 command_of (given.Replay job report) = replay job.now report.now
-command_of (given.Ask job hops) = ask job.now hops
-command_of (given.Loops job hops detail) = loops job.now hops detail
-command_of (given.Compare job other hops) = compare job.now other.now hops
+command_of (given.Ask job hops limit cases) = ask job.now hops limit cases
+command_of (given.Loops job hops limit cases detail) = loops job.now hops limit cases detail
+command_of (given.Compare job other hops limit cases) = compare job.now other.now hops limit cases
 command_of (given.Model table file style) = model table file.now style
 command_of (given.Click file) = click file.now
 command_of (given.Acl file style) = acl file.now style
 command_of (given.Rules file) = rules file.now
+command_of (given.BothRules file other) = both_rules file.now other.now
 command_of (given.Grow seed boxes) = grow seed boxes
 
 -- numbers of options are in their ranges
 abbrev pub AreInRange : ℕ → ℕ → Type 0
 AreInRange hops limit = (1 ≤ hops) × (hops ≤ MOST_HOPS) × (1 ≤ limit) × (limit ≤ MOST_LIMIT)
 
+-- and so is the bound on choices of cases
+abbrev pub AreBounds : ℕ → ℕ → ℕ → Type 0
+AreBounds hops limit cases = AreInRange hops limit × (1 ≤ cases) × (cases < 2 ^ 64)
+
 abbrev pub HasRanges : Command → Type 0
-HasRanges (explore job hops limit pruned) = AreInRange hops limit
+HasRanges (explore job hops limit cases pruned) = AreBounds hops limit cases
 HasRanges (walk job packet hops limit) = AreInRange hops limit
 HasRanges (replay job report) = Unit {0}
-HasRanges (ask job hops) = (1 ≤ hops) × (hops ≤ MOST_HOPS)
-HasRanges (loops job hops detail) = (1 ≤ hops) × (hops ≤ MOST_HOPS)
-HasRanges (compare job other hops) = (1 ≤ hops) × (hops ≤ MOST_HOPS)
+HasRanges (ask job hops limit cases) = AreBounds hops limit cases
+HasRanges (loops job hops limit cases detail) = AreBounds hops limit cases
+HasRanges (compare job other hops limit cases) = AreBounds hops limit cases
 HasRanges (model table file style) = Unit {0}
 HasRanges (click file) = Unit {0}
 HasRanges (acl file style) = Unit {0}
 HasRanges (rules file) = Unit {0}
+HasRanges (both_rules file other) = Unit {0}
 HasRanges (grow seed boxes) = (1 ≤ boxes) × (boxes ≤ MOST_BOXES)
 
 -- what the words behind a command's name may be
 abbrev pub form_of_verb : Verb → Form
-form_of_verb Explore = record { positionals = codes "JOB" ∷ []; options = codes "hops" ∷ codes "limit" ∷ codes "pruned" ∷ [] }
+form_of_verb Explore = record { positionals = codes "JOB" ∷ []; options = codes "hops" ∷ codes "limit" ∷ codes "pruned" ∷ codes "cases" ∷ [] }
 form_of_verb Walk = record { positionals = codes "JOB" ∷ codes "PACKET" ∷ []; options = codes "hops" ∷ codes "limit" ∷ [] }
 form_of_verb Replay = record { positionals = codes "JOB" ∷ codes "REPORT" ∷ []; options = [] }
-form_of_verb Ask = record { positionals = codes "JOB" ∷ []; options = codes "hops" ∷ [] }
-form_of_verb Loops = record { positionals = codes "JOB" ∷ []; options = codes "hops" ∷ codes "open" ∷ [] }
-form_of_verb Compare = record { positionals = codes "JOB" ∷ codes "OTHER" ∷ []; options = codes "hops" ∷ [] }
+form_of_verb Ask = record { positionals = codes "JOB" ∷ []; options = codes "hops" ∷ codes "limit" ∷ codes "cases" ∷ [] }
+form_of_verb Loops =
+    record { positionals = codes "JOB" ∷ []; options = codes "hops" ∷ codes "open" ∷ codes "limit" ∷ codes "cases" ∷ [] }
+form_of_verb Compare =
+    record { positionals = codes "JOB" ∷ codes "OTHER" ∷ []; options = codes "hops" ∷ codes "limit" ∷ codes "cases" ∷ [] }
 form_of_verb (Model table) = record { positionals = codes "FILE" ∷ []; options = codes "style" ∷ [] }
 form_of_verb Click = record { positionals = codes "FILE" ∷ []; options = [] }
 form_of_verb Acl = record { positionals = codes "FILE" ∷ []; options = codes "style" ∷ [] }
 form_of_verb Rules = record { positionals = codes "FILE" ∷ []; options = [] }
+form_of_verb BothRules = record { positionals = codes "FILE" ∷ codes "OTHER" ∷ []; options = [] }
 form_of_verb Grow = record { positionals = codes "SEED" ∷ codes "NODES" ∷ []; options = [] }
 
 -- the command of a name
@@ -128,6 +141,14 @@ pruned_of word =
 abbrev pub pruned_or_all : Option Text → Option RefutedSides
 pruned_or_all None = Some Written
 pruned_or_all (Some word) = pruned_of word
+
+-- the bound on choices of cases that a word says: a number from 1 on of 64 bits, or the greatest, which no count is above
+abbrev pub cases_of : Text → Option ℕ
+cases_of word = if bytes_eq word (codes "all") then Some 18446744073709551615 else count_of word
+
+abbrev pub cases_or_usual : Option Text → Option ℕ
+cases_or_usual None = Some USUAL_CHOICES
+cases_or_usual (Some word) = cases_of word
 
 abbrev pub open_of : Text → Option Open
 open_of word =
@@ -175,11 +196,16 @@ module _ (value : Text → Option Text) where
   abbrev pub open_in : Option Open
   open_in = open_or_numbers (value (codes "open"))
 
+  abbrev pub cases_in : Option ℕ
+  cases_in = cases_or_usual (value (codes "cases"))
+
   abbrev pub with_bounds : (ℕ → ℕ → Option Command) → Option Command
   with_bounds next = option_and_then (λ hops. option_and_then (next hops) limit_in) hops_in
 
   abbrev pub explore_from : Option Command
-  explore_from = option_and_then (λ job. with_bounds (λ hops limit. option_map (explore job hops limit) pruned_in)) (value (codes "JOB"))
+  explore_from =
+      option_and_then (λ job. with_bounds (λ hops limit. option_and_then (λ cases. option_map (explore job hops limit cases) pruned_in) cases_in))
+      (value (codes "JOB"))
 
   abbrev pub walk_from : Option Command
   walk_from = option_and_then (λ job. option_and_then (λ packet. with_bounds (λ hops limit. Some (walk job packet hops limit))) (value (codes "PACKET"))) (value (codes "JOB"))
@@ -191,13 +217,17 @@ module _ (value : Text → Option Text) where
   replay_from = option_and_then (λ job. option_map (replay job) (value (codes "REPORT"))) (value (codes "JOB"))
 
   abbrev pub ask_from : Option Command
-  ask_from = option_and_then (λ job. option_map (ask job) hops_in) (value (codes "JOB"))
+  ask_from = option_and_then (λ job. with_bounds (λ hops limit. option_map (ask job hops limit) cases_in)) (value (codes "JOB"))
 
   abbrev pub loops_from : Option Command
-  loops_from = option_and_then (λ job. option_and_then (λ hops. option_map (loops job hops) open_in) hops_in) (value (codes "JOB"))
+  loops_from =
+      option_and_then (λ job. with_bounds (λ hops limit. option_and_then (λ cases. option_map (loops job hops limit cases) open_in) cases_in))
+      (value (codes "JOB"))
 
   abbrev pub compare_from : Option Command
-  compare_from = option_and_then (λ job. option_and_then (λ other. option_map (compare job other) hops_in) (value (codes "OTHER"))) (value (codes "JOB"))
+  compare_from =
+      option_and_then (λ job. option_and_then (λ other. with_bounds (λ hops limit. option_map (compare job other hops limit) cases_in)) (value (codes "OTHER")))
+      (value (codes "JOB"))
 
   abbrev pub model_from : TableKind → Option Command
   model_from table = option_and_then (λ file. option_map (model table file) style_in) (value (codes "FILE"))
@@ -213,6 +243,9 @@ module _ (value : Text → Option Text) where
 
   abbrev pub rules_from : Option Command
   rules_from = option_map rules (value (codes "FILE"))
+
+  abbrev pub both_rules_from : Option Command
+  both_rules_from = option_and_then (λ file. option_map (both_rules file) (value (codes "OTHER"))) (value (codes "FILE"))
 
   abbrev pub boxes_in : Option ℕ
   boxes_in = option_and_then (number_in 1 MOST_BOXES) (value (codes "NODES"))
@@ -232,12 +265,28 @@ command_from (Model table) = λ value. model_from value table
 command_from Click = click_from
 command_from Acl = acl_from
 command_from Rules = rules_from
+command_from BothRules = both_rules_from
 command_from Grow = grow_from
 
--- the reading of the words: the first name the command, and those behind have a reading in its form, with numbers in their ranges
+-- the words behind a name, in the form of a command, with numbers in their ranges
+abbrev pub read_as : Verb → List Text → Option Command
+read_as verb words = option_and_then (λ given. command_from verb (value_of given)) (read_form (form_of_verb verb) words)
+
+-- what the name stands for where the words have no reading in its first form: `rules` has one for two lists
+abbrev pub second_of : Verb → Option Verb
+second_of Rules = Some BothRules
+second_of verb = None
+
+abbrev pub read_second : Option Verb → List Text → Option Command
+read_second None words = None
+read_second (Some verb) words = read_as verb words
+
+abbrev pub read_verb : Verb → List Text → Option Command
+read_verb verb words = option_or (read_as verb words) (read_second (second_of verb) words)
+
+-- the reading of the words: the first name the command, and those behind have a reading in one of its forms
 abbrev pub read_command : List Text → Option Command
-read_command words =
-    option_and_then (λ p. option_and_then (λ given. command_from p.0 (value_of given)) (read_form (form_of_verb p.0) p.1)) (named words)
+read_command words = option_and_then (λ p. read_verb p.0 p.1) (named words)
 
 abbrev pub reading : List (String Global) → Option Command
 reading words = read_command (map (λ w. string_bytes w) words)

@@ -23,6 +23,10 @@ number_in least most word = option_and_then (within least most) (number_of word)
 abbrev pub seed_of : Text → Option ℕ
 seed_of word = number_in 0 18446744073709551615 word
 
+-- the number, if it is from 1 on and has 64 bits
+abbrev pub count_of : Text → Option ℕ
+count_of word = number_in 1 18446744073709551615 word
+
 -- the number that is given, or the default
 abbrev pub number_or : ℕ → ℕ → ℕ → Option Text → Option ℕ
 number_or least most default None = Some default

@@ -2,13 +2,14 @@
 
 ghost use Rattle.std.specs.Prelude.{◌≡◌, ◌≤◌, IfOk, IfSome, Some, option_map, map, string_bytes};
 ghost use Rattle.clap.specs.Words.{first_value, found_of};
-ghost use Rattle.command_words.specs.Commands.{HasRanges, command_from, command_of, filter_style_in, filter_style_of, form_of_verb, hops_in, limit_in, model_of, named, open_in, open_of, pruned_in, pruned_of, reading, style_in, style_of, verb_of};
+ghost use Rattle.command_words.specs.Commands.{HasRanges, cases_in, cases_of, command_from, command_of, filter_style_in, filter_style_of, form_of_verb, hops_in, limit_in, model_of, named, open_in, open_of, pruned_in, pruned_of, read_as, read_verb, reading, second_of, style_in, style_of, verb_of};
 ghost use Rattle.command_words.specs.Shapes.{form_of, named_of};
 
 use crate::form::Form;
-use crate::number::{number_in, seed_of};
+use crate::number::{count_of, number_in, seed_of};
 use crate::values::read;
 use clap::ArgMatches;
+use net_check::USUAL_CHOICES;
 use path_records::RefutedSides;
 use sefl_syntax::{Style, TableKind};
 use std::alloc::{AllocError, Global};
@@ -49,6 +50,7 @@ pub enum Command<'a> {
         job: &'a str,
         hops: u32,
         limit: u32,
+        cases: u64,
         pruned: RefutedSides,
     },
     Walk {
@@ -64,16 +66,22 @@ pub enum Command<'a> {
     Ask {
         job: &'a str,
         hops: u32,
+        limit: u32,
+        cases: u64,
     },
     Loops {
         job: &'a str,
         hops: u32,
+        limit: u32,
+        cases: u64,
         open: Open,
     },
     Compare {
         job: &'a str,
         other: &'a str,
         hops: u32,
+        limit: u32,
+        cases: u64,
     },
     Model {
         table: TableKind,
@@ -89,6 +97,10 @@ pub enum Command<'a> {
     },
     Rules {
         file: &'a str,
+    },
+    BothRules {
+        file: &'a str,
+        other: &'a str,
     },
     Grow {
         seed: u64,
@@ -109,6 +121,7 @@ enum Verb {
     Click,
     Acl,
     Rules,
+    BothRules,
     Grow,
 }
 
@@ -120,7 +133,7 @@ impl Verb {
         match self {
             Verb::Explore => Form {
                 positionals: &["JOB"],
-                options: &["hops", "limit", "pruned"],
+                options: &["hops", "limit", "pruned", "cases"],
             },
             Verb::Walk => Form {
                 positionals: &["JOB", "PACKET"],
@@ -132,15 +145,15 @@ impl Verb {
             },
             Verb::Ask => Form {
                 positionals: &["JOB"],
-                options: &["hops"],
+                options: &["hops", "limit", "cases"],
             },
             Verb::Loops => Form {
                 positionals: &["JOB"],
-                options: &["hops", "open"],
+                options: &["hops", "open", "limit", "cases"],
             },
             Verb::Compare => Form {
                 positionals: &["JOB", "OTHER"],
-                options: &["hops"],
+                options: &["hops", "limit", "cases"],
             },
             Verb::Model(_) => Form {
                 positionals: &["FILE"],
@@ -158,10 +171,24 @@ impl Verb {
                 positionals: &["FILE"],
                 options: &[],
             },
+            Verb::BothRules => Form {
+                positionals: &["FILE", "OTHER"],
+                options: &[],
+            },
             Verb::Grow => Form {
                 positionals: &["SEED", "NODES"],
                 options: &[],
             },
+        }
+    }
+
+    /// What the name stands for where the words behind it have no reading in that form.
+    fn second(self) -> Option<Verb>
+        ensures { result ≡ second_of self }
+    {
+        match self {
+            Verb::Rules => Some(Verb::BothRules),
+            _ => None,
         }
     }
 }
@@ -226,6 +253,28 @@ fn limit_in(values: &ArgMatches<'_>) -> Option<u32>
     match values.get_str("limit") {
         Some(word) => number_in(1, MOST_LIMIT, word),
         None => Some(LIMIT),
+    }
+}
+
+/// The bound on choices of cases that a word says.
+fn cases_of(word: &str) -> Option<u64>
+    ensures value { result ≡ cases_of word.now }
+    ensures range { IfSome result (λ n. 1 ≤ n) }
+{
+    match word {
+        "all" => Some(u64::MAX),
+        _ => count_of(word),
+    }
+}
+
+/// The bound on choices of cases that is given, or the usual one.
+fn cases_in(values: &ArgMatches<'_>) -> Option<u64>
+    ensures value { result ≡ cases_in (first_value (found_of values.now)) }
+    ensures range { IfSome result (λ n. 1 ≤ n) }
+{
+    match values.get_str("cases") {
+        Some(word) => cases_of(word),
+        None => Some(USUAL_CHOICES),
     }
 }
 
@@ -320,11 +369,13 @@ fn command_from<'a>(verb: Verb, values: &ArgMatches<'a>) -> Option<Command<'a>>
             let job = values.get_str("JOB")?;
             let hops = hops_in(values)?;
             let limit = limit_in(values)?;
+            let cases = cases_in(values)?;
             let pruned = pruned_in(values)?;
             Some(Command::Explore {
                 job,
                 hops,
                 limit,
+                cases,
                 pruned,
             })
         }
@@ -348,19 +399,42 @@ fn command_from<'a>(verb: Verb, values: &ArgMatches<'a>) -> Option<Command<'a>>
         Verb::Ask => {
             let job = values.get_str("JOB")?;
             let hops = hops_in(values)?;
-            Some(Command::Ask { job, hops })
+            let limit = limit_in(values)?;
+            let cases = cases_in(values)?;
+            Some(Command::Ask {
+                job,
+                hops,
+                limit,
+                cases,
+            })
         }
         Verb::Loops => {
             let job = values.get_str("JOB")?;
             let hops = hops_in(values)?;
+            let limit = limit_in(values)?;
+            let cases = cases_in(values)?;
             let open = open_in(values)?;
-            Some(Command::Loops { job, hops, open })
+            Some(Command::Loops {
+                job,
+                hops,
+                limit,
+                cases,
+                open,
+            })
         }
         Verb::Compare => {
             let job = values.get_str("JOB")?;
             let other = values.get_str("OTHER")?;
             let hops = hops_in(values)?;
-            Some(Command::Compare { job, other, hops })
+            let limit = limit_in(values)?;
+            let cases = cases_in(values)?;
+            Some(Command::Compare {
+                job,
+                other,
+                hops,
+                limit,
+                cases,
+            })
         }
         Verb::Model(table) => {
             let file = values.get_str("FILE")?;
@@ -380,11 +454,43 @@ fn command_from<'a>(verb: Verb, values: &ArgMatches<'a>) -> Option<Command<'a>>
             let file = values.get_str("FILE")?;
             Some(Command::Rules { file })
         }
+        Verb::BothRules => {
+            let file = values.get_str("FILE")?;
+            let other = values.get_str("OTHER")?;
+            Some(Command::BothRules { file, other })
+        }
         Verb::Grow => {
             let seed = seed_of(values.get_str("SEED")?)?;
             let boxes = number_in(1, MOST_BOXES, values.get_str("NODES")?)?;
             Some(Command::Grow { seed, boxes })
         }
+    }
+}
+
+/// The command of the words behind a name, in the form of this one.
+fn read_as(alloc: Global, verb: Verb, rest: &[String]) -> Result<Option<Command<'_>>, AllocError>
+    ensures command { IfOk result (λ r. option_map command_of r
+        ≡ read_as verb (map (λ w. string_bytes w) rest.entry.now)) }
+    ensures ranges { IfOk result (λ r. IfSome r (λ c. HasRanges (command_of c))) }
+{
+    match read(alloc, &verb.form(), rest)? {
+        Some(values) => Ok(command_from(verb, &values)),
+        None => Ok(None),
+    }
+}
+
+/// The command of the words behind a name, in one of its forms.
+fn read_verb(alloc: Global, verb: Verb, rest: &[String]) -> Result<Option<Command<'_>>, AllocError>
+    ensures command { IfOk result (λ r. option_map command_of r
+        ≡ read_verb verb (map (λ w. string_bytes w) rest.entry.now)) }
+    ensures ranges { IfOk result (λ r. IfSome r (λ c. HasRanges (command_of c))) }
+{
+    if let Some(command) = read_as(alloc, verb, rest)? {
+        return Ok(Some(command));
+    }
+    match verb.second() {
+        Some(second) => read_as(alloc, second, rest),
+        None => Ok(None),
     }
 }
 
@@ -396,8 +502,5 @@ pub fn reading(alloc: Global, words: &[String]) -> Result<Option<Command<'_>>, A
     let Some((verb, rest)) = named(words) else {
         return Ok(None);
     };
-    match read(alloc, &verb.form(), rest)? {
-        Some(values) => Ok(command_from(verb, &values)),
-        None => Ok(None),
-    }
+    read_verb(alloc, verb, rest)
 }

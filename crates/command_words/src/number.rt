@@ -1,7 +1,7 @@
 //! Numbers of words.
 
 ghost use Rattle.std.specs.Prelude.{◌≡◌, ◌≤◌, IfSome};
-ghost use Rattle.command_words.specs.Numbers.{number_in, number_of, seed_of};
+ghost use Rattle.command_words.specs.Numbers.{count_of, number_in, number_of, seed_of};
 
 /// The most digits of a number.
 const MOST_DIGITS: usize = 20;
@@ -43,6 +43,19 @@ pub fn seed_of(word: &str) -> Option<u64>
 {
     let number = number_of(word)?;
     if number <= u128::from(u64::MAX) {
+        Some(number as u64)
+    } else {
+        None
+    }
+}
+
+/// The number from 1 on that a word spells.
+pub fn count_of(word: &str) -> Option<u64>
+    ensures number { result ≡ count_of word.now }
+    ensures range { IfSome result (λ n. 1 ≤ n) }
+{
+    let number = number_of(word)?;
+    if 1 <= number && number <= u128::from(u64::MAX) {
         Some(number as u64)
     } else {
         None

@@ -1,6 +1,6 @@
 -- What `compare` writes of two accepted jobs.
 use Rattle.std.specs.Prelude.{ℕ, ◌≡◌, ◌⊎◌, List, [], ◌∷◌}
-use Rattle.net_check.specs.Network.{Network, Entry}
+use Rattle.net_check.specs.Network.{Network, Entry, with_choices}
 use Rattle.exact_records.specs.Packets.{AreExactFor}
 use Rattle.exact_records.specs.Records.{RecordTree}
 use Rattle.compare_meaning.specs.Clashes.{IsFirstClash, both_paths}
@@ -65,7 +65,8 @@ module _ (hops limit : ℕ) where
     ComparesTo (refused (BadCompare kind one other)) = IsNotCompared kind one other
     ComparesTo (refused _) = ⊥
 
--- `compare` of two jobs
-abbrev pub CompareComes : ℕ → ℕ → List Given → Outcome → Type 0
-CompareComes hops limit (a_net ln li lasks ∷ a_net rn ri rasks ∷ []) outcome = ComparesTo hops limit ln li rn ri outcome
-CompareComes hops limit _ outcome = ⊥
+-- `compare` of two jobs, with this bound on choices of cases
+abbrev pub CompareComes : ℕ → ℕ → ℕ → List Given → Outcome → Type 0
+CompareComes most hops limit (a_net ln li lasks ∷ a_net rn ri rasks ∷ []) outcome =
+    ComparesTo hops limit ln (with_choices most li) rn (with_choices most ri) outcome
+CompareComes most hops limit _ outcome = ⊥

@@ -9,10 +9,12 @@ use command_runs::OnePiece;
 use explore_command::RecordLimit;
 use std::alloc::Global;
 
-/// Whether two jobs of one injection deliver the same, from one exploration of each, with this bound of hops and this limit of records.
+/// Whether two jobs of one injection deliver the same, from one exploration of each, with this bound of hops, this limit of
+/// records, and a bound on the choices of cases that decisions try.
 #[derive(Clone, Copy)]
 pub struct Compare<'a> {
     pub source: BothJobs<'a>,
+    pub cases: u64,
     pub hops: u32,
     pub limit: RecordLimit,
 }
@@ -22,19 +24,18 @@ impl<'a> OnePiece for Compare<'a> {
 
     ghost source = { λ c. c.source };
 
-    ghost comes = { λ c. CompareComes c.hops c.limit };
+    ghost comes = { λ c. CompareComes c.cases c.hops c.limit };
 
     fn source(&self) -> &BothJobs<'a> {
         &self.source
     }
 
     fn text(&self, alloc: Global, given: Jobs) -> Result<(Ending, String), OwnFault> {
-        text_of_comparison(
-            alloc,
-            &given.left,
-            &given.right,
-            self.hops,
-            self.limit.count(),
-        )
+        let Jobs { left, right } = given;
+        let mut left = left;
+        let mut right = right;
+        left.injection.set_choices(self.cases);
+        right.injection.set_choices(self.cases);
+        text_of_comparison(alloc, &left, &right, self.hops, self.limit.count())
     }
 }

@@ -28,6 +28,7 @@ miss_so p qs c h = record {
   are_formulas = h.are_formulas;
   widths = h.widths;
   entries = h.entries;
+  most_choices = h.most_choices;
 }
 
 module _ (qs : List DeliveredPath) where

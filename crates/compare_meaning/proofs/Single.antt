@@ -77,7 +77,8 @@ miss_one p qs c d h k =
     let formulas = formulas_one p k.facing h.formulas k.formulas (subst (λ fs. AreFacingFormulas p fs h.formulas) facing h.are_formulas) k.are_formulas in
     let widths = h.widths ∙ (ap (longest p.condition.widths) facing ∙ sym k.widths) in
     let entries = h.entries ∙ (ap (λ fs. p.condition.entries ++ map must_not fs) formulas ∙ sym k.entries) in
-    λ i. record { widths = widths i; entries = entries i }
+    let most = h.most_choices ∙ sym k.most_choices in
+    λ i. record { widths = widths i; entries = entries i; most_choices = most i }
 
 -- ---- one list of least values
 

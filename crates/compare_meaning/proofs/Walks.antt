@@ -46,7 +46,7 @@ no_error fault x is = absurd (clash fault x (Err fault) refl is)
 
 module _ {V F : Type 0} (o : Values V F) (net : Network) (i : Entry) (hops : ℕ) (start : Start V F) where
   abbrev started : Carried V → List F → Start V F
-  started c fs = record { unknowns = unknown_widths i.own.fields; tests = fs; tree = tree_from o net i hops c }
+  started c fs = record { unknowns = unknown_widths i.own.fields; tests = fs; tree = tree_from o net i hops c; most_choices = i.most_choices }
 
   by_tests : (c : Carried V) (r : Result (List F) LayoutFault) → on_ok (started c) r ≡ Ok start → start.unknowns ≡ unknown_widths i.own.fields
   by_tests c (Err fault) e = no_error fault start e

@@ -196,10 +196,24 @@ pub(crate) fn with(
     next
 }
 
+/// The bound on choices of cases where a test says no other.
+const MOST_CHOICES: u64 = 4096;
+
+/// `symbols` symbols of this width, of which at most `most` choices of cases are tried.
+pub(crate) fn bounded(
+    rt: &impl Abort,
+    alloc: Global,
+    width: Width,
+    symbols: usize,
+    most: u64,
+) -> PathCond {
+    let widths = vec![in alloc; width; symbols].expect(rt, "memory");
+    PathCond::new(alloc, widths, most).expect(rt, "memory")
+}
+
 /// `symbols` symbols of this width.
 pub(crate) fn free(rt: &impl Abort, alloc: Global, width: Width, symbols: usize) -> PathCond {
-    let widths = vec![in alloc; width; symbols].expect(rt, "memory");
-    PathCond::new(alloc, widths).expect(rt, "memory")
+    bounded(rt, alloc, width, symbols, MOST_CHOICES)
 }
 
 /// `symbols` symbols of this width, and the atoms.
@@ -222,9 +236,9 @@ pub(crate) fn differ(first: u64, second: u64) -> Atom {
     Atom::Compare(Side::Symbol(first), Rel::Ne, Side::Symbol(second))
 }
 
-/// Thirteen pairs of symbols of 8 bits that differ.
-pub(crate) fn thirteen_pairs(rt: &impl Abort, alloc: Global) -> PathCond {
-    let mut cond = free(rt, alloc, bits(8), 26);
+/// Thirteen pairs of symbols of 8 bits that differ: 8,192 choices of cases, where at most `most` are tried.
+pub(crate) fn thirteen_pairs(rt: &impl Abort, alloc: Global, most: u64) -> PathCond {
+    let mut cond = bounded(rt, alloc, bits(8), 26, most);
     for pair in 0..13u64 {
         let atom = differ(2 * pair, 2 * pair + 1);
         cond = with(rt, alloc, cond, bits(8), atom, true);

@@ -46,7 +46,13 @@ fn large(rt: &impl Abort, alloc: Global) -> PathCond {
 
 #[test]
 fn each_pair_that_differs_doubles_the_choices(rt: HostRuntime) {
-    check(&rt, rt.alloc(), thirteen_pairs(&rt, rt.alloc()), 26, 8192);
+    check(
+        &rt,
+        rt.alloc(),
+        thirteen_pairs(&rt, rt.alloc(), 4096),
+        26,
+        8192,
+    );
 }
 
 /// Of three symbols the last two differ, and the first two lie in two ranges each.

@@ -7,7 +7,7 @@ mod small;
 use crate::build::Atom::*;
 use crate::build::Side::*;
 use crate::build::{
-    Atom, bits, condition, differ, free, let_go, one_against_all, thirteen_pairs, with,
+    Atom, bits, bounded, condition, differ, free, let_go, one_against_all, thirteen_pairs, with,
 };
 use Wanted::{Cases, Coupled, Met, Outside, Refuted};
 use interval_solver::Domains;
@@ -285,8 +285,28 @@ fn sums_of_two_and_wide_pairs_are_outside(rt: HostRuntime) {
 
 #[test]
 fn too_many_choices(rt: HostRuntime) {
-    let pairs = thirteen_pairs(&rt, rt.alloc());
+    let pairs = thirteen_pairs(&rt, rt.alloc(), 8191);
     check_decision(&rt, rt.alloc(), pairs, Cases(8192));
+}
+
+#[test]
+fn as_many_choices_as_are_tried(rt: HostRuntime) {
+    let least = [
+        0, 1, 0, 1, 0, 1, 0, 1, 0, 1, 0, 1, 0, 1, 0, 1, 0, 1, 0, 1, 0, 1, 0, 1, 0, 1,
+    ];
+    let pairs = thirteen_pairs(&rt, rt.alloc(), 8192);
+    check_decision(&rt, rt.alloc(), pairs, Met(&least));
+    let pairs = thirteen_pairs(&rt, rt.alloc(), u64::MAX);
+    check_decision(&rt, rt.alloc(), pairs, Met(&least));
+}
+
+#[test]
+fn one_choice_is_always_tried(rt: HostRuntime) {
+    let none = bounded(&rt, rt.alloc(), bits(8), 2, 0);
+    check_decision(&rt, rt.alloc(), none, Met(&[0, 0]));
+    let none = bounded(&rt, rt.alloc(), bits(8), 2, 0);
+    let pair = with(&rt, rt.alloc(), none, bits(8), differ(0, 1), true);
+    check_decision(&rt, rt.alloc(), pair, Cases(2));
 }
 
 #[test]

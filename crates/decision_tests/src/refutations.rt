@@ -205,7 +205,7 @@ const CHOICES: &[(bool, Why<'static>)] = &[
 
 #[test]
 fn a_cause_is_the_number_of_choices(rt: HostRuntime) {
-    let cond = thirteen_pairs(&rt, rt.alloc());
+    let cond = thirteen_pairs(&rt, rt.alloc(), 4096);
     check_causes(&rt, rt.alloc(), cond, CHOICES);
 }
 

@@ -1,5 +1,6 @@
 -- Where an exploration stands: routes behind it, and where it waits.
 use Rattle.std.proofs.Common.{◌≡◌, ℕ, zero, suc, Bool, true, false, List, [], ◌∷◌, ◌++◌, refl, sym, ap, subst, ◌∙◌, append_assoc, Option, Some, None, option_map, if◌then◌else◌}
+use Rattle.refutation_check.specs.Longer.{condition_of}
 use Rattle.lin_term.specs.Terms.{LinearTerm}
 use Rattle.path_formula.specs.Formulas.{FormulaTree}
 use Rattle.sefl_meaning.specs.declared.walk.Decision.{Decision}
@@ -133,7 +134,7 @@ module _ (s : SymStart) where
       ∙ (λ i. Some (record { arrivals = append_nil w.at.arrivals i; tests = append_nil b.tests i; left = b.tree }))))
 
   pub condition_there : (b : Point) (w : IsWaiting b) → condition_on s (way_at b w) ≡ condition_at s b
-  condition_there b w = λ i. record { widths = sym w.widths i; entries = tests_on s (way_at b w) }
+  condition_there b w = λ i. condition_of s.most_choices (sym w.widths i) (tests_on s (way_at b w))
 
   pub only_way : (ds : List Decision) (p q : SymRoute) → Leads s ds p → Leads s ds q → p ≡ q
   only_way ds p q h k = some_same (sym h ∙ k)

@@ -34,8 +34,8 @@ filled_is first more values e =
     ap (λ zs. values ++ zs) (zeros_are more ∙ ap (λ (n : ℕ). replicate n 0) left)
 
 -- the condition, with its last symbols apart
-pub wider : (c : SymCondition) (verdict : Verdict) (h : IsKnown c verdict) → c ≡ with_widths (condition_of h.first c.entries) h.more
-wider c verdict h = λ i. record { widths = h.widths i; entries = c.entries }
+pub wider : (c : SymCondition) (verdict : Verdict) (h : IsKnown c verdict) → c ≡ with_widths (condition_of c.most_choices h.first c.entries) h.more
+wider c verdict h = λ i. record c { widths = h.widths i }
 
 module _ (facts : Facts) where
   -- ---- what a verdict says
@@ -46,8 +46,8 @@ module _ (facts : Facts) where
 
   pub known_open : (c : SymCondition) (verdict : Verdict) → IsKnown c verdict → IsRefuted itself c → ⊥
   known_open c verdict h k =
-      verdict_open (condition_of h.first c.entries) verdict h.is
-      ((facts.widen.refuted (condition_of h.first c.entries) h.more h.typed).0 (subst (IsRefuted itself) (wider c verdict h) k))
+      verdict_open (condition_of c.most_choices h.first c.entries) verdict h.is
+      ((facts.widen.refuted (condition_of c.most_choices h.first c.entries) h.more h.typed).0 (subst (IsRefuted itself) (wider c verdict h) k))
 
   pub met_satisfies : (c : SymCondition) (values : List ℕ) → IsMetBy itself c values → Satisfy values c
   met_satisfies c values h = (facts.verdicts.met_is_true c values h).1
@@ -64,28 +64,28 @@ module _ (facts : Facts) where
   -- ---- with zeros
 
   wider_undecided : (first more : List ℕ) (c : SymCondition) (cause : Cause) → AllTyped itself first c.entries
-      → IsUndecidedBy itself (condition_of first c.entries) cause
-      → IsUndecidedBy itself (with_widths (condition_of first c.entries) more) (filled_cause (length (first ++ more)) cause)
+      → IsUndecidedBy itself (condition_of c.most_choices first c.entries) cause
+      → IsUndecidedBy itself (with_widths (condition_of c.most_choices first c.entries) more) (filled_cause (length (first ++ more)) cause)
   wider_undecided first more c (Outside pick values) typed h =
-      subst (λ vs. IsUndecidedBy itself (with_widths (condition_of first c.entries) more) (Outside pick vs))
+      subst (λ vs. IsUndecidedBy itself (with_widths (condition_of c.most_choices first c.entries) more) (Outside pick vs))
       (filled_is first more values h.least.candidates.fitting.one_each)
-      (facts.widen.undecided (condition_of first c.entries) more (Outside pick values) typed h)
-  wider_undecided first more c (Cases number) typed h = facts.widen.undecided (condition_of first c.entries) more (Cases number) typed h
-  wider_undecided first more c (Coupled number) typed h = facts.widen.undecided (condition_of first c.entries) more (Coupled number) typed h
+      (facts.widen.undecided (condition_of c.most_choices first c.entries) more (Outside pick values) typed h)
+  wider_undecided first more c (Cases number) typed h = facts.widen.undecided (condition_of c.most_choices first c.entries) more (Cases number) typed h
+  wider_undecided first more c (Coupled number) typed h = facts.widen.undecided (condition_of c.most_choices first c.entries) more (Coupled number) typed h
 
   wider_verdict : (first more : List ℕ) (c : SymCondition) (verdict : Verdict) → AllTyped itself first c.entries
-      → IsVerdictOn (condition_of first c.entries) verdict
-      → IsVerdictOn (with_widths (condition_of first c.entries) more) (filled_verdict (length (first ++ more)) verdict)
+      → IsVerdictOn (condition_of c.most_choices first c.entries) verdict
+      → IsVerdictOn (with_widths (condition_of c.most_choices first c.entries) more) (filled_verdict (length (first ++ more)) verdict)
   wider_verdict first more c (Sat values) typed h =
-      subst (IsMetBy itself (with_widths (condition_of first c.entries) more))
-      (filled_is first more values (facts.verdicts.met_is_true (condition_of first c.entries) values h).0.one_each)
-      (facts.widen.met (condition_of first c.entries) more values typed h)
+      subst (IsMetBy itself (with_widths (condition_of c.most_choices first c.entries) more))
+      (filled_is first more values (facts.verdicts.met_is_true (condition_of c.most_choices first c.entries) values h).0.one_each)
+      (facts.widen.met (condition_of c.most_choices first c.entries) more values typed h)
   wider_verdict first more c (Undecided cause) typed h = wider_undecided first more c cause typed h
 
   pub known_written : (c : SymCondition) (verdict : Verdict) → IsKnown c verdict → IsVerdictOn c (filled_verdict (length c.widths) verdict)
   known_written c verdict h =
       subst (λ d. IsVerdictOn d (filled_verdict (length c.widths) verdict)) (sym (wider c verdict h))
-      (subst (λ (n : ℕ). IsVerdictOn (with_widths (condition_of h.first c.entries) h.more) (filled_verdict n verdict)) (ap length (sym h.widths))
+      (subst (λ (n : ℕ). IsVerdictOn (with_widths (condition_of c.most_choices h.first c.entries) h.more) (filled_verdict n verdict)) (ap length (sym h.widths))
       (wider_verdict h.first h.more c verdict h.typed h.is))
 
 -- a verdict that was just given
@@ -100,7 +100,7 @@ module _ (s : SymStart) where
     more = h.more ++ n.more;
     widths = n.grown ∙ (ap (λ ws. ws ++ n.more) h.widths ∙ append_assoc h.first h.more n.more);
     typed = subst (λ us. AllTyped itself h.first (injection_tests s ++ us)) (sym n.tests) h.typed;
-    is = subst (λ us. IsVerdictOn (condition_of h.first (injection_tests s ++ us)) verdict) (sym n.tests) h.is;
+    is = subst (λ us. IsVerdictOn (condition_of s.most_choices h.first (injection_tests s ++ us)) verdict) (sym n.tests) h.is;
   }
 
   pub before_written : (facts : Facts) (a : Point) (verdict : Verdict) → IsBefore s a (Some verdict) (Some (filled_verdict (length a.widths) verdict))

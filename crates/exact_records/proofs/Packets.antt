@@ -152,9 +152,9 @@ has_all P (u ∷ ws) w h (inr k) = has_all P ws w h.1 k
 
 -- ---- what a start is
 
-module _ {V F : Type 0} (unknowns : List ℕ) (tree : Tree V F) where
+module _ {V F : Type 0} (unknowns : List ℕ) (most : ℕ) (tree : Tree V F) where
   abbrev started : List F → Start V F
-  started fs = record { unknowns = unknowns; tests = fs; tree = tree }
+  started fs = record { unknowns = unknowns; tests = fs; tree = tree; most_choices = most }
 
   its_unknowns : (fs : Result (List F) LayoutFault) (start : Start V F) → on_ok started fs ≡ Ok start → start.unknowns ≡ unknowns
   its_unknowns (Err fault) start e = no_error fault start e
@@ -187,12 +187,12 @@ module _ (means : Meanings) (net : Network) (i : Entry) (hops : ℕ) (start : Sy
 
   unknowns_are : start.unknowns ≡ unknown_widths i.own.fields
   unknowns_are =
-      its_unknowns (unknown_widths i.own.fields) (tree_from (numbers v (unknown_count i)) net i hops begun.carried)
+      its_unknowns (unknown_widths i.own.fields) i.most_choices (tree_from (numbers v (unknown_count i)) net i hops begun.carried)
       (tests_in (numbers v (unknown_count i)) (scene_at net i.node) i.own.tests begun.carried) at_packet begun.starts
 
   tree_is : at_packet.tree ≡ tree_from (numbers v (unknown_count i)) net i hops begun.carried
   tree_is =
-      its_tree (unknown_widths i.own.fields) (tree_from (numbers v (unknown_count i)) net i hops begun.carried)
+      its_tree (unknown_widths i.own.fields) i.most_choices (tree_from (numbers v (unknown_count i)) net i hops begun.carried)
       (tests_in (numbers v (unknown_count i)) (scene_at net i.node) i.own.tests begun.carried) at_packet begun.starts
 
   -- its walks are those of the tree at the packet

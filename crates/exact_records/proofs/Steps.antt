@@ -1,5 +1,6 @@
 -- What an exploration writes is good, and what it leaves can be gone on with.
 use Rattle.std.proofs.Common.{◌≡◌, ℕ, inl, inr, Bool, true, false, List, [], ◌∷◌, ◌++◌, refl, sym, ap, subst, ◌∙◌, append_assoc, Option, Some, None, option_map, if◌then◌else◌}
+use Rattle.refutation_check.specs.Longer.{condition_of}
 use Rattle.lin_term.specs.Terms.{LinearTerm}
 use Rattle.path_formula.specs.Formulas.{FormulaTree}
 use Rattle.path_cond.specs.Seen.{itself}
@@ -103,6 +104,7 @@ module _ (facts : Facts) (s : SymStart) where
       ∙ (λ i. record {
         widths = (b.widths ∙ ap (λ (t : SymTree). s.unknowns ++ (progress_of t).choices) (sym b.waits)) i;
         entries = sym (append_assoc (injection_tests s) b.parent.tests ((b.test, b.truth) ∷ [])) i;
+        most_choices = s.most_choices;
       })
 
   pruned_side_is_good : (a : Point) (before written : Verdict) (refutation : List Refute) → (b : IsBehindTest s a before) → IsUnrefuted s a.decisions
@@ -130,7 +132,7 @@ module _ (facts : Facts) (s : SymStart) where
       → IsGood s (pruned a.decisions None refutation)
   first_is_good a refutation h unrefuted found =
       let first : condition_at s a ≡ first_condition s =
-      λ i. record { widths = h.widths i; entries = (ap (λ us. injection_tests s ++ us) h.tests ∙ append_nil (injection_tests s)) i } in
+      λ i. condition_of s.most_choices (h.widths i) ((ap (λ us. injection_tests s ++ us) h.tests ∙ append_nil (injection_tests s)) i) in
       record {
         meaning = (h.decisions, subst (λ c. IsRefutedBy c refutation) first found.by);
         verdict = (tt, subst (IsRefuted itself) first found.refuted);

@@ -83,7 +83,7 @@ pub record IsKnown (c : SymCondition) (verdict : Verdict) : Type 0 where
   pub more : List ℕ
   pub widths : c.widths ≡ first ++ more
   pub typed : AllTyped itself first c.entries
-  pub is : IsVerdictOn (condition_of first c.entries) verdict
+  pub is : IsVerdictOn (condition_of c.most_choices first c.entries) verdict
 
 -- with zeros behind the values, until there are this many
 abbrev pub filled : ℕ → List ℕ → List ℕ
@@ -107,7 +107,7 @@ module _ (s : SymStart) where
 
   -- all tests with their truths, those of the injection first
   abbrev pub condition_at : Point → SymCondition
-  condition_at a = record { widths = a.widths; entries = injection_tests s ++ a.tests }
+  condition_at a = condition_of s.most_choices a.widths (injection_tests s ++ a.tests)
 
   -- the run came from the start: whatever decisions follow, they lead on from here
   pub record IsAt (a : Point) : Type 0 where

@@ -4,7 +4,7 @@ use Rattle.lin_term.specs.Terms.{LinearTerm}
 use Rattle.path_formula.specs.Formulas.{FormulaTree}
 use Rattle.path_cond.specs.Seen.{ConditionOf, AllTyped, holds_at, itself}
 use Rattle.refutation_check.specs.Seen.{IsAccepted, IsLicensed, IsMetBy, IsRefuted, IsUndecidedBy}
-use Rattle.refutation_check.specs.Longer.{with_entries}
+use Rattle.refutation_check.specs.Longer.{condition_of, with_entries}
 use Rattle.refutation_check.specs.declared.outcome.Verdict.{Verdict}
 use Rattle.refutation_check.specs.declared.outcome.Verdict.TheVariants.{Sat, Undecided}
 use Rattle.refutation_check.specs.declared.steps.Refute.{Refute}
@@ -83,11 +83,11 @@ module _ (s : SymStart) where
 
   -- the condition of the injection alone
   abbrev pub first_condition : SymCondition
-  first_condition = record { widths = s.unknowns; entries = injection_tests }
+  first_condition = condition_of s.most_choices s.unknowns injection_tests
 
   -- the condition of a route, where it waits or is over
   abbrev pub condition_on : SymRoute → SymCondition
-  condition_on r = record { widths = widths_on s r; entries = tests_on s r }
+  condition_on r = condition_of s.most_choices (widths_on s r) (tests_on s r)
 
   -- values of a packet that meets the injection and goes by these decisions to an end
   pub record Takes (v : List ℕ) (ds : List Decision) : Type 0 where

@@ -10,7 +10,7 @@ use Rattle.record_lines.specs.Lines.{has_some, is_written, piece_text, records_t
 use Rattle.path_records.specs.declared.sides.RefutedSides.{RefutedSides}
 use Rattle.path_records.specs.declared.sides.RefutedSides.TheVariants.{Written, Counted}
 use Rattle.command_edge.specs.declared.ending.Ending.{Ending}
-use Rattle.explore_command.specs.Explores.{BehindHead, IsCut, IsCutInRecord, IsCutInTail, IsReport, IsSoFar, end_of, is_done}
+use Rattle.explore_command.specs.Explores.{BehindHead, IsCut, IsCutInRecord, IsCutInTail, IsReport, IsSoFar, end_of, is_done, said_by}
 use Rattle.explore_command.proofs.PutLemmas.{Joins}
 
 -- the piece of a record comes behind those of the others
@@ -26,13 +26,13 @@ module _ (joins : Joins) (behind : ComesBehind) (hops limit : ℕ) (sides : Refu
   abbrev pub Begins : List ℕ → Type 0
   Begins part =
       ((ending : Ending) × (whole : List ℕ) × IsReport hops limit sides net i ending whole × IsPrefix part whole)
-      ⊎ ((whole : List ℕ) × BehindHead hops limit (IsSoFar hops limit sides net i) whole × IsPrefix part whole)
+      ⊎ ((whole : List ℕ) × BehindHead (said_by i) hops limit (IsSoFar hops limit sides net i) whole × IsPrefix part whole)
 
   none_so_far : IsSoFar hops limit sides net i []
   none_so_far = record { records = []; exact = record { is = inl refl }; pieces = none_written net sides }
 
-  in_head : (part : List ℕ) → IsPrefix part (head_text hops limit) → Begins part
-  in_head part h = inr (head_text hops limit ++ [], ([], none_so_far, refl), IsPrefix-append part (head_text hops limit) [] h)
+  in_head : (part : List ℕ) → IsPrefix part (head_text (said_by i) hops limit) → Begins part
+  in_head part h = inr (head_text (said_by i) hops limit ++ [], ([], none_so_far, refl), IsPrefix-append part (head_text (said_by i) hops limit) [] h)
 
   with_last : (own : List ℕ) → (cut : IsCutInRecord hops limit sides net i own) → IsSoFar hops limit sides net i (records_text net (written_of sides (cut.done ++ cut.last ∷ [])))
   with_last own cut = record {
@@ -41,7 +41,7 @@ module _ (joins : Joins) (behind : ComesBehind) (hops limit : ℕ) (sides : Refu
     pieces = refl;
   }
 
-  in_record : (own : List ℕ) → IsCutInRecord hops limit sides net i own → Begins (head_text hops limit ++ own)
+  in_record : (own : List ℕ) → IsCutInRecord hops limit sides net i own → Begins (head_text (said_by i) hops limit ++ own)
   in_record own cut =
       let before = records_text net (written_of sides cut.done) in
       let piece = piece_text net (has_some (written_of sides cut.done)) cut.last in
@@ -49,9 +49,9 @@ module _ (joins : Joins) (behind : ComesBehind) (hops limit : ℕ) (sides : Refu
       let begins : IsPrefix own all =
       subst (λ s. IsPrefix s all) (sym cut.pieces)
       (subst (IsPrefix (before ++ cut.own)) (sym (behind net sides cut.done cut.last cut.put)) (IsPrefix-behind before cut.own piece cut.begins)) in
-      inr (head_text hops limit ++ all, (all, with_last own cut, refl), IsPrefix-behind (head_text hops limit) own all begins)
+      inr (head_text (said_by i) hops limit ++ all, (all, with_last own cut, refl), IsPrefix-behind (head_text (said_by i) hops limit) own all begins)
 
-  in_tail : (own : List ℕ) → IsCutInTail hops limit sides net i own → Begins (head_text hops limit ++ own)
+  in_tail : (own : List ℕ) → IsCutInTail hops limit sides net i own → Begins (head_text (said_by i) hops limit ++ own)
   in_tail own cut =
       let before = records_text net (written_of sides cut.records) in
       let tail = end_of cut.ending cut.records in
@@ -59,13 +59,13 @@ module _ (joins : Joins) (behind : ComesBehind) (hops limit : ℕ) (sides : Refu
       subst (λ s. IsPrefix s (before ++ tail)) (sym cut.pieces) (IsPrefix-behind before cut.own tail cut.begins) in
       inl (
         cut.ending,
-        head_text hops limit ++ (before ++ tail),
+        head_text (said_by i) hops limit ++ (before ++ tail),
         record {
           records = cut.records;
           found = cut.found;
-          line = sym (joins net hops limit (written_of sides cut.records) (refuted_count cut.records) (is_done cut.ending));
+          line = sym (joins net (said_by i) hops limit (written_of sides cut.records) (refuted_count cut.records) (is_done cut.ending));
         },
-        IsPrefix-behind (head_text hops limit) own (before ++ tail) begins,
+        IsPrefix-behind (head_text (said_by i) hops limit) own (before ++ tail) begins,
       )
 
   pub cut_begins : (part : List ℕ) → IsCut hops limit sides net i part → Begins part

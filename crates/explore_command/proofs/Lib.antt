@@ -1,3 +1,4 @@
+pub mod BoundLemmas
 pub mod CutLemmas
 pub mod HeadlineLemmas
 pub mod OnceLemmas

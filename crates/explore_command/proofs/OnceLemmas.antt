@@ -1,5 +1,5 @@
 -- An exploration has one ending, and one report where refuted sides are only counted.
-use Rattle.std.proofs.Common.{◌≡◌, ◌∙◌, ℕ, ◌+◌, suc, Bool, true, false, cond, List, [], ◌∷◌, ◌++◌, filter, codes, fold, map, sum_by, refl, sym, ap}
+use Rattle.std.proofs.Common.{◌≡◌, ◌∙◌, ℕ, ◌+◌, suc, Bool, true, false, cond, List, [], ◌∷◌, ◌++◌, filter, codes, fold, map, Option, sum_by, refl, sym, ap}
 use Rattle.serde_json.specs.Data.{Data}
 use Rattle.net_check.specs.Network.{Network, Entry}
 use Rattle.path_records.specs.declared.records.Record.{Record}
@@ -21,7 +21,7 @@ use Rattle.command_edge.specs.declared.ending.Ending.{Ending}
 use Rattle.command_edge.specs.declared.ending.Ending.TheVariants.{Done, Partial}
 use Rattle.record_lines.specs.Lines.{refuted_by, refuted_count, written_of}
 use Rattle.path_records.specs.declared.sides.RefutedSides.TheVariants.{Counted}
-use Rattle.explore_command.specs.Explores.{IsEnding, ReportsOf, is_done}
+use Rattle.explore_command.specs.Explores.{IsEnding, ReportsOf, is_done, said_by}
 
 -- ---- records without their refutations
 
@@ -89,11 +89,11 @@ same_ending rs qs same Partial Partial h k = refl
 
 -- ---- the report
 
-line_same : (net : Network) (hops limit : ℕ) (xs ys : List Record) (n m : ℕ) (a b : Bool) → map (record_data net) xs ≡ map (record_data net) ys → n ≡ m → a ≡ b
-    → report_line net hops limit xs n a ≡ report_line net hops limit ys m b
+line_same : (net : Network) (cases : Option ℕ) (hops limit : ℕ) (xs ys : List Record) (n m : ℕ) (a b : Bool) → map (record_data net) xs ≡ map (record_data net) ys → n ≡ m → a ≡ b
+    → report_line net cases hops limit xs n a ≡ report_line net cases hops limit ys m b
 unfolding records_data
-line_same net hops limit xs ys n m a b written number done =
-    λ i. compact_text (report_data hops limit (list (written i)) (number i) (done i)) ++ codes "\n"
+line_same net cases hops limit xs ys n m a b written number done =
+    λ i. compact_text (report_data cases hops limit (list (written i)) (number i) (done i)) ++ codes "\n"
 
 module _ (hops limit : ℕ) (net : Network) (i : Entry) (tell : AlikeTellTheSame) (alike : RecordsAreOne net i hops) where
   pub endings_once : (rs qs : List RecordTree) (a b : Ending) → AreExactFor net i hops limit rs → AreExactFor net i hops limit qs
@@ -105,7 +105,7 @@ module _ (hops limit : ℕ) (net : Network) (i : Entry) (tell : AlikeTellTheSame
       let e = alike limit (record_trees h.records) (record_trees k.records) h.found.exact k.found.exact in
       let ends = endings_once (record_trees h.records) (record_trees k.records) a b h.found.exact k.found.exact h.found.ends k.found.ends in
       let lines = h.line
-      ∙ (line_same net hops limit (written_of Counted h.records) (written_of Counted k.records) (refuted_count h.records) (refuted_count k.records) (is_done a) (is_done b)
+      ∙ (line_same net (said_by i) hops limit (written_of Counted h.records) (written_of Counted k.records) (refuted_count h.records) (refuted_count k.records) (is_done a) (is_done b)
       (same_data net h.records k.records e) (same_sides h.records k.records e) (ap is_done ends)
       ∙ sym k.line) in
       λ j. text (ends j) (lines j)

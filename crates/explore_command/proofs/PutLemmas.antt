@@ -1,5 +1,5 @@
 -- What the parts of a report come to together.
-use Rattle.std.proofs.Common.{◌≡◌, ◌∙◌, inl, inr, ap, refl, sym, subst, ℕ, Bool, true, false, List, [], ◌∷◌, ◌++◌, Result, Ok, Err}
+use Rattle.std.proofs.Common.{◌≡◌, ◌∙◌, inl, inr, ap, refl, sym, subst, ℕ, Bool, true, false, List, [], ◌∷◌, ◌++◌, Option, Result, Ok, Err}
 use Rattle.std.proofs.lemmas.List.{append-nil, same_from_push}
 use Rattle.std.specs.Prelude.{IfErr}
 use Rattle.std.specs.List.{AllByRecursion}
@@ -32,7 +32,7 @@ use Rattle.command_edge.specs.declared.ending.Ending.{Ending}
 use Rattle.command_edge.specs.declared.ending.Ending.TheVariants.{Done, Partial}
 use Rattle.command_edge.specs.declared.ending.Stop.{Stop}
 use Rattle.command_edge.specs.declared.ending.Stop.TheVariants.{Input, Own, Write, NoMemory}
-use Rattle.explore_command.specs.Explores.{AreFound, IsEnding, end_of, explore_work, is_done}
+use Rattle.explore_command.specs.Explores.{AreFound, IsEnding, end_of, explore_work, is_done, said_by}
 use Rattle.explore_command.specs.Putting.{PutsEnd, PutsRecords, PutsRest, StopShows, tail_of, tail_unless}
 use Rattle.explore_command.specs.declared.report.Tail.{Tail}
 use Rattle.explore_command.proofs.SoFarLemmas.{so_far}
@@ -63,8 +63,8 @@ module _ {K : Type 0} (told : K → SinkTold) (gives : K → List ℕ → Put �
 
 -- the head, the records and the tail are the line
 abbrev pub Joins : Type 0
-Joins = (net : Network) (hops limit : ℕ) (records : List Record) (refuted : ℕ) (complete : Bool) → report_line net hops limit records refuted complete
-    ≡ head_text hops limit ++ (records_text net records ++ tail_text refuted complete)
+Joins = (net : Network) (cases : Option ℕ) (hops limit : ℕ) (records : List Record) (refuted : ℕ) (complete : Bool)
+    → report_line net cases hops limit records refuted complete ≡ head_text cases hops limit ++ (records_text net records ++ tail_text refuted complete)
 
 -- where an answer shows that a put failed
 pub write_shows : (held now : SinkTold) (answer : Result Ending Stop) → IfErr answer (StopShows held now) → WriteShows held now answer
@@ -194,24 +194,30 @@ module _ (hops limit : ℕ) (sides : RefutedSides) (net : Network) (i : Entry) w
       rest_put tail (Err (Own fault)) records h = absurd h
 
       -- and all that behind the head
-      pub report_put : Joins → (asks : List AskTree) (answer : Result Ending Stop) → Takes told gives start (head_text hops limit) mid
-          → PutsRest told gives hops limit sides net i mid now answer → Performs told gives start now (explore_work hops limit sides) (a_net net i asks ∷ []) answer
-      report_put joins asks (Ok ending) is (part, rest, gained) = (
-        head_text hops limit ++ part,
+      put_behind : Joins → (asks : List AskTree) (answer : Result Ending Stop) → Takes told gives start (head_text (said_by i) hops limit) mid
+          → PutsRest told gives hops limit sides net i mid now answer → Performs told gives start now (explore_work i.most_choices hops limit sides) (a_net net i asks ∷ []) answer
+      put_behind joins asks (Ok ending) is (part, rest, gained) = (
+        head_text (said_by i) hops limit ++ part,
         record {
           records = rest.records;
           found = rest.found;
-          line = ap (λ s. head_text hops limit ++ s) rest.pieces
-              ∙ sym (joins net hops limit (written_of sides rest.records) (refuted_count rest.records) (is_done ending));
+          line = ap (λ s. head_text (said_by i) hops limit ++ s) rest.pieces
+              ∙ sym (joins net (said_by i) hops limit (written_of sides rest.records) (refuted_count rest.records) (is_done ending));
         },
-        takes_both told gives start mid now (head_text hops limit) part is gained,
+        takes_both told gives start mid now (head_text (said_by i) hops limit) part is gained,
       )
-      report_put joins asks (Err Write) is (part, cut, gained) =
-          (head_text hops limit ++ part, inr (part, cut, refl), part_behind told gives start mid now (head_text hops limit) part is gained)
-      report_put joins asks (Err NoMemory) is (part, far, gained) =
-          (head_text hops limit ++ part, inr (part, far, refl), until_behind told gives start mid now (head_text hops limit) part is gained)
-      report_put joins asks (Err (Input fault)) is h = absurd h
-      report_put joins asks (Err (Own fault)) is h = absurd h
+      put_behind joins asks (Err Write) is (part, cut, gained) =
+          (head_text (said_by i) hops limit ++ part, inr (part, cut, refl), part_behind told gives start mid now (head_text (said_by i) hops limit) part is gained)
+      put_behind joins asks (Err NoMemory) is (part, far, gained) =
+          (head_text (said_by i) hops limit ++ part, inr (part, far, refl), until_behind told gives start mid now (head_text (said_by i) hops limit) part is gained)
+      put_behind joins asks (Err (Input fault)) is h = absurd h
+      put_behind joins asks (Err (Own fault)) is h = absurd h
+
+      pub report_put : Joins → (asks : List AskTree) (answer : Result Ending Stop) (cases : Option ℕ) → cases ≡ said_by i
+          → Takes told gives start (head_text cases hops limit) mid → PutsRest told gives hops limit sides net i mid now answer
+          → Performs told gives start now (explore_work i.most_choices hops limit sides) (a_net net i asks ∷ []) answer
+      report_put joins asks answer cases said is rest =
+          put_behind joins asks answer (subst (λ s. Takes told gives start (head_text s hops limit) mid) said is) rest
 
     module _ (start now : K) where
       -- no more was put than some of the records
@@ -222,10 +228,10 @@ module _ (hops limit : ℕ) (sides : RefutedSides) (net : Network) (i : Entry) w
       rest_stopped (Own fault) h = absurd h
 
       -- or than a beginning of the head, or nothing
-      pub head_cut : (asks : List AskTree) → PutAs told gives start now (head_text hops limit) putting.Failed
-          → Performs told gives start now (explore_work hops limit sides) (a_net net i asks ∷ []) (Err Write)
-      head_cut asks (part, begins, gained) = (part, inl begins, gained)
+      pub head_cut : (asks : List AskTree) (cases : Option ℕ) → cases ≡ said_by i → PutAs told gives start now (head_text cases hops limit) putting.Failed
+          → Performs told gives start now (explore_work i.most_choices hops limit sides) (a_net net i asks ∷ []) (Err Write)
+      head_cut asks cases said (part, begins, gained) = (part, inl (subst (λ s. IsPrefix part (head_text s hops limit)) said begins), gained)
 
-      pub head_left : (asks : List AskTree) → PutAs told gives start now (head_text hops limit) putting.NoMemory
-          → Performs told gives start now (explore_work hops limit sides) (a_net net i asks ∷ []) (Err NoMemory)
+      pub head_left : (asks : List AskTree) → PutAs told gives start now (head_text (said_by i) hops limit) putting.NoMemory
+          → Performs told gives start now (explore_work i.most_choices hops limit sides) (a_net net i asks ∷ []) (Err NoMemory)
       head_left asks none = ([], inl refl, none)

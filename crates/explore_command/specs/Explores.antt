@@ -1,8 +1,9 @@
 -- What `explore` writes of an accepted job.
-use Rattle.std.specs.Prelude.{ℕ, ◌≡◌, ◌<◌, ◌^◌, ◌⊎◌, Bool, true, false, List, [], ◌∷◌, ◌++◌, IsUtf8}
+use Rattle.std.specs.Prelude.{ℕ, ◌≡◌, ◌<◌, ◌^◌, ◌⊎◌, Bool, true, false, ◌==◌, List, [], ◌∷◌, ◌++◌, Option, None, Some, IsUtf8, if◌then◌else◌}
 use Rattle.std.specs.List.{AllByRecursion}
 use Rattle.sn_edge.specs.Pieces.{IsPrefix}
-use Rattle.net_check.specs.Network.{Network, Entry}
+use Rattle.net_check.specs.Network.{Network, Entry, with_choices}
+use Rattle.net_check.specs.declared.injection.TheConstants.{USUAL_CHOICES}
 use Rattle.path_records.specs.declared.records.Record.{Record}
 use Rattle.exact_records.specs.Exact.{IsTried, IsUnexplored, SomeOne}
 use Rattle.exact_records.specs.Packets.{AreExactFor, AreExactSoFarFor, AreExactUpToFor}
@@ -27,17 +28,26 @@ abbrev pub is_done : Ending → Bool
 is_done Done = true
 is_done Partial = false
 
--- the line of a report of records with this ending; those that are written are shown
-abbrev pub line_of : ℕ → ℕ → RefutedSides → Network → Ending → List Record → List ℕ
-line_of hops limit sides net ending records = report_line net hops limit (written_of sides records) (refuted_count records) (is_done ending)
+-- the bound on choices of cases that a report says: none where it is the usual one
+abbrev pub said_choices : ℕ → Option ℕ
+said_choices most = if most == USUAL_CHOICES then None else Some most
+
+-- that of the injection
+abbrev pub said_by : Entry → Option ℕ
+said_by i = said_choices i.most_choices
+
+-- the line of a report of records with this ending, and this bound; those that are written are shown
+abbrev pub line_of : Option ℕ → ℕ → ℕ → RefutedSides → Network → Ending → List Record → List ℕ
+line_of cases hops limit sides net ending records =
+    report_line net cases hops limit (written_of sides records) (refuted_count records) (is_done ending)
 
 -- what stands behind its records
 abbrev pub end_of : Ending → List Record → List ℕ
 end_of ending records = tail_text (refuted_count records) (is_done ending)
 
 -- the head of a report, and behind it such a part
-abbrev pub BehindHead : ℕ → ℕ → (List ℕ → Type 0) → List ℕ → Type 0
-BehindHead hops limit Is part = (own : List ℕ) × Is own × (part ≡ head_text hops limit ++ own)
+abbrev pub BehindHead : Option ℕ → ℕ → ℕ → (List ℕ → Type 0) → List ℕ → Type 0
+BehindHead cases hops limit Is part = (own : List ℕ) × Is own × (part ≡ head_text cases hops limit ++ own)
 
 module _ (hops limit : ℕ) (sides : RefutedSides) (net : Network) (i : Entry) where
   -- the pieces of records that are exact so far, within the limit
@@ -68,7 +78,7 @@ module _ (hops limit : ℕ) (sides : RefutedSides) (net : Network) (i : Entry) w
   pub record IsReport (ending : Ending) (whole : List ℕ) : Type 0 where
     pub records : List Record
     pub found : AreFound ending records
-    pub line : whole ≡ line_of hops limit sides net ending records
+    pub line : whole ≡ line_of (said_by i) hops limit sides net ending records
 
   abbrev pub ReportsOf : Outcome → Type 0
   ReportsOf (text ending whole) = IsReport ending whole
@@ -85,21 +95,22 @@ module _ (hops limit : ℕ) (sides : RefutedSides) (net : Network) (i : Entry) w
 
   -- where the sink failed: in the head, in the piece of a record, or in the tail
   abbrev pub IsCut : List ℕ → Type 0
-  IsCut part = IsPrefix part (head_text hops limit) ⊎ BehindHead hops limit (λ own. IsCutInRecord own ⊎ IsCutInTail own) part
+  IsCut part =
+      IsPrefix part (head_text (said_by i) hops limit) ⊎ BehindHead (said_by i) hops limit (λ own. IsCutInRecord own ⊎ IsCutInTail own) part
 
   -- where memory ended: nothing was put, or whole pieces
   abbrev pub IsLeft : List ℕ → Type 0
-  IsLeft part = (part ≡ []) ⊎ BehindHead hops limit IsSoFar part
+  IsLeft part = (part ≡ []) ⊎ BehindHead (said_by i) hops limit IsSoFar part
 
--- a fact of the net and the injection of a job
-abbrev pub OfJob : List Given → (Network → Entry → Type 0) → Type 0
-OfJob (a_net net i asks ∷ []) Fact = Fact net i
-OfJob _ Fact = ⊥
+-- a fact of the net and the injection of a job, with this bound on choices of cases
+abbrev pub OfJob : ℕ → List Given → (Network → Entry → Type 0) → Type 0
+OfJob most (a_net net i asks ∷ []) Fact = Fact net (with_choices most i)
+OfJob most _ Fact = ⊥
 
 -- `explore` of a job
-abbrev pub explore_work : ℕ → ℕ → RefutedSides → OwnWork
-explore_work hops limit sides = record {
-  comes = λ given outcome. OfJob given (λ net i. ReportsOf hops limit sides net i outcome);
-  cut = λ given part. OfJob given (λ net i. IsCut hops limit sides net i part);
-  left = λ given part. OfJob given (λ net i. IsLeft hops limit sides net i part);
+abbrev pub explore_work : ℕ → ℕ → ℕ → RefutedSides → OwnWork
+explore_work most hops limit sides = record {
+  comes = λ given outcome. OfJob most given (λ net i. ReportsOf hops limit sides net i outcome);
+  cut = λ given part. OfJob most given (λ net i. IsCut hops limit sides net i part);
+  left = λ given part. OfJob most given (λ net i. IsLeft hops limit sides net i part);
 }

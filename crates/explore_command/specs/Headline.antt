@@ -1,5 +1,5 @@
 -- What the report of an exploration tells of the packets of a job, by how it ends.
-use Rattle.std.specs.Prelude.{ℕ, ◌≡◌, ◌≤◌, ◌↔◌, List, length, Option, None, Some, Result}
+use Rattle.std.specs.Prelude.{ℕ, ◌≡◌, ◌≤◌, ◌<◌, ◌^◌, ◌↔◌, List, length, Option, None, Some, Result}
 use Rattle.std.specs.List.{AllByRecursion}
 use Rattle.refutation_check.specs.declared.outcome.Verdict.{Verdict}
 use Rattle.net_check.specs.Network.{Network, Entry}
@@ -21,7 +21,7 @@ use Rattle.path_records.specs.declared.sides.RefutedSides.{RefutedSides}
 use Rattle.report_forms.specs.Seen.{line_seen}
 use Rattle.path_report.specs.Reading.{ReadsReport, Shows}
 use Rattle.path_report.specs.declared.report.ReportFault.{ReportFault}
-use Rattle.explore_command.specs.Explores.{IsReport, is_done}
+use Rattle.explore_command.specs.Explores.{IsReport, is_done, said_by}
 
 -- the condition has this verdict and no other: it is met, by these as its least values; or it is undecided, by this cause
 abbrev pub IsOnlyVerdictOn : SymCondition → Verdict → Type 0
@@ -46,15 +46,20 @@ IsRecordOf v w (path ds places ended fields verdict) = IsPathOf v w (path ds pla
 IsRecordOf v w (pruned ds before refutation) = ⊥
 IsRecordOf v w (unexplored ds) = BeginsWith ds w.decisions
 
--- the hops and the limits that the words of a command may say
-abbrev pub MayBeShown : ℕ → ℕ → Type 0
-MayBeShown hops limit = (1 ≤ hops) × (hops ≤ 256) × (1 ≤ limit) × (limit ≤ 100000)
+-- the bounds on choices of cases, the hops and the limits that the words of a command may say
+pub record MayBeShown (most hops limit : ℕ) : Type 0 where
+  pub least_choices : 1 ≤ most
+  pub most_choices : most < 2 ^ 64
+  pub least_hops : 1 ≤ hops
+  pub most_hops : hops ≤ 256
+  pub least_limit : 1 ≤ limit
+  pub most_limit : limit ≤ 100000
 
--- The text determines its records: whatever is read of it, by the names of the net, shows a report of those that are written, with these
--- hops, this limit and the number of all refuted sides.
-abbrev pub IsReadBack : Network → ℕ → ℕ → RefutedSides → List Record → Ending → List ℕ → Type 0
-IsReadBack net hops limit sides records ending whole = (answer : Result Report ReportFault) → ReadsReport net whole answer
-    → Shows (line_seen hops limit (written_of sides records) (refuted_count records) (is_done ending)) answer
+-- The text determines its records: whatever is read of it, by the names of the net, shows a report of those that are written, with
+-- these bounds and the number of all refuted sides.
+abbrev pub IsReadBack : Network → Option ℕ → ℕ → ℕ → RefutedSides → List Record → Ending → List ℕ → Type 0
+IsReadBack net cases hops limit sides records ending whole = (answer : Result Report ReportFault) → ReadsReport net whole answer
+    → Shows (line_seen cases hops limit (written_of sides records) (refuted_count records) (is_done ending)) answer
 
 module _ (net : Network) (i : Entry) (hops : ℕ) where
   -- What is so of the records of each report. They stand in the order of their decisions, and each decision that is offered along
@@ -100,4 +105,4 @@ module _ (net : Network) (i : Entry) (hops : ℕ) where
   pub record IsHeadline (limit : ℕ) (sides : RefutedSides) (ending : Ending) (whole : List ℕ) (report : IsReport hops limit sides net i ending whole)
       : Type 0 where
     pub tells : Tells limit ending (record_trees report.records)
-    pub read_back : MayBeShown hops limit → IsReadBack net hops limit sides report.records ending whole
+    pub read_back : MayBeShown i.most_choices hops limit → IsReadBack net (said_by i) hops limit sides report.records ending whole

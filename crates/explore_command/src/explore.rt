@@ -11,11 +11,12 @@ use path_records::RefutedSides;
 use sn_edge::Sink;
 use std::alloc::Global;
 
-/// The report of all packets of a job, with `hops` hops and the record limit `limit`. The records are put as they are found, and none
-/// is kept.
+/// The report of all packets of a job, with `hops` hops, the record limit `limit`, and a bound on the choices of cases that decisions
+/// try. The records are put as they are found, and none is kept.
 #[derive(Drop)]
 pub struct Explore<'a> {
     pub source: JobFile<'a>,
+    pub cases: u64,
     pub hops: u32,
     pub limit: RecordLimit,
     pub sides: RefutedSides,
@@ -26,7 +27,7 @@ impl<'a> Work for Explore<'a> {
 
     ghost source = { λ e. e.source };
 
-    ghost work = { λ e. explore_work e.hops e.limit e.sides };
+    ghost work = { λ e. explore_work e.cases e.hops e.limit e.sides };
 
     fn source(&self) -> &JobFile<'a> {
         &self.source
@@ -38,13 +39,8 @@ impl<'a> Work for Explore<'a> {
         given: Accepted,
         out: &mut K,
     ) -> Result<Ending, Stop> {
-        put_report(
-            alloc,
-            &given,
-            self.hops,
-            self.limit.count(),
-            self.sides,
-            out,
-        )
+        let mut job = given;
+        job.injection.set_choices(self.cases);
+        put_report(alloc, &job, self.hops, self.limit.count(), self.sides, out)
     }
 }

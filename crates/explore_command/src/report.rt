@@ -7,12 +7,12 @@ ghost use Rattle.net_check.specs.Sound.{AreOfOneJob};
 ghost use Rattle.command_runs.specs.Inputs.{given_of};
 ghost use Rattle.command_edge.specs.Puts.{WriteShows};
 ghost use Rattle.command_runs.specs.Runs.{Performs};
-ghost use Rattle.explore_command.specs.Explores.{explore_work, is_done};
+ghost use Rattle.explore_command.specs.Explores.{explore_work, is_done, said_choices};
 ghost use Rattle.explore_command.specs.Putting.{PutsEnd, PutsRecords, PutsRest, StopShows, tail_of, tail_unless};
 
 use command_edge::{Ending, Stop};
 use kept_texts::{OfNet, Pieces};
-use net_check::Accepted;
+use net_check::{Accepted, USUAL_CHOICES};
 use path_exec::Ended;
 use path_records::RefutedSides;
 use record_lines::{Lines, Mark, put_head, put_tail};
@@ -53,6 +53,16 @@ fn tail_of(ended: Result<Ended, NoMemory>, over: bool, refuted: u64) -> Result<T
         Ok(Ended::Partial) => tail_unless(over, Ending::Partial, refuted),
         Ok(Ended::Stopped) => Err(Stop::Write),
         Err(_) => Err(Stop::NoMemory),
+    }
+}
+
+/// The bound on choices of cases that a report says: none where it is the usual one.
+fn said_choices(most: u64) -> Option<u64>
+    ensures { result ≡ said_choices most }
+{
+    match most {
+        USUAL_CHOICES => None,
+        _ => Some(most),
     }
 }
 
@@ -197,12 +207,13 @@ pub(crate) fn put_report<K: Sink>(
     requires job { AreOfOneJob (network job.now.net) (entry job.now.injection) }
     requires limit { 0 < limit }
     ensures out_kept { SinkKept (K.told out.old) (K.told out.new) }
-    ensures performs { Performs K.told K.put_gives out.old out.new (explore_work hops limit sides)
-        (given_of job.now ∷ []) result }
+    ensures performs { Performs K.told K.put_gives out.old out.new
+        (explore_work (entry job.now.injection).most_choices hops limit sides) (given_of job.now ∷ []) result }
     ensures shows { WriteShows (K.told out.old) (K.told out.new) result }
 {
     lines_join();
-    match put_head(alloc, hops, limit, out) {
+    let cases = said_choices(job.injection.most_choices());
+    match put_head(alloc, cases, hops, limit, out) {
         Put::All => put_rest(alloc, job, hops, limit, sides, out),
         Put::Failed => Err(Stop::Write),
         Put::NoMemory => Err(Stop::NoMemory),

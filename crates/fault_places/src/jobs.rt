@@ -19,6 +19,7 @@ fn jobs_of(command: Command<'_>) -> Option<(&str, Option<&str>)> {
         Command::Click { .. } => None,
         Command::Acl { .. } => None,
         Command::Rules { .. } => None,
+        Command::BothRules { .. } => None,
         Command::Grow { .. } => None,
     }
 }

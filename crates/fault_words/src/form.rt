@@ -30,6 +30,8 @@ const FILTER_STYLE: u8 = 16;
 
 const OPEN: u8 = 32;
 
+const CASES: u8 = 64;
+
 fn hops() -> Choice {
     Choice {
         flag: "--hops",
@@ -57,6 +59,16 @@ fn pruned() -> Choice {
         most: 0,
         words: &["all", "count"],
         says: "--pruned takes all or count",
+    }
+}
+
+fn cases() -> Choice {
+    Choice {
+        flag: "--cases",
+        bit: CASES,
+        most: u64::MAX,
+        words: &["all"],
+        says: "--cases takes a number from 1 to 18,446,744,073,709,551,615, or all",
     }
 }
 
@@ -97,6 +109,7 @@ pub(crate) fn choice_of(options: u8, flag: &str) -> Option<Choice> {
         "--limit" => limit(),
         "--pruned" => pruned(),
         "--open" => open_paths(),
+        "--cases" => cases(),
         "--style" if options & FILTER_STYLE != 0 => filter_style(),
         "--style" => style(),
         _ => return None,
@@ -113,7 +126,7 @@ pub(crate) fn form_of(name: &str) -> Option<Form> {
     match name {
         "explore" => Some(Form {
             files: &["JOB"],
-            options: HOPS | LIMIT | PRUNED,
+            options: HOPS | LIMIT | PRUNED | CASES,
         }),
         "walk" => Some(Form {
             files: &["JOB", "PACKET"],
@@ -125,18 +138,19 @@ pub(crate) fn form_of(name: &str) -> Option<Form> {
         }),
         "ask" => Some(Form {
             files: &["JOB"],
-            options: HOPS,
+            options: HOPS | LIMIT | CASES,
         }),
         "loops" => Some(Form {
             files: &["JOB"],
-            options: HOPS | OPEN,
+            options: HOPS | OPEN | LIMIT | CASES,
         }),
         "compare" => Some(Form {
             files: &["JOB", "OTHER"],
-            options: HOPS,
+            options: HOPS | LIMIT | CASES,
         }),
+        // The words are right without OTHER, so it is never said to be missing.
         "rules" => Some(Form {
-            files: &["FILE"],
+            files: &["FILE", "OTHER"],
             options: 0,
         }),
         "grow" => Some(Form {

@@ -3,7 +3,7 @@
 use command_words::{Command, reading};
 use std::alloc::Global;
 
-/// The sentence of the command that the words give. `explore` alone has an option for the limit.
+/// The sentence of the command that the words give.
 pub(crate) fn of_partial(alloc: Global, words: &[String]) -> Option<&'static str> {
     let Ok(Some(command)) = reading(alloc, words) else {
         return None;
@@ -13,13 +13,13 @@ pub(crate) fn of_partial(alloc: Global, words: &[String]) -> Option<&'static str
             "what is written is right as far as it goes: for the rest raise `--limit`, or narrow the injection by `where` lines or given values",
         ),
         Command::Ask { .. } => Some(
-            "the exploration ended at 10,000 records; yes and no are right: for the rest narrow the injection by `where` lines or given values",
+            "the exploration ended at its limit of records; yes and no are right: for the rest raise `--limit`, or narrow the injection by `where` lines or given values",
         ),
         Command::Loops { .. } => Some(
-            "the exploration ended at 10,000 records, and more paths may be cut: narrow the injection by `where` lines or given values",
+            "the exploration ended at its limit of records, and more paths may be cut: raise `--limit`, or narrow the injection by `where` lines or given values",
         ),
         Command::Compare { .. } => Some(
-            "an exploration ended at 10,000 records, so nothing is known: narrow the injection by `where` lines or given values, or compare smaller parts",
+            "an exploration ended at its limit of records, so nothing is known: raise `--limit`, narrow the injection by `where` lines or given values, or compare smaller parts",
         ),
         _ => None,
     }

@@ -54,6 +54,7 @@ pub(crate) fn of_line(alloc: Global, words: &[String], kind: u8) -> Option<&'sta
     match command {
         Command::Acl { .. } => of_list(kind),
         Command::Rules { .. } => of_list(kind),
+        Command::BothRules { .. } => of_list(kind),
         Command::Click { .. } => of_click(kind),
         _ => of_table(kind),
     }

@@ -4,19 +4,20 @@ use crate::wrong::wrong_word;
 use std::alloc::{AllocError, Global};
 
 /// The commands, with their options and what these are where they are not given.
-const FORMS: &str = "symnet explore JOB [--hops N] [--limit N] [--pruned all|count]
+const FORMS: &str = "symnet explore JOB [--hops N] [--limit N] [--cases N|all] [--pruned all|count]
 symnet walk JOB PACKET [--hops N] [--limit N]
 symnet replay JOB REPORT
-symnet ask JOB [--hops N]
-symnet loops JOB [--hops N] [--open numbers|visits]
-symnet compare JOB OTHER [--hops N]
+symnet ask JOB [--hops N] [--limit N] [--cases N|all]
+symnet loops JOB [--hops N] [--limit N] [--cases N|all] [--open numbers|visits]
+symnet compare JOB OTHER [--hops N] [--limit N] [--cases N|all]
 symnet model mac|fib FILE [--style chain|grouped|egress]
 symnet model click FILE
 symnet model acl FILE [--style chain|grouped]
-symnet rules FILE
+symnet rules FILE [OTHER]
 symnet grow SEED NODES
 --hops N: input ports on a path, 1 to 256 (16 where it is not given)
 --limit N: records or walks, 1 to 100,000 (10,000)
+--cases N|all: choices of cases that a decision tries, 1 to 18,446,744,073,709,551,615 (4,096)
 --pruned: sides that no packet takes, each or their number alone (all)
 --open: paths that show no loop, their numbers or their earlier visits too (numbers)
 --style: how a node tests its packets (grouped)

@@ -128,10 +128,10 @@ module _ (net : Network) (i : Entry) (hops more : ℕ) (same : HasSameWalks net 
 -- ---- what records tell
 
 module _ (net : Network) (i : Entry) (hops more : ℕ) (s t : SymStart) (first : explored net i hops ≡ s) (second : explored net i more ≡ t)
-    (unknowns : t.unknowns ≡ s.unknowns) (fs : t.tests ≡ s.tests) (longer : Longer s.tree t.tree) (q : Question) where
+    (unknowns : t.unknowns ≡ s.unknowns) (fs : t.tests ≡ s.tests) (most : t.most_choices ≡ s.most_choices) (longer : Longer s.tree t.tree) (q : Question) where
   -- the conditions of the question on a path are the same
   same_conditions : (ds : List Decision) (places : List Place) (end' : End) (fields : Fields LinearTerm) (verdict : Verdict) → (end' ≡ Cut → ⊥)
-      → (h : IsPath s ds places end' fields verdict) → (b : Both s t unknowns fs longer ds h.way)
+      → (h : IsPath s ds places end' fields verdict) → (b : Both s t unknowns fs most longer ds h.way)
       → conditions_on net i more q b.other ≡ conditions_on net i hops q h.way
   same_conditions ds places end' fields verdict uncut h b =
       let w = b.same in
@@ -145,7 +145,7 @@ module _ (net : Network) (i : Entry) (hops more : ℕ) (s t : SymStart) (first :
   alike_path : (ds : List Decision) (places : List Place) (end' : End) (fields : Fields LinearTerm) (verdict : Verdict) → (end' ≡ Cut → ⊥)
       → IsPath s ds places end' fields verdict → Alike (saying net i hops q) (saying net i more q) (path ds places end' fields verdict)
   alike_path ds places end' fields verdict uncut h =
-      let b = both_ways s t unknowns fs longer ds h.way h.leads (uncut_over s t unknowns fs longer h.way h.progress end' h.ended uncut) in
+      let b = both_ways s t unknowns fs most longer ds h.way h.leads (uncut_over s t unknowns fs most longer h.way h.progress end' h.ended uncut) in
       let same = same_conditions ds places end' fields verdict uncut h b in
       let here : Leads (explored net i hops) ds h.way = subst (λ (x : SymStart). Leads x ds h.way) (sym first) h.leads in
       let there : Leads (explored net i more) ds b.other = subst (λ (x : SymStart). Leads x ds b.other) (sym second) b.leads in
@@ -185,6 +185,6 @@ right_beyond net i hops limit rs exact uncut more least beyond q outcome right =
     let g = goes_further (terms (unknown_count i)) net i hops more least exact.start exact.explored in
     record {
       told = told_further net i hops more exact.start g.further (ap (start_or no_start) exact.explored) (ap (start_or no_start) g.is)
-          g.unknowns g.tests g.tree q rs outcome uncut exact.exact.good right.told;
+          g.unknowns g.tests g.most_choices g.tree q rs outcome uncut exact.exact.good right.told;
       holds = true_further net i hops more beyond.walks q rs outcome right.holds;
     }

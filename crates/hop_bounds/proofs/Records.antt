@@ -1,6 +1,7 @@
 -- Records are exact for every larger bound of hops where none of them was cut.
 use Rattle.std.proofs.Common.{◌≡◌, ◌≤◌, ◌⊎◌, ℕ, inl, inr, Bool, true, List, [], ◌∷◌, ◌++◌, map, refl, sym, ap, ap₂, subst, ◌∙◌, Option, Some, None}
 use Rattle.std.specs.List.{AllByRecursion}
+use Rattle.refutation_check.specs.Longer.{condition_of}
 use Rattle.lin_term.specs.Terms.{LinearTerm}
 use Rattle.path_formula.specs.Formulas.{FormulaTree}
 use Rattle.path_cond.specs.Seen.{itself}
@@ -71,16 +72,18 @@ module _ (net : Network) (i : Entry) (hops more limit : ℕ) (least : hops ≤ m
 
 -- ---- one start, and another whose tree goes on where that of the first is cut
 
-module _ (s t : SymStart) (unknowns : t.unknowns ≡ s.unknowns) (fs : t.tests ≡ s.tests) (longer : Longer s.tree t.tree) where
+module _ (s t : SymStart) (unknowns : t.unknowns ≡ s.unknowns) (fs : t.tests ≡ s.tests) (most : t.most_choices ≡ s.most_choices) (longer : Longer s.tree t.tree) where
   same_condition : (r q : SymRoute) → (IsAtCut r.left → ⊥) → q.tests ≡ r.tests → Longer r.left q.left → condition_on t q ≡ condition_on s r
   same_condition r q uncut tested left =
-      ap₂ (λ (ws : List ℕ) (es : List (FormulaTree × Bool)). record { widths = ws; entries = es })
-      (ap₂ (λ (us : List ℕ) (p : Progress LinearTerm). us ++ p.choices) unknowns (same_progress r.left q.left left uncut))
-      (ap₂ (λ (gs : List FormulaTree) (ts : List (FormulaTree × Bool)). map (λ f. (f, true)) gs ++ ts) fs tested)
+      let widths =
+      ap₂ (λ (us : List ℕ) (p : Progress LinearTerm). us ++ p.choices) unknowns (same_progress r.left q.left left uncut) in
+      let entries =
+      ap₂ (λ (gs : List FormulaTree) (ts : List (FormulaTree × Bool)). map (λ f. (f, true)) gs ++ ts) fs tested in
+      λ j. condition_of (most j) (widths j) (entries j)
 
   same_first : first_condition t ≡ first_condition s
   same_first =
-      ap₂ (λ (ws : List ℕ) (gs : List FormulaTree). record { widths = ws; entries = map (λ f. (f, true)) gs }) unknowns fs
+      λ j. condition_of (most j) (unknowns j) (map (λ f. (f, true)) (fs j))
 
   -- a way of both
   pub record Both (ds : List Decision) (r : SymRoute) : Type 0 where
@@ -291,5 +294,5 @@ module _ (taken : (net : Network) (i : Entry) (hops : ℕ) → PacketsTakeRoutes
       λ v ds h. (taken net i hops s exact.explored v ds).1 (has_no_more net i hops more limit least rs uncut same v ds ((taken net i more t g.is v ds).0 h)) in
       record {
         walks = same;
-        exact = (show net i more).exact t limit rs g.is (exact_further s t g.unknowns g.tests g.tree to back limit rs uncut exact.exact);
+        exact = (show net i more).exact t limit rs g.is (exact_further s t g.unknowns g.tests g.most_choices g.tree to back limit rs uncut exact.exact);
       }

@@ -30,10 +30,11 @@ module _ {V F : Type 0} (o : Values V F) (net : Network) (i : Entry) (hops more 
     pub is : result ≡ Ok further
     pub unknowns : further.unknowns ≡ start.unknowns
     pub tests : further.tests ≡ start.tests
+    pub most_choices : further.most_choices ≡ start.most_choices
     pub tree : Longer start.tree further.tree
 
   abbrev made : ℕ → Carried V → List F → Start V F
-  made n s fs = record { unknowns = unknown_widths i.own.fields; tests = fs; tree = tree_from o net i n s }
+  made n s fs = record { unknowns = unknown_widths i.own.fields; tests = fs; tree = tree_from o net i n s; most_choices = i.most_choices }
 
   with_tests : (s : Carried V) (result : Result (List F) LayoutFault) (start : Start V F) → on_ok (made hops s) result ≡ Ok start
       → Goes start (on_ok (made more s) result)
@@ -45,6 +46,7 @@ module _ {V F : Type 0} (o : Values V F) (net : Network) (i : Entry) (hops more 
         is = refl;
         unknowns = refl;
         tests = refl;
+        most_choices = refl;
         tree = longer_enter o net hops more least i.node i.own.port (starting s);
       })
 

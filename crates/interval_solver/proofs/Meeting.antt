@@ -59,7 +59,7 @@ and_fits true f h fits = ap (λ b. b && h) (fits refl)
 and_fits false f h fits = refl
 
 module _ (path : Condition) (sets : List RangeSet) (e : Entry) (before : AreDomainsBefore path sets e) where
-  possible_more : (s : SymId) (x : ℕ) → is_possible (record { widths = path.widths; entries = before.entries }) s x && meets s (alone s x) e ≡ is_possible path s x
+  possible_more : (s : SymId) (x : ℕ) → is_possible (record path { entries = before.entries }) s x && meets s (alone s x) e ≡ is_possible path s x
   possible_more s x =
       let fits = fits_width (slice_index path.widths s.0) x in
       and_last fits (list_all (meets s (alone s x)) before.entries) (meets s (alone s x) e)
@@ -257,13 +257,12 @@ domains_same law path left right l r =
     law x y dx.canonical dy.canonical (dx.same_width ∙ sym dy.same_width) (λ v fits. dx.members v ∙ sym (dy.members v)))
 
 -- the domains of a condition, before one formula more
-pub before_last : (path next : Condition) (last : Entry) (sets : List RangeSet) → next ≡ record { widths = path.widths; entries = path.entries ++ last ∷ [] } → AreDomainsOf path sets → AreDomainsBeforeLast next sets
-before_last path next last sets is d =
-    let widths : next.widths ≡ path.widths = ap (λ (c : Condition). c.widths) is in (
-      last,
-      record {
-        entries = path.entries;
-        split = ap (λ (c : Condition). c.entries) is;
-        domains = subst (λ ws. AreDomainsOf (record { widths = ws; entries = path.entries }) sets) (sym widths) d;
-      },
-    )
+pub before_last : (path next : Condition) (last : Entry) (sets : List RangeSet) → next ≡ record path { entries = path.entries ++ last ∷ [] } → AreDomainsOf path sets → AreDomainsBeforeLast next sets
+before_last path next last sets is d = (
+  last,
+  record {
+    entries = path.entries;
+    split = ap (λ (c : Condition). c.entries) is;
+    domains = subst (λ (c : Condition). AreDomainsOf (record c { entries = path.entries }) sets) (sym is) d;
+  },
+)

@@ -20,13 +20,13 @@ AreDomainsOf cond sets = AreDomainsOfFirst cond (length cond.widths) sets
 
 -- the condition with one symbol more, which comes after the others
 abbrev pub with_width : Condition → ℕ → Condition
-with_width cond width = record { widths = cond.widths ++ width ∷ []; entries = cond.entries }
+with_width cond width = record cond { widths = cond.widths ++ width ∷ [] }
 
 -- the sets are the domains of the condition without this formula, which is its last
 pub record AreDomainsBefore (cond : Condition) (sets : List RangeSet) (last : Entry) : Type 0 where
   pub entries : List Entry
   pub split : cond.entries ≡ entries ++ last ∷ []
-  pub domains : AreDomainsOf (record { widths = cond.widths; entries = entries }) sets
+  pub domains : AreDomainsOf (record cond { entries = entries }) sets
 
 -- the sets are the domains of the condition without its last formula
 abbrev pub AreDomainsBeforeLast : Condition → List RangeSet → Type 0

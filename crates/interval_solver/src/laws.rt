@@ -59,6 +59,6 @@ pub fn each_symbol_of_filled_domains_has_a_value()
 /// The domains of a condition may be met with a condition that has one formula more.
 pub fn one_formula_more_may_be_met()
     ensures { (cond next : Condition) (last : Entry) (sets : List RangeSet)
-        → next ≡ record { widths = cond.widths; entries = cond.entries ++ last ∷ [] }
+        → next ≡ record cond { entries = cond.entries ++ last ∷ [] }
         → AreDomainsOf cond sets → AreDomainsBeforeLast next sets }
 {}

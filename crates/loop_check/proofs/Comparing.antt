@@ -36,17 +36,17 @@ over_trees c judged typed (Unsat refutation) h = (
 over_trees c judged typed (Undecided cause) h = (judged.undecided cause).0 h
 
 -- the longer condition, as trees
-pub tells_with : {E : Type 0} (condition longer : Condition) (f : Formula) → longer ≡ record { widths = condition.widths; entries = condition.entries ++ (f, true) ∷ [] }
+pub tells_with : {E : Type 0} (condition longer : Condition) (f : Formula) → longer ≡ record condition { entries = condition.entries ++ (f, true) ∷ [] }
     → (tree : FormulaTree) → view f ≡ tree → (r : Result Differing E) → IfOk r (Tells (seen view longer)) → IfOk r (Tells (with_test (seen view condition) tree true))
 tells_with condition longer f is tree e r h =
     subst (λ (c : SymCondition). IfOk r (Tells c))
     (ap (seen view) is
-    ∙ ((λ j. record { widths = condition.widths; entries = map-append (entry_seen view) condition.entries ((f, true) ∷ []) j })
+    ∙ ((λ j. record { widths = condition.widths; entries = map-append (entry_seen view) condition.entries ((f, true) ∷ []) j; most_choices = condition.most_choices })
     ∙ ap (λ t. with_test (seen view condition) t true) e)) h
 
 -- a base of the condition is one of the longer condition
 pub base_longer : ((cond : Condition) (b : Base) (more : List Entry) → IsBaseOf cond b → IsBaseOf (with_entries cond more) b)
-    → (cond longer : Condition) (e : Entry) → longer ≡ record { widths = cond.widths; entries = cond.entries ++ e ∷ [] } → (o : Option (Bor Base))
+    → (cond longer : Condition) (e : Entry) → longer ≡ record cond { entries = cond.entries ++ e ∷ [] } → (o : Option (Bor Base))
     → IfSome o (λ b. IsBaseOf cond b.now) → IfSome o (λ b. IsBaseOf longer b.now)
 base_longer law cond longer e is None h = h
 base_longer law cond longer e is (Some b) h = subst (λ (c : Condition). IsBaseOf c b.now) (sym is) (law cond b.now (e ∷ []) h)

@@ -2,6 +2,7 @@
 use Rattle.std.proofs.Common.{◌≡◌, ◌≤◌, ℕ, inl, inr, List, [], ◌∷◌, ◌++◌, length, length-append, map, take, drop, reverse, refl, sym, ap, subst, ◌∙◌, append_assoc, arith, None, Some, Result, Ok, Err, IfOk}
 use Rattle.std.proofs.lemmas.List.{append-nil, map-append}
 use Rattle.std.specs.List.{AllByRecursion}
+use Rattle.refutation_check.specs.Longer.{condition_of}
 use Rattle.lin_term.specs.Terms.{LinearTerm}
 use Rattle.sefl_meaning.specs.declared.walk.Decision.{Decision}
 use Rattle.sefl_meaning.specs.declared.walk.Place.{Place}
@@ -155,7 +156,7 @@ module _ (start : SymStart) (ds : List Decision) where
         let way : h.way ≡ p.way = same_way_by (reverse x.decisions) h.leads.begins.0 h.way h.leads.begins.1 h.leads.leads far in
         let choices : p.last.1.choices ≡ (progress_of p.way.left).choices =
         ap (λ (q : Progress LinearTerm). q.choices) ends.carries ∙ ap (λ (t : SymTree). (progress_of t).choices) (sym p.ended) in
-        h.condition ∙ (λ i. record { widths = start.unknowns ++ choices i; entries = tests_on start (way i) })
+        h.condition ∙ (λ i. condition_of start.most_choices (start.unknowns ++ choices i) (tests_on start (way i)))
 
 -- ---- the answer
 

@@ -85,4 +85,4 @@ module _ (net : Network) (i : Entry) (hops : ℕ) where
 
 -- an injection without fields; nobody asks about it
 abbrev pub no_entry : Entry
-no_entry = record { own = record { node = []; port = 0; tags = []; fields = []; tests = [] }; node = record { 0 = 0 } }
+no_entry = record { own = record { node = []; port = 0; tags = []; fields = []; tests = [] }; node = record { 0 = 0 }; most_choices = 0 }

@@ -1,6 +1,6 @@
 -- What `loops` writes of an accepted job.
 use Rattle.std.specs.Prelude.{ℕ, ◌≡◌, List, [], ◌∷◌}
-use Rattle.net_check.specs.Network.{Network, Entry}
+use Rattle.net_check.specs.Network.{Network, Entry, with_choices}
 use Rattle.exact_records.specs.Packets.{AreExactFor}
 use Rattle.exact_records.specs.Records.{RecordTree}
 use Rattle.loop_meaning.specs.declared.answer.LoopAnswer.{LoopAnswer}
@@ -31,7 +31,7 @@ module _ (hops limit : ℕ) (net : Network) (i : Entry) where
   LoopsOf detail (text ending whole) = IsLoopsText detail ending whole
   LoopsOf detail (refused fault) = ⊥
 
--- `loops` of a job
-abbrev pub LoopsComes : ℕ → ℕ → OpenPaths → List Given → Outcome → Type 0
-LoopsComes hops limit detail (a_net net i asks ∷ []) outcome = LoopsOf hops limit net i detail outcome
-LoopsComes hops limit detail _ outcome = ⊥
+-- `loops` of a job, with this bound on choices of cases
+abbrev pub LoopsComes : ℕ → ℕ → ℕ → OpenPaths → List Given → Outcome → Type 0
+LoopsComes most hops limit detail (a_net net i asks ∷ []) outcome = LoopsOf hops limit net (with_choices most i) detail outcome
+LoopsComes most hops limit detail _ outcome = ⊥

@@ -12,14 +12,14 @@ use Rattle.pattern_answers.specs.Asking.{AsksAll, AsksToRefusal}
 use Rattle.net_check.specs.declared.acceptance.Accepted.{Accepted}
 use Rattle.net_check.specs.declared.fault.AcceptFault.{AcceptFault}
 use Rattle.net_check.specs.declared.fault.AcceptFault.TheVariants.{Refused, NoMemory}
-use Rattle.net_check.specs.Sound.{IsSound, IsNetOf, IsEntryOf}
+use Rattle.net_check.specs.Sound.{IsSound, IsNetOf, IsGivenEntry}
 use Rattle.net_check.specs.Network.{network, entry}
 
 -- the parts are the job's own
 pub record IsAcceptedAs (j : JobTree) (a : Accepted) : Type 0 where
   pub sound : IsSound j
   pub net : IsNetOf j (network a.net)
-  pub injection : IsEntryOf j (entry a.injection)
+  pub injection : IsGivenEntry j (entry a.injection)
   pub asks : map ask_tree a.asks.items ≡ j.asks
 
 -- by this step from state to state

@@ -24,10 +24,11 @@ pub record Network : Type 0 where
   pub names : Names
   pub found : List (List NameId)
 
--- the job's own injection, and the node that it names
+-- the job's own injection, the node that it names, and a bound on the choices of cases that decisions on its packets try
 pub record Entry : Type 0 where
   pub own : InjectionTree
   pub node : NodeId
+  pub most_choices : ℕ
 
 -- what an accepted net holds, and an accepted injection
 pub record NetParts : Type 0 where
@@ -38,12 +39,17 @@ pub record NetParts : Type 0 where
 pub record EntryParts : Type 0 where
   pub raw : RawInjection
   pub node : NodeId
+  pub most_choices : ℕ
 
 abbrev pub network : NetParts → Network
 network p = record { own = net_tree p.raw; names = p.names; found = p.found }
 
 abbrev pub entry : EntryParts → Entry
-entry p = record { own = injection_tree p.raw; node = p.node }
+entry p = record { own = injection_tree p.raw; node = p.node; most_choices = p.most_choices }
+
+-- with another bound
+abbrev pub with_choices : ℕ → Entry → Entry
+with_choices most i = record i { most_choices = most }
 
 abbrev pub node_number : NodeId → ℕ
 node_number id = id.0

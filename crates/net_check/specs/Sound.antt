@@ -8,6 +8,7 @@ use Rattle.job_names.specs.Names.{names_of}
 use Rattle.net_check.specs.Places.{node_position}
 use Rattle.net_check.specs.Tables.{Tables, AreTablesOf}
 use Rattle.net_check.specs.Network.{Network, Entry}
+use Rattle.net_check.specs.declared.injection.TheConstants.{USUAL_CHOICES}
 
 -- the job breaks none of the rules that look at the job alone
 abbrev pub IsSound : JobTree → Type 0
@@ -32,6 +33,10 @@ pub record IsNetOf (j : JobTree) (net : Network) : Type 0 where
 pub record IsEntryOf (j : JobTree) (i : Entry) : Type 0 where
   pub own : i.own ≡ j.injection
   pub node : node_position j.net i.own.node ≡ Some i.node.0
+
+-- and as acceptance gives it, with the usual bound on choices of cases
+abbrev pub IsGivenEntry : JobTree → Entry → Type 0
+IsGivenEntry j i = IsEntryOf j i × (i.most_choices ≡ USUAL_CHOICES)
 
 -- of some job that breaks no rule
 abbrev pub IsAcceptedNet : Network → Type 0

@@ -15,10 +15,15 @@ use sefl_syntax::{RawField, RawInjection, Target};
 use sn_width::NodeId;
 use std::marker::Model;
 
-/// The injection of an accepted job. Contracts see the job's own injection, and the node that it names.
+/// The bound on the choices of cases that decisions try, where no other is given.
+pub const USUAL_CHOICES: u64 = 4096;
+
+/// The injection of an accepted job, with a bound on the choices of cases that decisions on its packets try. Contracts see the
+/// job's own injection, the node that it names, and the bound.
 pub struct Injection {
     raw: RawInjection,
     node: NodeId,
+    most_choices: u64,
 }
 
 impl Model for Injection {
@@ -31,15 +36,19 @@ impl Model for Injection {
 
     ghost coded = { Prim.hlevel (codes, the_cond.the_row.coded) };
 
-    ghost view = { λ i. record { raw = i.raw; node = i.node } };
+    ghost view = { λ i. record { raw = i.raw; node = i.node; most_choices = i.most_choices } };
 
-    ghost invariant = { λ i. IsKeptEntry (entry (record { raw = i.raw; node = i.node })) };
+    ghost invariant = { λ i. IsKeptEntry (entry (record { raw = i.raw; node = i.node; most_choices = i.most_choices })) };
 }
 
 // Written out, and not derived, so that the proof of a function that lets one go sees a call.
 impl Drop for Injection {
     fn drop(self) {
-        let Injection { raw, node: _ } = self;
+        let Injection {
+            raw,
+            node: _,
+            most_choices: _,
+        } = self;
         drop(raw);
     }
 }
@@ -48,14 +57,33 @@ impl Injection {
     /// The injection of the job that the net is of.
     pub(crate) fn of(net: &Net, raw: RawInjection) -> Injection
         requires sound { (node : NodeOf) → node_position (network net.now).own raw.node ≡ Some node.0
-            → IsAcceptedEntry (entry (record { raw = raw; node = node })) }
+            → IsAcceptedEntry (entry (record { raw = raw; node = node; most_choices = USUAL_CHOICES })) }
         requires named { node_position (network net.now).own raw.node ≡ None → ⊥ }
         ensures raw { result.raw ≡ raw }
         ensures node { node_position (network net.now).own raw.node ≡ Some result.node.0 }
+        ensures bound { result.most_choices ≡ USUAL_CHOICES }
     {
         fields_have_widths(&raw.fields);
         let node = net.node_id(&raw.node).unwrap();
-        Injection { raw, node }
+        Injection {
+            raw,
+            node,
+            most_choices: USUAL_CHOICES,
+        }
+    }
+
+    /// Gives it another bound on the choices of cases.
+    pub fn set_choices(&mut self, most_choices: u64)
+        ensures { self.new ≡ record self.old { most_choices = most_choices } }
+    {
+        self.most_choices = most_choices;
+    }
+
+    /// The bound on the choices of cases that decisions on its packets try.
+    pub fn most_choices(&self) -> u64
+        ensures { result ≡ self.now.most_choices }
+    {
+        self.most_choices
     }
 
     /// Says that the injection is of a job that breaks no rule. It does nothing.

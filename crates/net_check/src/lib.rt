@@ -17,7 +17,7 @@ mod tables;
 
 pub use acceptance::{Accepted, accept};
 pub use fault::AcceptFault;
-pub use injection::Injection;
+pub use injection::{Injection, USUAL_CHOICES};
 pub use job_items::{Rule, Which};
 pub use net::Net;
 pub use place::CodePlace;

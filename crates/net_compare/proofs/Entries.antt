@@ -37,5 +37,5 @@ module _ (widths : List ℕ) (es : List (Formula × Bool)) (n : ℕ) (f : Formul
       ∙ ap (λ (xs : List (Formula × Bool)). map (entry_seen view) before ++ map (entry_seen view) xs) (sym (next_at es n (f, b) at))
       ∙ e
 
-pub widths_after : (c longer : Condition) (e : Formula × Bool) → longer ≡ record { widths = c.widths; entries = c.entries ++ e ∷ [] } → (ws : List ℕ) → c.widths ≡ ws → longer.widths ≡ ws
+pub widths_after : (c longer : Condition) (e : Formula × Bool) → longer ≡ record c { entries = c.entries ++ e ∷ [] } → (ws : List ℕ) → c.widths ≡ ws → longer.widths ≡ ws
 widths_after c longer e is ws same = ap (λ (d : Condition). d.widths) is ∙ same

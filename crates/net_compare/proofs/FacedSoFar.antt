@@ -74,6 +74,7 @@ module _ (p : DeliveredPath) (all : List DeliveredPath) where
     pub ready : IsReady start
     pub widths : start.condition.widths ≡ longest p.condition.widths facing
     pub entries : map (entry_seen view) start.condition.entries ≡ p.condition.entries
+    pub most_choices : start.condition.most_choices ≡ p.condition.most_choices
     pub faces : AllByRecursion (Faces p) facing
     pub typed : AllByRecursion IsTypedPath facing
     pub agree : PairsAgree (p ∷ facing)
@@ -93,6 +94,7 @@ module _ (p : DeliveredPath) (all : List DeliveredPath) where
     ready = ready;
     widths = ap (λ (c : ConditionOf FormulaTree). c.widths) same;
     entries = ap (λ (c : ConditionOf FormulaTree). c.entries) same;
+    most_choices = ap (λ (c : ConditionOf FormulaTree). c.most_choices) same;
     faces = tt;
     typed = tt;
     agree = (tt, tt);
@@ -118,6 +120,7 @@ module _ (p : DeliveredPath) (all : List DeliveredPath) where
       ready = so.ready;
       widths = so.widths;
       entries = so.entries;
+      most_choices = so.most_choices;
       faces = so.faces;
       typed = so.typed;
       agree = so.agree;
@@ -127,7 +130,7 @@ module _ (p : DeliveredPath) (all : List DeliveredPath) where
     }
 
     pub so_far_with : Faces p q → (next : Decidable) → IsReady next
-        → next.condition ≡ record { widths = longer start.condition.widths q.condition.widths; entries = start.condition.entries }
+        → next.condition ≡ record start.condition { widths = longer start.condition.widths q.condition.widths }
         → (f : Formula) → IsFacingFormula p q (view f) → SoFar rest next (formulas ++ f ∷ [])
     so_far_with face next ready is f formula = record {
       facing = so.facing ++ q ∷ [];
@@ -136,6 +139,7 @@ module _ (p : DeliveredPath) (all : List DeliveredPath) where
       ready = ready;
       widths = ap (λ (c : Condition). c.widths) is ∙ (ap (λ z. longer z q.condition.widths) so.widths ∙ sym (longest_append p.condition.widths so.facing q));
       entries = ap (λ (c : Condition). map (entry_seen view) c.entries) is ∙ so.entries;
+      most_choices = ap (λ (c : Condition). c.most_choices) is ∙ so.most_choices;
       faces = all_append (Faces p) so.facing q so.faces face;
       typed = all_append IsTypedPath so.facing q so.typed so.rest_typed.0;
       agree = pairs_append (p ∷ so.facing) q so.agree (so.fits.0 face.exit);
@@ -158,4 +162,5 @@ module _ (p : DeliveredPath) (all : List DeliveredPath) where
       are_formulas = so.are;
       widths = so.widths;
       entries = ap (λ z. z ++ map must_not (map view formulas)) so.entries;
+      most_choices = so.most_choices;
     }

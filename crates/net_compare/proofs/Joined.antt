@@ -34,9 +34,9 @@ module _ (stay : (widths more : List ℕ) (f : FormulaTree) → IsTyped widths f
 
 -- with the symbols of both and the formulas of the other it is joined
 pub is_joined : (p q : DeliveredPath) (own other start wider : Condition) → seen view own ≡ p.condition → seen view other ≡ q.condition → start ≡ own
-    → wider ≡ record { widths = longer start.widths other.widths; entries = start.entries }
+    → wider ≡ record start { widths = longer start.widths other.widths }
     → with_all_of (seen view wider) (seen view other) ≡ joined p q
 is_joined p q own other start wider pis qis same is =
     ap (λ (c : Condition). with_all_of (seen view c) (seen view other)) is
-    ∙ (ap (λ (c : Condition). with_all_of (record { widths = longer c.widths other.widths; entries = map (entry_seen view) c.entries }) (seen view other)) same
-    ∙ λ i. record { widths = longer (pis i).widths (qis i).widths; entries = (pis i).entries ++ (qis i).entries })
+    ∙ (ap (λ (c : Condition). with_all_of (record { widths = longer c.widths other.widths; entries = map (entry_seen view) c.entries; most_choices = c.most_choices }) (seen view other)) same
+    ∙ λ i. record { widths = longer (pis i).widths (qis i).widths; entries = (pis i).entries ++ (qis i).entries; most_choices = (pis i).most_choices })

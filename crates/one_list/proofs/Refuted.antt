@@ -1,7 +1,7 @@
 -- Where the decisions of a refuted side lead, the condition is refuted.
 use Rattle.std.proofs.Common.{◌≡◌, ◌∙◌, ℕ, zero, suc, inl, inr, Bool, true, false, List, [], ◌∷◌, ◌++◌, sym, ap, subst, append_assoc, Option, Some, None, option_map, if◌then◌else◌}
 use Rattle.path_cond.specs.Seen.{AllTyped, itself}
-use Rattle.refutation_check.specs.Longer.{WidenFreely, with_widths}
+use Rattle.refutation_check.specs.Longer.{WidenFreely, with_widths, condition_of}
 use Rattle.refutation_check.specs.Seen.{IsRefuted}
 use Rattle.refutation_check.specs.declared.outcome.Verdict.{Verdict}
 use Rattle.refutation_check.specs.declared.steps.Refute.{Refute}
@@ -135,7 +135,7 @@ module _ (widen : WidenFreely itself)
   first_refuted ds refutation h is =
       let more = (progress_of (node_of s.tree)).choices in
       let there : with_widths (first_condition s) more ≡ condition_on s (at_node s.tree) =
-      λ i. record { widths = s.unknowns ++ more; entries = sym (append_nil (injection_tests s)) i } in
+      λ i. condition_of s.most_choices (s.unknowns ++ more) (sym (append_nil (injection_tests s)) i) in
       record {
         way = at_node s.tree;
         leads = subst (λ q. Leads s q (at_node s.tree)) (sym h.0) (first_way s.tree);
@@ -157,6 +157,7 @@ module _ (widen : WidenFreely itself)
         widths = (ap (λ (t : SymTree). (s.unknowns ++ (progress_of t).choices) ++ more.0) side.waits
             ∙ (append_assoc s.unknowns side.progress.choices more.0 ∙ ap (λ ws. s.unknowns ++ ws) (sym more.1))) i;
         entries = append_assoc (injection_tests s) side.way.tests ((side.test, side.truth) ∷ []) i;
+        most_choices = s.most_choices;
       } in
       record {
         way = way;

@@ -25,7 +25,7 @@ err_not_ok fault x r failed is = cc
 
 module _ {V F : Type 0} (o : Values V F) (net : Network) (i : Entry) (hops : ℕ) where
   abbrev made : Carried V → List F → Start V F
-  made s fs = record { unknowns = unknown_widths i.own.fields; tests = fs; tree = tree_from o net i hops s }
+  made s fs = record { unknowns = unknown_widths i.own.fields; tests = fs; tree = tree_from o net i hops s; most_choices = i.most_choices }
 
   with_tests : (s : Carried V) (result : Result (List F) LayoutFault) (start : Start V F) → on_ok (made s) result ≡ Ok start
       → TreeGrows [] start.tree

@@ -1,5 +1,5 @@
 -- Path conditions over any formulas; each formula is seen as a tree.
-use Rattle.std.specs.Prelude.{ℕ, Bool, true, false, not, ◌&&◌, ◌==◌, List, [], ◌∷◌, map, Option, if◌then◌else◌, slice_index, suc}
+use Rattle.std.specs.Prelude.{ℕ, zero, Bool, true, false, not, ◌&&◌, ◌==◌, List, [], ◌∷◌, map, Option, if◌then◌else◌, slice_index, suc}
 use Rattle.std.specs.List.{list_all, position_from}
 use Rattle.sn_width.specs.declared.ids.SymId.{SymId}
 use Rattle.sn_ranges.specs.Ranges.{fits_width}
@@ -11,10 +11,11 @@ use Rattle.path_formula.specs.Typed.{IsTyped}
 use Rattle.path_formula.specs.declared.kinds.Kind.{Kind}
 use Rattle.path_formula.specs.declared.kinds.Kind.TheVariants.{Constant, Simple, Inside, Outside}
 
--- the widths of symbols, and formulas, each with the truth that it must have
+-- the widths of symbols; formulas, each with the truth that it must have; and a bound on the choices of cases that decisions try
 pub record ConditionOf (X : Type 0) : Type 0 where
   pub widths : List ℕ
   pub entries : List (X × Bool)
+  pub most_choices : ℕ
 
 -- a formula of this kind is constant, and has not the truth that it must have
 abbrev pub is_broken_kind : Bool → Kind → Bool
@@ -22,6 +23,11 @@ is_broken_kind holds (Constant truth) = not (agrees holds truth)
 is_broken_kind holds (Simple s) = false
 is_broken_kind holds Inside = false
 is_broken_kind holds Outside = false
+
+-- how many choices of cases are tried under a bound: as many as it says, and one at least
+abbrev pub tried : ℕ → ℕ
+tried zero = 1
+tried (suc more) = suc more
 
 -- a formula that is a tree is seen as itself
 abbrev pub itself : FormulaTree → FormulaTree
@@ -79,4 +85,4 @@ module _ {X : Type 0} (tree : X → FormulaTree) where
 
   -- the condition with the trees of its formulas
   abbrev pub seen : ConditionOf X → ConditionOf FormulaTree
-  seen cond = record { widths = cond.widths; entries = map entry_seen cond.entries }
+  seen cond = record { widths = cond.widths; entries = map entry_seen cond.entries; most_choices = cond.most_choices }

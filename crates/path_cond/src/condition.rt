@@ -18,9 +18,10 @@ use sn_width::{NoMemory, Num, SymId, Width};
 use std::alloc::Global;
 use std::marker::Model;
 
-/// The widths of symbols, and formulas over them, each with the truth that it must have. A formula's
-/// pick is its place, from 0. A change makes a new condition that shares what it can with the old
-/// one, and leaves the old one as it was. There are fewer than 2^32 symbols and 2^32 formulas.
+/// The widths of symbols, and formulas over them, each with the truth that it must have; and a bound on
+/// the choices of cases that a decision tries. A formula's pick is its place, from 0. A change makes a new
+/// condition that shares what it can with the old one, and leaves the old one as it was. There are fewer
+/// than 2^32 symbols and 2^32 formulas.
 #[derive(Drop)]
 pub struct PathCond {
     widths: Sequence<Width>,
@@ -31,6 +32,7 @@ pub struct PathCond {
     simple: Tree<u64, Shared<u32>>,
     /// What else is kept of the formulas.
     summary: Summary,
+    most_choices: u64,
 }
 
 impl Model for PathCond {
@@ -43,7 +45,7 @@ impl Model for PathCond {
 
     ghost coded = { Prim.hlevel (codes, the_formula.the_row.coded) };
 
-    ghost view = { λ c. record { widths = c.widths; entries = c.entries } };
+    ghost view = { λ c. record { widths = c.widths; entries = c.entries; most_choices = c.most_choices } };
 
     ghost invariant = { λ c. IsKept c.widths c.entries c.broken c.simple × IsKnown c.entries c.summary };
 }
@@ -51,13 +53,16 @@ impl Model for PathCond {
 impl PathCond {
     ghost use Rattle.path_cond.specs.Conditions.{AllTyped, Condition, first_broken, holds_at, simple_picks};
     ghost use Rattle.path_cond.specs.Marks.{has_mark};
+    ghost use Rattle.path_cond.specs.Seen.{tried};
     ghost use Rattle.path_cond.specs.Summaries.{coupled_count, coupled_symbols, formula_choices, first_without_cases, inside_picks, is_coupled, outside_picks, singles};
     ghost use Rattle.sn_width.specs.declared.ids.SymId.{SymId as Symbol};
     ghost use Rattle.path_formula.specs.CaseCounts.{capped};
 
-    /// The condition without formulas over symbols of these widths.
-    pub fn new(alloc: Global, widths: Vec<Width>) -> Result<PathCond, NoMemory>
-        ensures { IfOk result (λ c. c ≡ record { widths = widths.items; entries = [] }) }
+    /// The condition without formulas over symbols of these widths, of which at most `most_choices` choices of
+    /// cases are tried.
+    pub fn new(alloc: Global, widths: Vec<Width>, most_choices: u64) -> Result<PathCond, NoMemory>
+        ensures { IfOk result (λ c. c
+            ≡ record { widths = widths.items; entries = []; most_choices = most_choices }) }
     {
         let widths = Sequence::from_vec(alloc, &widths)?;
         Ok(PathCond {
@@ -66,6 +71,7 @@ impl PathCond {
             broken: None,
             simple: Tree::empty(),
             summary: Summary::new(),
+            most_choices,
         })
     }
 
@@ -85,7 +91,25 @@ impl PathCond {
                 broken,
                 simple,
                 summary,
+                most_choices: self.most_choices,
             }),
+        }
+    }
+
+    /// The bound on the choices of cases that are tried.
+    pub fn most_choices(&self) -> u64
+        ensures { result ≡ self.now.most_choices }
+    {
+        self.most_choices
+    }
+
+    /// How many choices of cases are tried: as many as the bound says, and one at least.
+    pub fn tried_choices(&self) -> u64
+        ensures { result ≡ tried self.now.most_choices }
+    {
+        match self.most_choices {
+            0 => 1,
+            most => most,
         }
     }
 
@@ -124,7 +148,7 @@ impl PathCond {
     /// The condition with one symbol more, which comes after the others.
     pub fn with_symbol(&self, alloc: Global, width: Width) -> Result<PathCond, NoMemory>
         ensures { IfOk result (λ c. c
-            ≡ record { widths = self.now.widths ++ width ∷ []; entries = self.now.entries }) }
+            ≡ record self.now { widths = self.now.widths ++ width ∷ [] }) }
     {
         let widths = self.widths.push(alloc, width)?;
         let entries = self.entries.fork()?;
@@ -138,6 +162,7 @@ impl PathCond {
                 broken,
                 simple,
                 summary,
+                most_choices: self.most_choices,
             }),
         }
     }
@@ -146,7 +171,7 @@ impl PathCond {
     pub fn with(&self, alloc: Global, formula: Formula, holds: bool) -> Result<PathCond, NoMemory>
         requires { IsTyped self.now.widths (view formula) }
         ensures { IfOk result (λ c. c
-            ≡ record { widths = self.now.widths; entries = self.now.entries ++ (formula, holds) ∷ [] }) }
+            ≡ record self.now { entries = self.now.entries ++ (formula, holds) ∷ [] }) }
     {
         let kind = formula.kind();
         let pick = self.entries.len();
@@ -162,6 +187,7 @@ impl PathCond {
             broken,
             simple,
             summary,
+            most_choices: self.most_choices,
         })
     }
 

@@ -23,11 +23,11 @@ over_trees c judged typed (Unsat refutation) h = (
 over_trees c judged typed (Undecided cause) h = (cause, (judged.undecided cause).0 h)
 
 module _ (condition longer : Condition) (f : Formula)
-    (is : longer ≡ record { widths = condition.widths; entries = condition.entries ++ (f, true) ∷ [] }) where
+    (is : longer ≡ record condition { entries = condition.entries ++ (f, true) ∷ [] }) where
   trees_are : seen view longer ≡ with_test (seen view condition) (view f) true
   trees_are =
       ap (seen view) is
-      ∙ (λ j. record { widths = condition.widths; entries = map-append (entry_seen view) condition.entries ((f, true) ∷ []) j })
+      ∙ (λ j. record { widths = condition.widths; entries = map-append (entry_seen view) condition.entries ((f, true) ∷ []) j; most_choices = condition.most_choices })
 
   -- what is said of the longer condition is said of the trees with this one more
   pub says_with : {E : Type 0} (tree : FormulaTree) → view f ≡ tree → (r : Result Judged E) → IfOk r (Says (seen view longer))

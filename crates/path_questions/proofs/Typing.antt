@@ -82,7 +82,7 @@ module _ (net : Network) (i : Entry) (hops : ℕ) (start : SymStart) where
     pub tree : start.tree ≡ tree_from (terms (unknown_count i)) net i hops carried
 
   abbrev started : Carried LinearTerm → List FormulaTree → SymStart
-  started c fs = record { unknowns = unknown_widths i.own.fields; tests = fs; tree = tree_from (terms (unknown_count i)) net i hops c }
+  started c fs = record { unknowns = unknown_widths i.own.fields; tests = fs; tree = tree_from (terms (unknown_count i)) net i hops c; most_choices = i.most_choices }
 
   begun_with : (c : Carried LinearTerm) → injected (terms (unknown_count i)) (scene_at net i.node) i.own ≡ Ok c
       → (fs : Result (List FormulaTree) LayoutFault) → on_ok (started c) fs ≡ Ok start → Begun

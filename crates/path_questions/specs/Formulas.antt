@@ -59,7 +59,7 @@ start_or none (Ok start) = start
 start_or none (Err fault) = none
 
 abbrev pub no_start : SymStart
-no_start = record { unknowns = []; tests = []; tree = over (starting nothing) Stopped }
+no_start = record { unknowns = []; tests = []; tree = over (starting nothing) Stopped; most_choices = 0 }
 
 module _ (net : Network) (i : Entry) (hops : ℕ) where
   abbrev pub explored : SymStart

@@ -61,5 +61,5 @@ module _ {B : Type 0} {origin : Ghosts B} (s : SymStart) (net : Network) (next :
           truth = b.truth;
           offered = b.offered;
         };
-        condition = is ∙ (λ j. record { widths = widths j; entries = entries j });
+        condition = is ∙ (λ j. record { widths = widths j; entries = entries j; most_choices = run.most_choices j });
       }

@@ -1,5 +1,6 @@
 -- The condition of an injection, and that one thing is explored.
 use Rattle.std.proofs.Common.{◌≡◌, ℕ, true, List, [], ◌∷◌, length, map, Option, Result, Ok, Err, refl, sym, ap, subst, ◌∙◌}
+use Rattle.refutation_check.specs.Longer.{condition_of}
 use Rattle.path_formula.specs.Formulas.{FormulaTree}
 use Rattle.path_formula.specs.View.{view}
 use Rattle.path_cond.specs.Conditions.{Entry}
@@ -34,13 +35,14 @@ pub first_seen : (s : SymStart) (net : Network) (hops : ℕ) (node : NodeId) (po
     → trees_of x.condition ≡ first_condition s
 first_seen s net hops node port x first =
     let entries = true_entries x.condition.entries first.true_tests ∙ ap (map (λ (f : FormulaTree). (f, true))) (sym first.tests) in
-    λ i. record { widths = sym first.unknowns i; entries = entries i }
+    λ i. condition_of (sym first.most_choices i) (sym first.unknowns i) (entries i)
 
 -- the state of an injection is the first of what is explored there
 pub first_of : (net : Network) (i : Injection) (hops : ℕ) (x : Symbolic) → Begins net i x → IsFirstState (start_in net i hops x) net hops i.node i.own.port x
 first_of net i hops x begins = record {
   unknowns = refl;
   tests = refl;
+  most_choices = refl;
   tree = ap (λ (u : ℕ). enter (terms u) net hops i.node i.own.port (starting x.carried)) (sym begins.unknown_fields);
   true_tests = begins.true_tests;
   fields = begins.unknown_fields ∙ ap length (sym begins.widths);

@@ -1,6 +1,7 @@
 -- Where decisions lead, as a stop.
 use Rattle.std.proofs.Common.{◌≡◌, ℕ, List, ◌∷◌, [], ◌++◌, drop, length, reverse, Option, Some, None, refl, sym, ap, subst, ◌∙◌}
 use Rattle.std.proofs.lemmas.List.{take-append-drop}
+use Rattle.refutation_check.specs.Longer.{condition_of}
 use Rattle.net_check.specs.Network.{Network}
 use Rattle.refutation_check.specs.declared.outcome.Verdict.{Verdict}
 use Rattle.sefl_meaning.specs.declared.walk.Decision.{Decision}
@@ -60,7 +61,7 @@ module _ (s : SymStart) (ds : List Decision) (x : Symbolic) (tree : ℕ → SymT
   condition_led =
       let widths = led.widths ∙ ap (λ (t : SymTree). s.unknowns ++ (progress_of t).choices) (sym led.left) in
       let entries = sym (all_entries s x run) ∙ ap (λ l. injection_tests s ++ l) (sym led.tests) in
-      λ j. record { widths = widths j; entries = entries j }
+      λ j. condition_of (run.most_choices j) (widths j) (entries j)
 
   -- what they lead to is a stop
   stop_here : (how : Option End) → StopsAs led.way.left how → (progress_of (tree begun)).state ≡ x.carried

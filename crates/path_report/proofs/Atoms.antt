@@ -55,6 +55,9 @@ module _ (net : Network) where
   pub id_form : (d : Data) → HasForm net part.Id d → IsCount 0 4294967295 d
   id_form d h = counted part.Id 0 4294967295 refl d h
 
+  pub cases_form : (d : Data) → HasForm net part.Cases d → IsCount 1 18446744073709551615 d
+  cases_form d h = counted part.Cases 1 18446744073709551615 refl d h
+
   pub hops_form : (d : Data) → HasForm net part.Hops d → IsCount 1 256 d
   hops_form d h = counted part.Hops 1 256 refl d h
 

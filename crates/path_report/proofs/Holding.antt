@@ -15,7 +15,7 @@ use Rattle.net_check.specs.Network.{Network}
 use Rattle.report_shape.specs.declared.part.Part.{Part}
 use Rattle.report_shape.specs.declared.part.Part.TheVariants as part
 use Rattle.report_shape.specs.Forms.{Field}
-use Rattle.report_shape.specs.Shape.{report_fields, path_fields, pruned_fields, unexplored_fields, fault_fields, message_fields, carried_fields, counted_fields, outside_fields}
+use Rattle.report_shape.specs.Shape.{path_fields, pruned_fields, unexplored_fields, fault_fields, message_fields, carried_fields, counted_fields, outside_fields}
 use Rattle.report_shape.specs.Faults.{fault, members_fault, keys_are, part_of, under, picked, if_keys}
 use Rattle.report_names.specs.Names.{knows}
 use Rattle.path_report.specs.Having.{HasForm, Holds}
@@ -55,12 +55,9 @@ module _ (net : Network) where
   chosen_by fs ms false keys parts none = cc
 
   -- an object whose form is these fields has them
-  chosen : (fs : List Field) (ms : Members) → AllByRecursion (λ (f : Field). part_of fs f.0 ≡ f.1) fs →
+  pub chosen : (fs : List Field) (ms : Members) → AllByRecursion (λ (f : Field). part_of fs f.0 ≡ f.1) fs →
       picked (if_keys fs ms) (λ gs. members_fault (knows net) gs ms) ≡ None → Holds net fs ms
   chosen fs ms parts none = chosen_by fs ms (keys_are fs ms) refl parts none
-
-  pub report_held : (ms : Members) → HasForm net part.Report (object ms) → Holds net report_fields ms
-  report_held ms h = chosen report_fields ms (refl, (refl, (refl, (refl, (refl, (refl, tt)))))) h
 
   pub carried_held : (ms : Members) → HasForm net part.Fields (object ms) → Holds net carried_fields ms
   carried_held ms h = chosen carried_fields ms (refl, (refl, (refl, tt))) h

@@ -43,6 +43,7 @@ small_range (Some r) = not (int_lt (pos 18446744073709551615) r.1) && not (int_l
 
 small : (p : Part) → small_range (form p).number ≡ true
 small part.Report = refl
+small part.Cases = refl
 small part.Hops = refl
 small part.Limit = refl
 small part.Records = refl
@@ -204,6 +205,7 @@ sorted (f ∷ fs) (member l x ms) h e =
 
 unfoldable rank : Part → ℕ
 rank part.Report = 10
+rank part.Cases = 0
 rank part.Hops = 0
 rank part.Limit = 0
 rank part.Records = 9
@@ -270,6 +272,7 @@ fields_good r fs = ascend fs && fields_below r fs
 lists_lower : (p : Part) → list_below (rank p) (form p).list ≡ true
 unfolding rank
 lists_lower part.Report = refl
+lists_lower part.Cases = refl
 lists_lower part.Hops = refl
 lists_lower part.Limit = refl
 lists_lower part.Records = refl
@@ -314,6 +317,7 @@ lists_lower part.Nothing = refl
 objects_good : (p : Part) → object_passes (fields_good (rank p)) (form p).object ≡ true
 unfolding rank
 objects_good part.Report = refl
+objects_good part.Cases = refl
 objects_good part.Hops = refl
 objects_good part.Limit = refl
 objects_good part.Records = refl
@@ -491,6 +495,7 @@ module _ (knows : Part → List ℕ → Bool) where
 top : (p : Part) → rank p ≤ 10
 unfolding rank
 top part.Report = omega arith
+top part.Cases = omega arith
 top part.Hops = omega arith
 top part.Limit = omega arith
 top part.Records = omega arith

@@ -90,11 +90,11 @@ goes_on net text items more u item v pushed all one = subst (λ xs. AreRead net 
 -- a report is its pieces
 abbrev pub JoinsPieces : Type 0
 JoinsPieces = (net : Network) (report : Report) →
-    report_text net report ≡ head_text report.hops report.limit ++ (record_pieces false (map (record_data net) report.records.items) ++ tail_text report.refuted report.complete)
+    report_text net report ≡ head_text report.cases report.hops report.limit ++ (record_pieces false (map (record_data net) report.records.items) ++ tail_text report.refuted report.complete)
 
 -- the report that has these around its records
 abbrev pub framing : Report → Vec Record Global → Report
-framing frame records = record { hops = frame.hops; limit = frame.limit; records = records; refuted = frame.refuted; complete = frame.complete }
+framing frame records = record { cases = frame.cases; hops = frame.hops; limit = frame.limit; records = records; refuted = frame.refuted; complete = frame.complete }
 
 pub printed : JoinsPieces → (net : Network) (bytes : List ℕ) (frame : Report) (start : Reading) (records : Vec Record Global) →
     IsOpened net bytes frame start → BeginsWithAll net records.items start.left [] → IsPrinted net bytes (framing frame records)
@@ -105,9 +105,10 @@ printed joins net bytes frame start records opened all =
     let text : middle ≡ pieces = all.text ∙ append-nil pieces in record {
       utf8 = opened.utf8;
       text =
-          opened.cut ∙ ap (λ s. s ++ (middle ++ tail)) opened.framed.before ∙ ap (λ s. head_text frame.hops frame.limit ++ (s ++ tail)) text
-          ∙ ap (λ s. head_text frame.hops frame.limit ++ (pieces ++ s)) opened.framed.behind ∙ sym (joins net (framing frame records));
+          opened.cut ∙ ap (λ s. s ++ (middle ++ tail)) opened.framed.before ∙ ap (λ s. head_text frame.cases frame.hops frame.limit ++ (s ++ tail)) text
+          ∙ ap (λ s. head_text frame.cases frame.hops frame.limit ++ (pieces ++ s)) opened.framed.behind ∙ sym (joins net (framing frame records));
       fits = record {
+        the_cases = opened.framed.fits.the_cases;
         least_hops = opened.framed.fits.least_hops;
         most_hops = opened.framed.fits.most_hops;
         least_limit = opened.framed.fits.least_limit;

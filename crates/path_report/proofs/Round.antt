@@ -1,6 +1,6 @@
 -- The text of a report is read as that report.
 use denote.RawPtr.{null_ptr}
-use Rattle.std.proofs.Common.{◌≡◌, ◌<◌, ◌^◌, ℕ, List, [], ◌∷◌, ◌++◌, length, Bool, Some, None, Result, Ok, Err, refl, sym, ap, ◌∙◌, subst, arith}
+use Rattle.std.proofs.Common.{◌≡◌, ◌<◌, ◌^◌, ℕ, List, [], ◌∷◌, ◌++◌, length, Bool, Option, Some, None, Result, Ok, Err, refl, sym, ap, ◌∙◌, subst, arith}
 use Rattle.std.specs.Global.{Vec}
 use Rattle.std.specs.declared.alloc.Global.{Global}
 use Rattle.std.specs.Prelude.{string_bytes, IsUtf8}
@@ -62,11 +62,12 @@ vec_of heap xs short = record { ptr = null_ptr; len = length xs; cap = length xs
 
 -- where records are the whole text between what stands around them, the bytes show them
 pub records_are_read : ReadsLines → HaveForm → JoinsPieces → (net : Network) (bytes : List ℕ) (frame : Report) (start : Reading) (items : List Record)
-    → IsOpened net bytes frame start → BeginsWithAll net items start.left [] → length items < 2 ^ 63 → ShowsRecords net bytes frame.hops items
+    → IsOpened net bytes frame start → BeginsWithAll net items start.left [] → length items < 2 ^ 63 → ShowsRecords net bytes frame.cases frame.hops items
 records_are_read lines formed joins net bytes frame start items opened all few =
     let records = vec_of frame.records.alloc items few in record {
       report = framing frame records;
       reads = printed_reads lines formed net bytes (framing frame records) (printed joins net bytes frame start records opened all);
+      same_cases = refl;
       same_hops = refl;
       same_records = refl;
     }
@@ -88,32 +89,32 @@ gives_back lines formed one net bytes r h report fits utf8 is =
 
 -- so is the line of a report of any records
 abbrev pub LinesHaveForm : Type 0
-LinesHaveForm = (net : Network) (hops limit : ℕ) (records : List Record) (refuted : ℕ) (complete : Bool) → LineFits net hops limit records refuted
-    → HasForm net part.Report (report_data hops limit (records_data net records) refuted complete)
+LinesHaveForm = (net : Network) (cases : Option ℕ) (hops limit : ℕ) (records : List Record) (refuted : ℕ) (complete : Bool) → LineFits net cases hops limit records refuted
+    → HasForm net part.Report (report_data cases hops limit (records_data net records) refuted complete)
 
 abbrev pub LinesAreOne : Type 0
-LinesAreOne = (net : Network) (hops limit : ℕ) (records : List Record) (refuted : ℕ) (complete : Bool) (found : Report)
-    → LineFits net hops limit records refuted → ReportFits net found → report_data hops limit (records_data net records) refuted complete ≡ data_of net found
-    → report_seen found ≡ line_seen hops limit records refuted complete
+LinesAreOne = (net : Network) (cases : Option ℕ) (hops limit : ℕ) (records : List Record) (refuted : ℕ) (complete : Bool) (found : Report)
+    → LineFits net cases hops limit records refuted → ReportFits net found → report_data cases hops limit (records_data net records) refuted complete ≡ data_of net found
+    → report_seen found ≡ line_seen cases hops limit records refuted complete
 
-module _ (net : Network) (hops limit : ℕ) (records : List Record) (refuted : ℕ) (complete : Bool) where
+module _ (net : Network) (cases : Option ℕ) (hops limit : ℕ) (records : List Record) (refuted : ℕ) (complete : Bool) where
   abbrev shown : Data
-  shown = report_data hops limit (records_data net records) refuted complete
+  shown = report_data cases hops limit (records_data net records) refuted complete
 
-  line_answer : LinesAreOne → (bytes : List ℕ) (answer : Result Report ReportFault) → LineFits net hops limit records refuted → HasForm net part.Report shown
-      → IsTextOf bytes shown → ReadsReport net bytes answer → Shows (line_seen hops limit records refuted complete) answer
+  line_answer : LinesAreOne → (bytes : List ℕ) (answer : Result Report ReportFault) → LineFits net cases hops limit records refuted → HasForm net part.Report shown
+      → IsTextOf bytes shown → ReadsReport net bytes answer → Shows (line_seen cases hops limit records refuted complete) answer
   line_answer one bytes (Ok found) fits form is h =
-      one net hops limit records refuted complete found fits h.2 (some_is shown (data_of net found) (sym is.value ∙ h.0.value))
+      one net cases hops limit records refuted complete found fits h.2 (some_is shown (data_of net found) (sym is.value ∙ h.0.value))
   line_answer one bytes (Err NotJson) fits form is h = h shown is
   line_answer one bytes (Err (NotReport pointer)) fits form is h =
       let same : h.0 ≡ shown = some_is h.0 shown (sym h.1.value ∙ is.value) in
       some_none (string_bytes pointer) (sym (subst (λ d. fault (knows net) part.Report d ≡ Some (string_bytes pointer)) same h.2) ∙ form)
   line_answer one bytes (Err NoMemory) fits form is h = tt
 
-  pub line_back : ReadsLines → LinesHaveForm → LinesAreOne → (answer : Result Report ReportFault) → LineFits net hops limit records refuted
-      → IsUtf8 (report_line net hops limit records refuted complete) → ReadsReport net (report_line net hops limit records refuted complete) answer
-      → Shows (line_seen hops limit records refuted complete) answer
+  pub line_back : ReadsLines → LinesHaveForm → LinesAreOne → (answer : Result Report ReportFault) → LineFits net cases hops limit records refuted
+      → IsUtf8 (report_line net cases hops limit records refuted complete) → ReadsReport net (report_line net cases hops limit records refuted complete) answer
+      → Shows (line_seen cases hops limit records refuted complete) answer
   line_back lines formed one answer fits utf8 h =
-      let form = formed net hops limit records refuted complete fits in
-      line_answer one (report_line net hops limit records refuted complete) answer fits form
+      let form = formed net cases hops limit records refuted complete fits in
+      line_answer one (report_line net cases hops limit records refuted complete) answer fits form
       (record { utf8 = utf8; value = lines (knows net) part.Report shown form }) h

@@ -18,7 +18,7 @@ pub record IsPrinted (net : Network) (bytes : List ℕ) (report : Report) : Type
 
 -- what stands before and behind the records of this report, which fits
 pub record IsFrame (net : Network) (head tail : List ℕ) (report : Report) : Type 0 where
-  pub before : head ≡ head_text report.hops report.limit
+  pub before : head ≡ head_text report.cases report.hops report.limit
   pub behind : tail ≡ tail_text report.refuted report.complete
   pub fits : ReportFits net report
 
@@ -61,9 +61,10 @@ pub record IsOpened (net : Network) (bytes : List ℕ) (frame : Report) (records
   pub framed : IsFrame net head tail frame
   pub first : records.later ≡ false
 
--- the bytes show a report that has these hops and these records
-pub record ShowsRecords (net : Network) (bytes : List ℕ) (hops : ℕ) (items : List Record) : Type 0 where
+-- the bytes show a report that has these choices of cases, these hops and these records
+pub record ShowsRecords (net : Network) (bytes : List ℕ) (cases : Option ℕ) (hops : ℕ) (items : List Record) : Type 0 where
   pub report : Report
   pub reads : ReadsReport net bytes (Ok report)
+  pub same_cases : report.cases ≡ cases
   pub same_hops : report.hops ≡ hops
   pub same_records : report.records.items ≡ items

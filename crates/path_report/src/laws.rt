@@ -1,6 +1,6 @@
 //! What follows from the definition of what is read of bytes. Each function does nothing: its contract is the law.
 
-ghost use Rattle.std.specs.Prelude.{ℕ, ◌<◌, ◌^◌, Bool, List, [], Result, IsUtf8, length};
+ghost use Rattle.std.specs.Prelude.{ℕ, ◌<◌, ◌^◌, Bool, List, [], Option, Result, IsUtf8, length};
 ghost use Rattle.net_check.specs.Network.{Network};
 ghost use Rattle.path_records.specs.declared.records.Record.{Record};
 ghost use Rattle.record_text.specs.Reports.{report_line};
@@ -18,11 +18,12 @@ use report_forms::laws::{lines_have_their_form, reports_have_their_form};
 /// What is read of the line of a report is that report, where its ids are found by their names and its numbers are in
 /// range: so the line is that of no other report, and is refused for want of memory alone.
 pub fn lines_are_read_back()
-    ensures { (net : Network) (hops limit : ℕ) (records : List Record) (refuted : ℕ) (complete : Bool)
-        (answer : Result ReportOf FaultOf)
-        → LineFits net hops limit records refuted → IsUtf8 (report_line net hops limit records refuted complete)
-        → ReadsReport net (report_line net hops limit records refuted complete) answer
-        → Shows (line_seen hops limit records refuted complete) answer }
+    ensures { (net : Network) (cases : Option ℕ) (hops limit : ℕ) (records : List Record) (refuted : ℕ)
+        (complete : Bool) (answer : Result ReportOf FaultOf)
+        → LineFits net cases hops limit records refuted
+        → IsUtf8 (report_line net cases hops limit records refuted complete)
+        → ReadsReport net (report_line net cases hops limit records refuted complete) answer
+        → Shows (line_seen cases hops limit records refuted complete) answer }
 {
     lines_have_their_form();
     shaped_lines_are_read();
@@ -32,7 +33,7 @@ pub fn lines_are_read_back()
 pub fn printed_records_are_read()
     ensures { (net : Network) (bytes : List ℕ) (frame : ReportOf) (start : Reading) (items : List Record)
         → IsOpened net bytes frame start → BeginsWithAll net items start.left [] → length items < 2 ^ 63
-        → ShowsRecords net bytes frame.hops items }
+        → ShowsRecords net bytes frame.cases frame.hops items }
 {
     pieces_join();
     reports_have_their_form();

@@ -123,7 +123,7 @@ fn frame(alloc: Global, net: &Net, head: &[u8], tail: &[u8]) -> Result<Option<Re
         Err(ReportFault::NoMemory) => return Err(NoMemory),
         Err(_) => return Ok(None),
     };
-    let before = head_text(alloc, report.hops, report.limit)?;
+    let before = head_text(alloc, report.cases, report.hops, report.limit)?;
     let behind = tail_text(alloc, report.refuted, report.complete)?;
     if before.as_bytes() == head && behind.as_bytes() == tail {
         Ok(Some(report))
@@ -363,6 +363,7 @@ fn printed_report<N: OfNet>(
     };
     match all_of(alloc, &mut records)? {
         Some(records) => Ok(Some(Report {
+            cases: frame.cases,
             hops: frame.hops,
             limit: frame.limit,
             records,

@@ -1,18 +1,19 @@
 //! Reports.
 
-ghost use Rattle.std.specs.Prelude.{◌≡◌, IfOk, IsUtf8};
+ghost use Rattle.std.specs.Prelude.{◌≡◌, codes, option_map, IfOk, IsUtf8};
 ghost use Rattle.serde_json.specs.Data.{object};
+ghost use Rattle.serde_json.specs.Find.{get_member};
 ghost use Rattle.serde_json.specs.View.{view, members_view};
 ghost use Rattle.net_check.specs.Network.{network};
 ghost use Rattle.report_shape.specs.declared.part.Part.TheVariants as part;
-ghost use Rattle.report_shape.specs.Shape.{report_fields};
+ghost use Rattle.run_text.specs.Forms.{count};
 ghost use Rattle.record_text.specs.declared.report.Report.{Report};
 ghost use Rattle.record_text.specs.Reports.{data_of, report_text};
-ghost use Rattle.report_forms.specs.Fits.{ReportFits};
-ghost use Rattle.path_report.specs.Having.{HasForm, Holds};
+ghost use Rattle.report_forms.specs.Fits.{CasesFit, ReportFits};
+ghost use Rattle.path_report.specs.Having.{HasForm, HoldsReport};
 ghost use Rattle.path_report.specs.Reading.{refusal, ReadsReport, GivesBack};
 
-use crate::decoder::{Decoder, field};
+use crate::decoder::{Decoder, field, member};
 use crate::lines::shaped_lines_are_read;
 use crate::printed::read_printed;
 use net_check::Net;
@@ -56,19 +57,33 @@ fn refusal(fault: ShapeFault) -> ReportFault
 }
 
 impl Decoder<'_> {
+    /// The most choices of cases, where they are said.
+    fn cases_of(&self, members: &Map<String, Value>) -> Option<u64>
+        requires { HoldsReport (network self.now.net.now) (members_view members.now.entries) }
+        ensures shown { option_map count result ≡ get_member (codes "cases") (members_view members.now.entries) }
+        ensures fits { CasesFit result }
+    {
+        match member(members, "cases") {
+            Some(value) => value.as_u64(),
+            None => None,
+        }
+    }
+
     #[tactic(auto, unfolding(record_text::specs::Reports::report_data))]
     fn report_of(&self, alloc: Global, members: &Map<String, Value>) -> Result<Report, NoMemory>
-        requires { Holds (network self.now.net.now) report_fields (members_view members.now.entries) }
+        requires { HoldsReport (network self.now.net.now) (members_view members.now.entries) }
         ensures shown { IfOk result (λ report. data_of (network self.now.net.now) report
             ≡ object (members_view members.now.entries)) }
         ensures fits { IfOk result (λ report. ReportFits (network self.now.net.now) report) }
     {
+        let cases = self.cases_of(members);
         let hops = self.hops(field(members, "hops"));
         let limit = self.limit(field(members, "limit"));
         let records = self.records(alloc, field(members, "records"))?;
         let refuted = self.count(field(members, "refuted"));
         let complete = self.complete(field(members, "state"));
         Ok(Report {
+            cases,
             hops,
             limit,
             records,

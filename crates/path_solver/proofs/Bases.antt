@@ -72,7 +72,7 @@ stay_least law cond b values base is holds =
     let new = subst (λ vs. list_all (holds_unless_outside vs) (drop k cond.entries) ≡ true) is holds in
     let all = law.wider (front_of n k cond) (drop n cond.widths) (drop k cond.entries) b.least base.typed base.least new in
     let whole : with_entries (with_widths (front_of n k cond) (drop n cond.widths)) (drop k cond.entries) ≡ cond =
-    λ i. record { widths = take-append-drop n cond.widths i; entries = take-append-drop k cond.entries i } in
+    λ i. record cond { widths = take-append-drop n cond.widths i; entries = take-append-drop k cond.entries i } in
     subst (λ (c : Condition). AreLeast c values) whole (subst (λ vs. AreLeast (with_entries (with_widths (front_of n k cond) (drop n cond.widths)) (drop k cond.entries)) vs) (sym is) all)
 
 -- with the first formulas alone the condition has the values of the base, with zeros behind
@@ -84,7 +84,7 @@ front_least law cond b values base is =
     let longer = with_entries (with_widths (front_of n k cond) (drop n cond.widths)) [] in
     let all = law.wider (front_of n k cond) (drop n cond.widths) [] b.least base.typed base.least refl in
     let front : longer ≡ with_first k cond =
-    λ i. record { widths = take-append-drop n cond.widths i; entries = append-nil (take k cond.entries) i } in
+    λ i. record cond { widths = take-append-drop n cond.widths i; entries = append-nil (take k cond.entries) i } in
     subst (λ (c : Condition). AreLeast c values) front (subst (λ vs. AreLeast longer vs) (sym is) all)
 
 take_whole : {X : Type 0} (xs : List X) (n : ℕ) → n ≡ length xs → take n xs ≡ xs
@@ -111,7 +111,7 @@ least_base : (c : Condition) (b : Base) → AllTyped c.widths c.entries → b.fo
 least_base c b typed count least broken =
     let one_each = least.candidates.fitting.one_each in
     let front : front_of (length b.least) b.formulas c ≡ c =
-    λ i. record { widths = take_whole c.widths (length b.least) one_each i; entries = take_whole c.entries b.formulas count i } in
+    λ i. record c { widths = take_whole c.widths (length b.least) one_each i; entries = take_whole c.entries b.formulas count i } in
     record {
       symbols = omega (arith, one_each);
       formulas = omega (arith, count);
@@ -145,13 +145,13 @@ pub base_wider : (c : Condition) (b : Base) (widths : List ℕ) → IsBaseOf c b
 base_wider c b widths h =
     let longer = append_longer c.widths widths in
     same_front c (with_widths c widths) b (omega (arith, longer, h.symbols)) h.formulas
-    (λ i. record { widths = take_front c.widths widths (length b.least) h.symbols i; entries = take b.formulas c.entries }) h
+    (λ i. record c { widths = take_front c.widths widths (length b.least) h.symbols i; entries = take b.formulas c.entries }) h
 
 pub base_longer : (c : Condition) (b : Base) (more : List Entry) → IsBaseOf c b → IsBaseOf (with_entries c more) b
 base_longer c b more h =
     let longer = append_longer c.entries more in
     same_front c (with_entries c more) b h.symbols (omega (arith, longer, h.formulas))
-    (λ i. record { widths = take (length b.least) c.widths; entries = take_front c.entries more b.formulas h.formulas i }) h
+    (λ i. record c { widths = take (length b.least) c.widths; entries = take_front c.entries more b.formulas h.formulas i }) h
 
 -- ---- the first broken outside formula
 

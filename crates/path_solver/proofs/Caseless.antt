@@ -10,13 +10,14 @@ use Rattle.path_formula.specs.View.{view}
 use Rattle.path_formula.specs.declared.kinds.Kind.{Kind}
 use Rattle.path_formula.specs.declared.kinds.Kind.TheVariants.{Constant, Simple, Inside, Outside}
 use Rattle.path_cond.specs.Conditions.{Condition, Entry, AllTyped, entry_holds}
+use Rattle.path_cond.specs.Seen.{tried}
 use Rattle.path_formula.specs.Bounds.{is_one_met}
 use Rattle.path_formula.specs.Cases.{cases_of}
 use Rattle.path_formula.specs.CaseCounts.{capped}
 use Rattle.path_cond.specs.Counts.{entry_case_count, product, formula_choices, range_choices, choice_count, has_no_cases, first_without_cases}
 use Rattle.path_cond.specs.Coupled.{coupled_count, is_inside, is_inside_kind}
 use Rattle.refutation_check.specs.Accepted.{IsAccepted}
-use Rattle.refutation_check.specs.Decisions.{IsRefuted, most_coupled, most_choices}
+use Rattle.refutation_check.specs.Decisions.{IsRefuted, most_coupled}
 use Rattle.refutation_check.specs.Least.{is_outside_kind, holds_unless_outside}
 use Rattle.refutation_check.specs.declared.steps.Refute.TheVariants.{Split}
 use Rattle.path_solver.specs.Laws.{Facts}
@@ -93,7 +94,7 @@ split_refutes facts typed_at c pick typed first few =
     let entry_typed = typed_at c pick e typed at in
     let splits = facts.inside_splits (view e.0) c.widths kind entry_typed in
     let zero_choices : formula_choices c * range_choices c ≡ 0 = ap (λ n. n * range_choices c) (no_product c.entries pick e at none) ∙ zero_times (range_choices c) in
-    let within : choice_count c ≤ most_choices = subst (λ n. capped n ≤ most_choices) (sym zero_choices) (omega arith) in (
+    let within : choice_count c ≤ tried c.most_choices = subst (λ n. capped n ≤ tried c.most_choices) (sym zero_choices) (omega arith) in (
       inr (record {
         within = record { coupled = few; choices = within };
         no_candidates = λ values h.

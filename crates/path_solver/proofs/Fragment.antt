@@ -1,5 +1,5 @@
 -- Conditions that are always decided, and what their values are.
-use Rattle.std.proofs.Common.{◌≡◌, ◌⊎◌, ℕ, zero, suc, ◌*◌, ◌<◌, Bool, true, false, cond, ◌&&◌, ◌||◌, nat_eq, List, [], ◌∷◌, map, length, Some, None, Option, refl, sym, ap, ap₂, subst, ◌∙◌, arith, inl, inr}
+use Rattle.std.proofs.Common.{◌≡◌, ◌⊎◌, ℕ, zero, suc, ◌*◌, ◌<◌, ◌≤◌, Bool, true, false, cond, ◌&&◌, ◌||◌, nat_eq, List, [], ◌∷◌, map, length, Some, None, Option, refl, sym, ap, ap₂, subst, ◌∙◌, arith, inl, inr}
 use Rattle.std.specs.Prelude.{slice_index, slice_set}
 use Rattle.std.specs.List.{list_any}
 use Rattle.std.proofs.lemmas.Bool.{eqb-true}
@@ -7,6 +7,7 @@ use Rattle.std.proofs.lemmas.List.{length-set, get_or-set_same}
 use Rattle.sn_width.specs.declared.ids.SymId.{SymId}
 use Rattle.path_formula.specs.View.{view}
 use Rattle.path_cond.specs.Conditions.{Condition, Entry, AllTyped, first_broken, is_possible}
+use Rattle.path_cond.specs.Seen.{tried}
 use Rattle.path_formula.specs.Cases.{cases_of}
 use Rattle.path_formula.specs.CaseCounts.{capped}
 use Rattle.interval_solver.specs.Verdicts.{IsLeastPossible, AreLeastValues}
@@ -79,11 +80,15 @@ one_choice c h =
     ap₂ (λ (m n : ℕ). capped (m * n)) (all_one c.entries h)
     (ap (λ (symbols : List SymId). product (map (range_count c) symbols)) (none_coupled c h))
 
+one_is_tried : (most : ℕ) → 1 ≤ tried most
+one_is_tried zero = omega arith
+one_is_tried (suc more) = omega arith
+
 limits_kept : (c : Condition) → HasNoInside c → IsWithinLimits c
 limits_kept c h =
     record {
       coupled = omega (arith, ap (λ (symbols : List SymId). length symbols) (none_coupled c h));
-      choices = omega (arith, one_choice c h);
+      choices = omega (arith, one_choice c h, one_is_tried c.most_choices);
     }
 
 within : (c : Condition) → IsWithinLimits c ⊎ HasNoInside c → IsWithinLimits c

@@ -82,14 +82,14 @@ unmet_not false c e = refl
 
 -- a formula that is not simple on a symbol changes none of its possible values
 possible_front : (c : Condition) (front : List Entry) (e : Entry) (r : SymId) (value : ℕ) → c.entries ≡ front ++ e ∷ [] → is_entry_on r e ≡ false
-    → is_possible c r value ≡ is_possible (record { widths = c.widths; entries = front }) r value
+    → is_possible c r value ≡ is_possible (record c { entries = front }) r value
 possible_front c front e r value split other =
     ap (λ b. fits_width (slice_index c.widths r.0) value && b)
     (ap (λ (es : List Entry). list_all (meets r (alone r value)) es) split
     ∙ all_last (meets r (alone r value)) front e (unmet_not (is_entry_on r e) (entry_holds (alone r value) e) other))
 
 least_front : (c : Condition) (front : List Entry) (e : Entry) (r : SymId) (value : ℕ) → c.entries ≡ front ++ e ∷ [] → is_entry_on r e ≡ false
-    → IsLeastPossible (record { widths = c.widths; entries = front }) r value → IsLeastPossible c r value
+    → IsLeastPossible (record c { entries = front }) r value → IsLeastPossible c r value
 least_front c front e r value split other h =
     record {
       possible = possible_front c front e r value split other ∙ h.possible;
@@ -121,7 +121,7 @@ possible_least facts c values typed none unbroken h =
 
 moved_at : (c : Condition) (s : SymId) (value : ℕ) (values : List ℕ) (front : List Entry) (e : Entry) (r : SymId) (b : Bool) → nat_eq s.0 r.0 ≡ b
     → c.entries ≡ front ++ e ∷ [] → is_entry_on s e ≡ true → IsLeastPossible c s value
-    → AreLeastValues (record { widths = c.widths; entries = front }) values
+    → AreLeastValues (record c { entries = front }) values
     → r.0 < length c.widths → IsLeastPossible c r (slice_index (slice_set values s.0 value) r.0)
 moved_at c s value values front e r true same split on least h known =
     let here : s.0 ≡ r.0 = eqb-true s.0 r.0 same in

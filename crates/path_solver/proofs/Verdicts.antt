@@ -8,11 +8,11 @@ use Rattle.sn_width.specs.declared.ids.SymId.{SymId}
 use Rattle.path_formula.specs.Formulas.{FormulaTree}
 use Rattle.path_formula.specs.View.{view}
 use Rattle.path_cond.specs.Conditions.{AllTyped, Condition, holds_at}
-use Rattle.path_cond.specs.Seen.{ConditionOf, first_broken, in_domain}
+use Rattle.path_cond.specs.Seen.{ConditionOf, first_broken, in_domain, tried}
 use Rattle.path_cond.specs.Occurring.{symbol_at}
 use Rattle.path_cond.specs.Choices.{coupled_count, choice_count}
 use Rattle.refutation_check.specs.Accepted.{IsAccepted}
-use Rattle.refutation_check.specs.Seen.{most_coupled, most_choices, is_possible, HasEmptyDomain, IsSimplyOpen, IsWithinLimits, IsRefuted, IsUndecidedBy, IsMetBy, AreCandidates, AreLeast, holds_unless_outside, first_broken_outside}
+use Rattle.refutation_check.specs.Seen.{most_coupled, is_possible, HasEmptyDomain, IsSimplyOpen, IsWithinLimits, IsRefuted, IsUndecidedBy, IsMetBy, AreCandidates, AreLeast, holds_unless_outside, first_broken_outside}
 use Rattle.refutation_check.specs.declared.outcome.Cause.{Cause}
 use Rattle.refutation_check.specs.declared.outcome.Cause.TheVariants.{Outside as OutsideCause, Cases, Coupled}
 use Rattle.refutation_check.specs.declared.steps.Refute.{Refute}
@@ -96,7 +96,7 @@ module _ {X : Type 0} (tree : X → FormulaTree) where
 
   by_choices : (c : ConditionOf X) → IsSimplyOpen tree c → coupled_count tree c ≤ most_coupled → IsOneOfThree c
   by_choices c simply few =
-      elim (cases_lt most_choices (choice_count tree c)) [
+      elim (cases_lt (tried c.most_choices) (choice_count tree c)) [
         | inl many ↦ inr (inl (Cases (choice_count tree c), (few, record { simply_open = simply; is = refl; many = many })))
         | inr le ↦
             by_least c (record { coupled = few; choices = le })

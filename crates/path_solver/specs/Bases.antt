@@ -17,7 +17,7 @@ use Rattle.path_solver.specs.declared.decision.Decided.TheVariants.{Sat, Unsat, 
 
 -- the condition with its first symbols and its first formulas alone, this many of each
 abbrev pub front_of : ℕ → ℕ → Condition → Condition
-front_of symbols formulas cond = record { widths = take symbols cond.widths; entries = take formulas cond.entries }
+front_of symbols formulas cond = record cond { widths = take symbols cond.widths; entries = take formulas cond.entries }
 
 -- the base has the least values of the condition with the first symbols, one for each value, and its first formulas alone, and the
 -- first outside formula of these that they break
@@ -58,7 +58,7 @@ IsExcessOf cond (Some cause) = IsUndecidedBy cond cause
 
 -- the condition with its first formulas alone, this many
 abbrev pub with_first : ℕ → Condition → Condition
-with_first formulas cond = record { widths = cond.widths; entries = take formulas cond.entries }
+with_first formulas cond = record cond { entries = take formulas cond.entries }
 
 -- the last formula, behind this many, is simple on the symbol, no formula is inside, and no constant one is broken
 pub record IsMoved (cond : Condition) (formulas : ℕ) (s : SymId) : Type 0 where

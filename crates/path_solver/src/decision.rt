@@ -26,7 +26,7 @@ use interval_solver::{Domains, SimpleVerdict, decide_simple};
 use path_cond::laws::each_formula_is_typed;
 use path_cond::{PathCond, coupled_symbols};
 use refutation_check::laws::an_accepted_refutation_refutes;
-use refutation_check::{Cause, Listed, MOST_CHOICES, MOST_COUPLED, Refutation, Refute};
+use refutation_check::{Cause, Listed, MOST_COUPLED, Refutation, Refute};
 use sn_width::{NoMemory, Num, SymId};
 use std::alloc::{AllocError, Global};
 
@@ -47,7 +47,7 @@ pub enum Decided {
 /// the formulas that are outside.
 ///
 /// It is Sat or Unsat where each formula is constant or simple, and where each is constant, simple or inside, at most
-/// `MOST_COUPLED` symbols are coupled and there are at most `MOST_CHOICES` choices of cases.
+/// `MOST_COUPLED` symbols are coupled and there are no more choices of cases than are tried.
 ///
 /// Where the least values of the base satisfy each formula that is newer, they stay, and nothing is searched. Where one formula is newer,
 /// simple, and no formula is inside, one value alone moves.
@@ -227,7 +227,7 @@ fn excess_of(
         return Ok(Some(Cause::Coupled { count }));
     }
     let count = count_choices(alloc, cond, domains, symbols)?;
-    if count > MOST_CHOICES {
+    if count > cond.tried_choices() {
         return Ok(Some(Cause::Cases { count }));
     }
     Ok(None)

@@ -25,7 +25,7 @@ with_symbol met width = record met { condition = with_width met.condition width 
 
 -- with one formula more, and the truth that it must have
 abbrev pub with_entry : Met → Entry → Met
-with_entry met entry = record met { condition = record { widths = met.condition.widths; entries = met.condition.entries ++ entry ∷ [] } }
+with_entry met entry = record met { condition = record met.condition { entries = met.condition.entries ++ entry ∷ [] } }
 
 -- with one decision more
 abbrev pub with_decision : Met → Decision → Met

@@ -72,4 +72,4 @@ pub record IsSameAsking (before after : Subject) (asked now : List code.Question
 
 -- an injection without fields; nobody asks about it
 abbrev pub no_entry : Entry
-no_entry = record { own = record { node = []; port = 0; tags = []; fields = []; tests = [] }; node = record { 0 = 0 } }
+no_entry = record { own = record { node = []; port = 0; tags = []; fields = []; tests = [] }; node = record { 0 = 0 }; most_choices = 0 }

@@ -21,12 +21,18 @@ pub(crate) fn put_piece<K: Sink>(piece: &str, out: &mut K) -> Put
 }
 
 /// Puts what stands before the records of a report.
-pub fn put_head<K: Sink>(alloc: Global, hops: u32, limit: u32, out: &mut K) -> Put
+pub fn put_head<K: Sink>(
+    alloc: Global,
+    cases: Option<u64>,
+    hops: u32,
+    limit: u32,
+    out: &mut K,
+) -> Put
     ensures kept { SinkKept (K.told out.old) (K.told out.new) }
     ensures failed { OnFailed result ((K.told out.old).faults < (K.told out.new).faults) }
-    ensures puts { PutAs K.told K.put_gives out.old out.new (head_text hops limit) result }
+    ensures puts { PutAs K.told K.put_gives out.old out.new (head_text cases hops limit) result }
 {
-    match head_text(alloc, hops, limit) {
+    match head_text(alloc, cases, hops, limit) {
         Ok(text) => put_piece(&text, out),
         Err(_) => Put::NoMemory,
     }

@@ -1,6 +1,6 @@
 //! What follows from the definitions of the texts. These functions do nothing: their contracts are the laws.
 
-ghost use Rattle.std.specs.Prelude.{◌≡◌, ◌++◌, ◌∷◌, [], ℕ, Bool, List, map, false};
+ghost use Rattle.std.specs.Prelude.{◌≡◌, ◌++◌, ◌∷◌, [], ℕ, Bool, List, map, false, Option};
 ghost use Rattle.serde_json.specs.Data.{Data};
 ghost use Rattle.serde_json.specs.View.{items_of};
 ghost use Rattle.serde_json.specs.Written.{items_text};
@@ -13,7 +13,7 @@ ghost use Rattle.record_text.specs.Reports.{head_text, record_pieces, tail_text,
 /// The head, the records, each but the first behind a comma, and the tail are the text of the report.
 pub fn pieces_join()
     ensures { (net : Network) (report : Report) → report_text net report
-        ≡ head_text report.hops report.limit ++ (record_pieces false (map (record_data net) report.records.items)
+        ≡ head_text report.cases report.hops report.limit ++ (record_pieces false (map (record_data net) report.records.items)
         ++ tail_text report.refuted report.complete) }
 {}
 
@@ -26,7 +26,8 @@ pub fn lists_are_joined()
 /// The same of the line of a report of any records.
 #[tactic(auto, using(crate::proofs::Pieces::lines_join))]
 pub fn lines_join()
-    ensures { (net : Network) (hops limit : ℕ) (records : List Record) (refuted : ℕ) (complete : Bool)
-        → report_line net hops limit records refuted complete
-        ≡ head_text hops limit ++ (record_pieces false (map (record_data net) records) ++ tail_text refuted complete) }
+    ensures { (net : Network) (cases : Option ℕ) (hops limit : ℕ) (records : List Record) (refuted : ℕ)
+        (complete : Bool) → report_line net cases hops limit records refuted complete
+        ≡ head_text cases hops limit ++ (record_pieces false (map (record_data net) records)
+        ++ tail_text refuted complete) }
 {}

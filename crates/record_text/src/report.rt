@@ -1,11 +1,11 @@
 //! Reports.
 
-ghost use Rattle.std.specs.Prelude.{◌≡◌, string_bytes, IfOk};
+ghost use Rattle.std.specs.Prelude.{◌≡◌, string_bytes, IfOk, OnOk, None, Some};
 ghost use Rattle.serde_json.specs.Data.{string};
 ghost use Rattle.net_check.specs.Network.{network};
-ghost use Rattle.run_text.specs.Tokens.{Gains};
+ghost use Rattle.run_text.specs.Tokens.{EndsObject, Gains};
 ghost use Rattle.record_text.specs.Records.{records_data};
-ghost use Rattle.record_text.specs.Reports.{state_text, report_data, data_of, head_text, tail_text, report_text};
+ghost use Rattle.record_text.specs.Reports.{state_text, with_cases, members_of, report_data, data_of, head_text, tail_text, report_text};
 
 use crate::records::write_record;
 use net_check::Net;
@@ -21,6 +21,8 @@ const ROOM: usize = 4096;
 /// What an exploration told.
 #[derive(Drop)]
 pub struct Report {
+    /// The most choices of cases that were tried, from 1 on, where they are said.
+    pub cases: Option<u64>,
     /// The most hops of a walk, from 1 to 256.
     pub hops: u32,
     /// The most paths and refuted sides, from 1 to 100,000.
@@ -38,11 +40,31 @@ fn state_text(complete: bool) -> &'static str
     if complete { "done" } else { "partial" }
 }
 
-/// The text of a report up to its records.
-pub fn head_text(alloc: Global, hops: u32, limit: u32) -> Result<String, NoMemory>
-    ensures { IfOk result (λ text. string_bytes text ≡ head_text hops limit) }
+fn plain_head(alloc: Global, hops: u32, limit: u32) -> Result<String, NoMemory>
+    ensures { IfOk result (λ text. string_bytes text ≡ head_text None hops limit) }
 {
     Ok(format!(in alloc; "{{\"hops\":{hops},\"limit\":{limit},\"records\":[")?)
+}
+
+fn bounded_head(alloc: Global, cases: u64, hops: u32, limit: u32) -> Result<String, NoMemory>
+    ensures { IfOk result (λ text. string_bytes text ≡ head_text (Some cases) hops limit) }
+{
+    Ok(format!(in alloc; "{{\"cases\":{cases},\"hops\":{hops},\"limit\":{limit},\"records\":[")?)
+}
+
+/// The text of a report up to its records.
+pub fn head_text(
+    alloc: Global,
+    cases: Option<u64>,
+    hops: u32,
+    limit: u32,
+) -> Result<String, NoMemory>
+    ensures { IfOk result (λ text. string_bytes text ≡ head_text cases hops limit) }
+{
+    match cases {
+        None => plain_head(alloc, hops, limit),
+        Some(cases) => bounded_head(alloc, cases, hops, limit),
+    }
 }
 
 /// The text of a report from the end of its records on, with the line feed.
@@ -87,17 +109,17 @@ fn write_state(out: &mut JsonText, complete: bool) -> Result<(), NoMemory>
     out.string(state_text(complete))
 }
 
-#[tactic(auto, unfolding(crate::specs::Reports::report_data))]
-fn write_report(
+/// Writes the members that every report has, and the end of the object.
+#[tactic(auto, unfolding(crate::specs::Reports::report_members))]
+fn write_members(
     alloc: Global,
     out: &mut JsonText,
     net: &Net,
     report: &Report,
 ) -> Result<(), NoMemory>
-    ensures { Gains (data_of (network net.now) report.now) result out.old out.new }
+    ensures { OnOk result (EndsObject (members_of (network net.now) report.now) out.old out.new) }
 {
     objects_are_written();
-    out.begin_object()?;
     out.key("hops")?;
     out.id(report.hops)?;
     out.key("limit")?;
@@ -111,6 +133,54 @@ fn write_report(
     out.key("symnet")?;
     out.count(1)?;
     out.end_object()?;
+    Ok(())
+}
+
+/// Writes the most choices of cases, and the other members.
+fn write_bounded(
+    alloc: Global,
+    out: &mut JsonText,
+    net: &Net,
+    report: &Report,
+    cases: u64,
+) -> Result<(), NoMemory>
+    ensures { OnOk result (EndsObject (with_cases (Some cases) (members_of (network net.now) report.now))
+        out.old out.new) }
+{
+    objects_are_written();
+    out.key("cases")?;
+    out.count(cases)?;
+    write_members(alloc, out, net, report)?;
+    Ok(())
+}
+
+fn write_all_members(
+    alloc: Global,
+    out: &mut JsonText,
+    net: &Net,
+    report: &Report,
+) -> Result<(), NoMemory>
+    ensures { OnOk result (EndsObject (with_cases report.now.cases (members_of (network net.now) report.now))
+        out.old out.new) }
+{
+    match report.cases {
+        None => write_members(alloc, out, net, report),
+        Some(cases) => write_bounded(alloc, out, net, report, cases),
+    }
+}
+
+#[tactic(auto, unfolding(crate::specs::Reports::report_data))]
+fn write_report(
+    alloc: Global,
+    out: &mut JsonText,
+    net: &Net,
+    report: &Report,
+) -> Result<(), NoMemory>
+    ensures { Gains (data_of (network net.now) report.now) result out.old out.new }
+{
+    objects_are_written();
+    out.begin_object()?;
+    write_all_members(alloc, out, net, report)?;
     Ok(())
 }
 

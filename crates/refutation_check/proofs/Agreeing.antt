@@ -6,10 +6,10 @@ use Rattle.std.specs.Option.{option_map}
 use Rattle.sn_width.specs.declared.ids.SymId.{SymId}
 use Rattle.sn_ranges.specs.Ranges.{fits_width}
 use Rattle.path_formula.specs.Formulas.{FormulaTree}
-use Rattle.path_cond.specs.Seen.{ConditionOf, first_broken, in_domain}
+use Rattle.path_cond.specs.Seen.{ConditionOf, first_broken, in_domain, tried}
 use Rattle.path_cond.specs.Choices.{coupled_count, choice_count}
 use Rattle.refutation_check.specs.Longer.{moved}
-use Rattle.refutation_check.specs.Seen.{most_coupled, most_choices, AreFitting, is_possible, holds_unless_outside, first_broken_outside, AreCandidates, AreLeast, HasNoCandidates, HasEmptyDomain, IsSimplyRefuted, IsSimplyOpen, IsWithinLimits, IsRefuted, HasLeast, AreManyCoupled, AreManyChoices, IsUndecidedBy, IsMetBy}
+use Rattle.refutation_check.specs.Seen.{most_coupled, AreFitting, is_possible, holds_unless_outside, first_broken_outside, AreCandidates, AreLeast, HasNoCandidates, HasEmptyDomain, IsSimplyRefuted, IsSimplyOpen, IsWithinLimits, IsRefuted, HasLeast, AreManyCoupled, AreManyChoices, IsUndecidedBy, IsMetBy}
 use Rattle.refutation_check.specs.declared.outcome.Cause.{Cause}
 use Rattle.refutation_check.specs.declared.outcome.Cause.TheVariants.{Outside, Cases, Coupled}
 
@@ -22,6 +22,7 @@ module _ {X Y : Type 0} (f : X → FormulaTree) (g : Y → FormulaTree) where
     pub domains_are : (s : SymId) (value : ℕ) → in_domain f s c value ≡ in_domain g s d value
     pub coupled_are : coupled_count f c ≡ coupled_count g d
     pub choices_are : choice_count f c ≡ choice_count g d
+    pub most_are : c.most_choices ≡ d.most_choices
     pub satisfied_are : (values : List ℕ) → list_all (holds_unless_outside f values) c.entries ≡ list_all (holds_unless_outside g values) d.entries
     pub outside_to : (values : List ℕ) → first_broken_outside g d values ≡ option_map to (first_broken_outside f c values)
     pub outside_from : (values : List ℕ) → first_broken_outside f c values ≡ option_map from (first_broken_outside g d values)
@@ -35,6 +36,7 @@ module _ {X Y : Type 0} (f : X → FormulaTree) (g : Y → FormulaTree) (to from
     domains_are = λ s value. sym (a.domains_are s value);
     coupled_are = sym a.coupled_are;
     choices_are = sym a.choices_are;
+    most_are = sym a.most_are;
     satisfied_are = λ values. sym (a.satisfied_are values);
     outside_to = a.outside_from;
     outside_from = a.outside_to;
@@ -73,7 +75,7 @@ module _ {X Y : Type 0} (f : X → FormulaTree) (g : Y → FormulaTree) (to from
   within : IsWithinLimits f c → IsWithinLimits g d
   within h = record {
     coupled = subst (λ n. n ≤ most_coupled) a.coupled_are h.coupled;
-    choices = subst (λ n. n ≤ most_choices) a.choices_are h.choices;
+    choices = subst (λ n. choice_count g d ≤ tried n) a.most_are (subst (λ n. n ≤ tried c.most_choices) a.choices_are h.choices);
   }
 
   pub empty : HasEmptyDomain f c → HasEmptyDomain g d
@@ -111,7 +113,11 @@ module _ {X Y : Type 0} (f : X → FormulaTree) (g : Y → FormulaTree) (to from
   many_coupled count h = record { simply_open = simply_open h.simply_open; is = h.is ∙ a.coupled_are; many = h.many }
 
   pub many_choices : (count : ℕ) → AreManyChoices f c count → AreManyChoices g d count
-  many_choices count h = record { simply_open = simply_open h.simply_open; is = h.is ∙ a.choices_are; many = h.many }
+  many_choices count h = record {
+    simply_open = simply_open h.simply_open;
+    is = h.is ∙ a.choices_are;
+    many = subst (λ n. tried n < count) a.most_are h.many;
+  }
 
   pub undecided : (cause : Cause) → IsUndecidedBy f c cause → IsUndecidedBy g d (moved to cause)
   undecided (Coupled count) h = many_coupled count h
@@ -126,17 +132,18 @@ same_map (Some n) = refl
 module _ {X Y : Type 0} (f : X → FormulaTree) (g : Y → FormulaTree) (c : ConditionOf X) (d : ConditionOf Y) where
   pub agree_throughout : c.widths ≡ d.widths → first_broken f c ≡ first_broken g d
       → ((s : SymId) (value : ℕ) → in_domain f s c value ≡ in_domain g s d value)
-      → coupled_count f c ≡ coupled_count g d → choice_count f c ≡ choice_count g d
+      → coupled_count f c ≡ coupled_count g d → choice_count f c ≡ choice_count g d → c.most_choices ≡ d.most_choices
       → ((values : List ℕ) → list_all (holds_unless_outside f values) c.entries ≡ list_all (holds_unless_outside g values) d.entries)
       → ((values : List ℕ) → first_broken_outside f c values ≡ first_broken_outside g d values)
       → Agrees f g (λ n. n) (λ n. n) c d
-  agree_throughout widths broken domains coupled choices satisfied outside = record {
+  agree_throughout widths broken domains coupled choices most satisfied outside = record {
     widths_are = widths;
     broken_to = sym broken ∙ same_map (first_broken f c);
     broken_from = broken ∙ same_map (first_broken g d);
     domains_are = domains;
     coupled_are = coupled;
     choices_are = choices;
+    most_are = most;
     satisfied_are = satisfied;
     outside_to = λ values. sym (outside values) ∙ same_map (first_broken_outside f c values);
     outside_from = λ values. outside values ∙ same_map (first_broken_outside g d values);

@@ -95,7 +95,7 @@ last_off : {E : Type 0} (p : E → Bool) (e : E) → p e ≡ false → (n : ℕ)
 last_off p e off n [] = ap (λ b. cond b (Some n) None) off
 last_off p e off n (x ∷ xs) = ap (λ (o : Option ℕ). cond (p x) (Some n) o) (last_off p e off (n + 1) xs)
 
-module _ {X : Type 0} (tree : X → FormulaTree) (law : OneTruth) (widths : List ℕ) (e : X × Bool) (is : kind_of (tree e.0) ≡ Constant e.1) where
+module _ {X : Type 0} (tree : X → FormulaTree) (law : OneTruth) (most : ℕ) (widths : List ℕ) (e : X × Bool) (is : kind_of (tree e.0) ≡ Constant e.1) where
   holds : (values : List ℕ) → entry_holds tree values e ≡ true
   holds values = ap (agrees e.1) (law (tree e.0) e.1 values is) ∙ agrees_itself e.1
 
@@ -118,23 +118,23 @@ module _ {X : Type 0} (tree : X → FormulaTree) (law : OneTruth) (widths : List
   one_case = ap (λ k. cond (is_inside_kind k) (length (cases_of (tree e.0) e.1)) 1) is
 
   module _ (xs ys : List (X × Bool)) where
-    domain_with : (s : SymId) (value : ℕ) → in_domain tree s (condition_of widths (xs ++ e ∷ ys)) value ≡ in_domain tree s (condition_of widths (xs ++ ys)) value
+    domain_with : (s : SymId) (value : ℕ) → in_domain tree s (condition_of most widths (xs ++ e ∷ ys)) value ≡ in_domain tree s (condition_of most widths (xs ++ ys)) value
     domain_with s value = all_with (meets tree s (alone s value)) e (meets_all s (alone s value)) xs ys
 
-    symbols_with : coupled_symbols tree (condition_of widths (xs ++ e ∷ ys)) ≡ coupled_symbols tree (condition_of widths (xs ++ ys))
+    symbols_with : coupled_symbols tree (condition_of most widths (xs ++ e ∷ ys)) ≡ coupled_symbols tree (condition_of most widths (xs ++ ys))
     symbols_with = λ i. symbols_from (λ (s : SymId). any_with (couples tree s) e (not_coupling s) xs ys i) 0 (length widths)
 
-    range_with : (s : SymId) → range_count tree (condition_of widths (xs ++ e ∷ ys)) s ≡ range_count tree (condition_of widths (xs ++ ys)) s
+    range_with : (s : SymId) → range_count tree (condition_of most widths (xs ++ e ∷ ys)) s ≡ range_count tree (condition_of most widths (xs ++ ys)) s
     range_with s = λ i. length (ranges_where (slice_index widths s.0) (λ value. domain_with s value i))
 
-    choices_with : choice_count tree (condition_of widths (xs ++ e ∷ ys)) ≡ choice_count tree (condition_of widths (xs ++ ys))
+    choices_with : choice_count tree (condition_of most widths (xs ++ e ∷ ys)) ≡ choice_count tree (condition_of most widths (xs ++ ys))
     choices_with = λ i. capped (product_with (entry_case_count tree) e one_case xs ys i * product (map (λ (s : SymId). range_with s i) (symbols_with i)))
 
     satisfied_with : (values : List ℕ) → list_all (holds_unless_outside tree values) (xs ++ e ∷ ys) ≡ list_all (holds_unless_outside tree values) (xs ++ ys)
     satisfied_with values = all_with (holds_unless_outside tree values) e (unless_outside values) xs ys
 
     -- without it and with it
-    agrees_with : Agrees tree tree (pick_behind (length xs)) (pick_before (length xs)) (condition_of widths (xs ++ ys)) (condition_of widths (xs ++ e ∷ ys))
+    agrees_with : Agrees tree tree (pick_behind (length xs)) (pick_before (length xs)) (condition_of most widths (xs ++ ys)) (condition_of most widths (xs ++ e ∷ ys))
     agrees_with =
         let here : length xs ≡ 0 + length xs = omega arith in
         record {
@@ -144,45 +144,46 @@ module _ {X : Type 0} (tree : X → FormulaTree) (law : OneTruth) (widths : List
           domains_are = λ s value. sym (domain_with s value);
           coupled_are = ap length (sym symbols_with);
           choices_are = sym choices_with;
+          most_are = refl;
           satisfied_are = λ values. sym (satisfied_with values);
           outside_to = λ values. with_one (is_broken_outside tree values) (length xs) e (not_outside values) 0 xs ys here;
           outside_from = λ values. without_one (is_broken_outside tree values) (length xs) e (not_outside values) 0 xs ys here;
         }
 
-    with_agrees : Agrees tree tree (pick_before (length xs)) (pick_behind (length xs)) (condition_of widths (xs ++ e ∷ ys)) (condition_of widths (xs ++ ys))
-    with_agrees = turned tree tree (pick_behind (length xs)) (pick_before (length xs)) (condition_of widths (xs ++ ys)) (condition_of widths (xs ++ e ∷ ys)) agrees_with
+    with_agrees : Agrees tree tree (pick_before (length xs)) (pick_behind (length xs)) (condition_of most widths (xs ++ e ∷ ys)) (condition_of most widths (xs ++ ys))
+    with_agrees = turned tree tree (pick_behind (length xs)) (pick_before (length xs)) (condition_of most widths (xs ++ ys)) (condition_of most widths (xs ++ e ∷ ys)) agrees_with
 
   -- at the end
-  agrees_last : (xs : List (X × Bool)) → Agrees tree tree (λ n. n) (λ n. n) (condition_of widths xs) (condition_of widths (xs ++ e ∷ []))
+  agrees_last : (xs : List (X × Bool)) → Agrees tree tree (λ n. n) (λ n. n) (condition_of most widths xs) (condition_of most widths (xs ++ e ∷ []))
   agrees_last xs =
-      subst (λ (es : List (X × Bool)). Agrees tree tree (λ n. n) (λ n. n) (condition_of widths es) (condition_of widths (xs ++ e ∷ []))) (append-nil xs)
-      (agree_throughout tree tree (condition_of widths (xs ++ [])) (condition_of widths (xs ++ e ∷ [])) refl
+      subst (λ (es : List (X × Bool)). Agrees tree tree (λ n. n) (λ n. n) (condition_of most widths es) (condition_of most widths (xs ++ e ∷ []))) (append-nil xs)
+      (agree_throughout tree tree (condition_of most widths (xs ++ [])) (condition_of most widths (xs ++ e ∷ [])) refl
       (ap (position_from (is_broken tree) 0) (append-nil xs) ∙ sym (last_off (is_broken tree) e not_broken 0 xs))
-      (λ s value. sym (domain_with xs [] s value)) (ap length (sym (symbols_with xs []))) (sym (choices_with xs []))
+      (λ s value. sym (domain_with xs [] s value)) (ap length (sym (symbols_with xs []))) (sym (choices_with xs [])) refl
       (λ values. sym (satisfied_with xs [] values))
       (λ values. ap (position_from (is_broken_outside tree values) 0) (append-nil xs) ∙ sym (last_off (is_broken_outside tree values) e (not_outside values) 0 xs)))
 
 module _ {X : Type 0} (tree : X → FormulaTree) (law : OneTruth) where
   pub constants_are_free : ConstantsAreFree tree
   constants_are_free = record {
-    refuted = λ widths xs ys e is.
-        let without = condition_of widths (xs ++ ys) in
-        let whole = condition_of widths (xs ++ e ∷ ys) in (
-          refuted tree tree (pick_before (length xs)) (pick_behind (length xs)) whole without (with_agrees tree law widths e is xs ys),
-          refuted tree tree (pick_behind (length xs)) (pick_before (length xs)) without whole (agrees_with tree law widths e is xs ys),
+    refuted = λ most widths xs ys e is.
+        let without = condition_of most widths (xs ++ ys) in
+        let whole = condition_of most widths (xs ++ e ∷ ys) in (
+          refuted tree tree (pick_before (length xs)) (pick_behind (length xs)) whole without (with_agrees tree law most widths e is xs ys),
+          refuted tree tree (pick_behind (length xs)) (pick_before (length xs)) without whole (agrees_with tree law most widths e is xs ys),
         );
-    met = λ widths xs ys e values is.
-        let without = condition_of widths (xs ++ ys) in
-        let whole = condition_of widths (xs ++ e ∷ ys) in (
-          met tree tree (pick_before (length xs)) (pick_behind (length xs)) whole without (with_agrees tree law widths e is xs ys) values,
-          met tree tree (pick_behind (length xs)) (pick_before (length xs)) without whole (agrees_with tree law widths e is xs ys) values,
+    met = λ most widths xs ys e values is.
+        let without = condition_of most widths (xs ++ ys) in
+        let whole = condition_of most widths (xs ++ e ∷ ys) in (
+          met tree tree (pick_before (length xs)) (pick_behind (length xs)) whole without (with_agrees tree law most widths e is xs ys) values,
+          met tree tree (pick_behind (length xs)) (pick_before (length xs)) without whole (agrees_with tree law most widths e is xs ys) values,
         );
-    undecided = λ widths xs ys e cause is h.
-        undecided tree tree (pick_behind (length xs)) (pick_before (length xs)) (condition_of widths (xs ++ ys)) (condition_of widths (xs ++ e ∷ ys)) (agrees_with tree law widths e is xs ys) cause h;
-    undecided_without = λ widths xs ys e cause is h.
-        undecided tree tree (pick_before (length xs)) (pick_behind (length xs)) (condition_of widths (xs ++ e ∷ ys)) (condition_of widths (xs ++ ys)) (with_agrees tree law widths e is xs ys) cause h;
+    undecided = λ most widths xs ys e cause is h.
+        undecided tree tree (pick_behind (length xs)) (pick_before (length xs)) (condition_of most widths (xs ++ ys)) (condition_of most widths (xs ++ e ∷ ys)) (agrees_with tree law most widths e is xs ys) cause h;
+    undecided_without = λ most widths xs ys e cause is h.
+        undecided tree tree (pick_before (length xs)) (pick_behind (length xs)) (condition_of most widths (xs ++ e ∷ ys)) (condition_of most widths (xs ++ ys)) (with_agrees tree law most widths e is xs ys) cause h;
     undecided_last = λ c e cause is.
-        let a = agrees_last tree law c.widths e is c.entries in
-        let longer = condition_of c.widths (c.entries ++ e ∷ []) in
+        let a = agrees_last tree law c.most_choices c.widths e is c.entries in
+        let longer = condition_of c.most_choices c.widths (c.entries ++ e ∷ []) in
         (undecided_same tree tree longer c (turned tree tree (λ n. n) (λ n. n) c longer a) cause, undecided_same tree tree c longer a cause);
   }

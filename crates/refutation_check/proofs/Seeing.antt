@@ -79,7 +79,7 @@ module _ {X : Type 0} (tree : X → FormulaTree) (c : ConditionOf X) where
   -- a condition and its trees agree
   pub agrees_seen : Agrees tree itself (λ n. n) (λ n. n) c (seen tree c)
   agrees_seen =
-      agree_throughout tree itself c (seen tree c) refl (sym broken_seen) (λ s value. sym (domain_seen s value)) (ap length (sym symbols_seen)) (sym choices_seen)
+      agree_throughout tree itself c (seen tree c) refl (sym broken_seen) (λ s value. sym (domain_seen s value)) (ap length (sym symbols_seen)) (sym choices_seen) refl
       (λ values. sym (satisfied_seen values)) (λ values. sym (outside_seen values))
 
   seen_agrees : Agrees itself tree (λ n. n) (λ n. n) (seen tree c) c

@@ -16,13 +16,13 @@ use Rattle.path_formula.specs.Solutions.{alone}
 use Rattle.path_formula.specs.Typed.{PartsAreTyped, IsTyped, AreTyped}
 use Rattle.path_formula.specs.declared.kinds.Kind.{Kind}
 use Rattle.path_formula.specs.declared.kinds.Kind.TheVariants.{Constant, Simple, Inside, Outside}
-use Rattle.path_cond.specs.Seen.{ConditionOf, AllTyped, entry_holds, is_simple_on, meets, in_domain}
+use Rattle.path_cond.specs.Seen.{ConditionOf, AllTyped, entry_holds, is_simple_on, meets, in_domain, tried}
 use Rattle.path_formula.specs.CaseCounts.{capped}
 use Rattle.sn_ranges.specs.Sets.{ranges_where}
 use Rattle.path_cond.specs.Occurring.{stands_in, occurs_in, occurs_among, symbol_at, symbols_from}
 use Rattle.path_cond.specs.Choices.{product, couples, is_inside, is_coupled, coupled_symbols, coupled_count, range_count, formula_choices, choice_count}
 use Rattle.refutation_check.specs.Longer.{zeros, with_widths, with_zeros, WidenFreely}
-use Rattle.refutation_check.specs.Seen.{most_coupled, most_choices, is_possible, HasEmptyDomain, IsSimplyOpen, IsWithinLimits, IsRefuted, HasLeast, IsUndecidedBy}
+use Rattle.refutation_check.specs.Seen.{most_coupled, is_possible, HasEmptyDomain, IsSimplyOpen, IsWithinLimits, IsRefuted, HasLeast, IsUndecidedBy}
 use Rattle.refutation_check.specs.declared.outcome.Cause.{Cause}
 use Rattle.refutation_check.specs.declared.outcome.Cause.TheVariants.{Outside as OutsideCause, Cases, Coupled}
 use Rattle.refutation_check.proofs.Fronts.{none_wider, least_wider}
@@ -170,13 +170,13 @@ module _ {X : Type 0} (tree : X → FormulaTree) (law : KnownSymbols) (c : Condi
   within_wider : IsWithinLimits tree c → IsWithinLimits tree (with_widths c more)
   within_wider h = record {
     coupled = subst (λ n. n ≤ most_coupled) (sym coupled_wider) h.coupled;
-    choices = subst (λ n. n ≤ most_choices) (sym choices_wider) h.choices;
+    choices = subst (λ n. n ≤ tried c.most_choices) (sym choices_wider) h.choices;
   }
 
   within_narrower : IsWithinLimits tree (with_widths c more) → IsWithinLimits tree c
   within_narrower h = record {
     coupled = subst (λ n. n ≤ most_coupled) coupled_wider h.coupled;
-    choices = subst (λ n. n ≤ most_choices) choices_wider h.choices;
+    choices = subst (λ n. n ≤ tried c.most_choices) choices_wider h.choices;
   }
 
   -- Verdicts

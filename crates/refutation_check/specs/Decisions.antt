@@ -5,7 +5,7 @@ use Rattle.path_cond.specs.Conditions.{Condition}
 pub use Rattle.path_cond.specs.Conditions.{is_possible}
 use Rattle.refutation_check.specs.Seen as any
 use Rattle.refutation_check.specs.declared.outcome.Cause.{Cause}
-pub use Rattle.refutation_check.specs.Seen.{most_coupled, most_choices}
+pub use Rattle.refutation_check.specs.Seen.{most_coupled}
 
 -- a symbol of the condition has no possible value
 abbrev pub HasEmptyDomain : Condition → Type 0
@@ -23,7 +23,7 @@ IsSimplyRefuted = any.IsSimplyRefuted view
 abbrev pub IsSimplyOpen : Condition → Type 0
 IsSimplyOpen = any.IsSimplyOpen view
 
--- few enough symbols are coupled, and there are few enough choices of cases
+-- few enough symbols are coupled, and there are no more choices of cases than are tried
 abbrev pub IsWithinLimits : Condition → Type 0
 IsWithinLimits = any.IsWithinLimits view
 
@@ -43,7 +43,7 @@ HasLeast = any.HasLeast view
 abbrev pub AreManyCoupled : Condition → ℕ → Type 0
 AreManyCoupled = any.AreManyCoupled view
 
--- the number is that of the choices of cases, too many
+-- the number is that of the choices of cases, more than are tried
 abbrev pub AreManyChoices : Condition → ℕ → Type 0
 AreManyChoices = any.AreManyChoices view
 

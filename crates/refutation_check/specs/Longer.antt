@@ -11,15 +11,15 @@ use Rattle.refutation_check.specs.declared.outcome.Cause.TheVariants.{Outside, C
 
 -- the condition with these formulas more
 abbrev pub with_entries : {X : Type 0} → ConditionOf X → List (X × Bool) → ConditionOf X
-with_entries cond more = record { widths = cond.widths; entries = cond.entries ++ more }
+with_entries cond more = record cond { entries = cond.entries ++ more }
 
 -- the condition with symbols of these widths more
 abbrev pub with_widths : {X : Type 0} → ConditionOf X → List ℕ → ConditionOf X
-with_widths cond more = record { widths = cond.widths ++ more; entries = cond.entries }
+with_widths cond more = record cond { widths = cond.widths ++ more }
 
--- the condition of these formulas
-abbrev pub condition_of : {X : Type 0} → List ℕ → List (X × Bool) → ConditionOf X
-condition_of widths entries = record { widths = widths; entries = entries }
+-- the condition of these formulas, with this bound
+abbrev pub condition_of : {X : Type 0} → ℕ → List ℕ → List (X × Bool) → ConditionOf X
+condition_of most widths entries = record { widths = widths; entries = entries; most_choices = most }
 
 -- the first of the two that is there
 abbrev pub or_later : Option ℕ → Option ℕ → Option ℕ
@@ -74,17 +74,17 @@ module _ {X : Type 0} (tree : X → FormulaTree) where
 
   -- a constant formula that has the truth that it must have changes no verdict, wherever it stands
   pub record ConstantsAreFree : Type 0 where
-    pub refuted : (widths : List ℕ) (before after : List (X × Bool)) (entry : X × Bool) → kind_of (tree entry.0) ≡ Constant entry.1
-        → IsRefuted tree (condition_of widths (before ++ entry ∷ after)) ↔ IsRefuted tree (condition_of widths (before ++ after))
-    pub met : (widths : List ℕ) (before after : List (X × Bool)) (entry : X × Bool) (values : List ℕ) → kind_of (tree entry.0) ≡ Constant entry.1
-        → IsMetBy tree (condition_of widths (before ++ entry ∷ after)) values ↔ IsMetBy tree (condition_of widths (before ++ after)) values
+    pub refuted : (most : ℕ) (widths : List ℕ) (before after : List (X × Bool)) (entry : X × Bool) → kind_of (tree entry.0) ≡ Constant entry.1
+        → IsRefuted tree (condition_of most widths (before ++ entry ∷ after)) ↔ IsRefuted tree (condition_of most widths (before ++ after))
+    pub met : (most : ℕ) (widths : List ℕ) (before after : List (X × Bool)) (entry : X × Bool) (values : List ℕ) → kind_of (tree entry.0) ≡ Constant entry.1
+        → IsMetBy tree (condition_of most widths (before ++ entry ∷ after)) values ↔ IsMetBy tree (condition_of most widths (before ++ after)) values
     -- the pick of an outside formula behind it is one more
-    pub undecided : (widths : List ℕ) (before after : List (X × Bool)) (entry : X × Bool) (cause : Cause) → kind_of (tree entry.0) ≡ Constant entry.1
-        → IsUndecidedBy tree (condition_of widths (before ++ after)) cause
-        → IsUndecidedBy tree (condition_of widths (before ++ entry ∷ after)) (moved (pick_behind (length before)) cause)
-    pub undecided_without : (widths : List ℕ) (before after : List (X × Bool)) (entry : X × Bool) (cause : Cause) → kind_of (tree entry.0) ≡ Constant entry.1
-        → IsUndecidedBy tree (condition_of widths (before ++ entry ∷ after)) cause
-        → IsUndecidedBy tree (condition_of widths (before ++ after)) (moved (pick_before (length before)) cause)
+    pub undecided : (most : ℕ) (widths : List ℕ) (before after : List (X × Bool)) (entry : X × Bool) (cause : Cause) → kind_of (tree entry.0) ≡ Constant entry.1
+        → IsUndecidedBy tree (condition_of most widths (before ++ after)) cause
+        → IsUndecidedBy tree (condition_of most widths (before ++ entry ∷ after)) (moved (pick_behind (length before)) cause)
+    pub undecided_without : (most : ℕ) (widths : List ℕ) (before after : List (X × Bool)) (entry : X × Bool) (cause : Cause) → kind_of (tree entry.0) ≡ Constant entry.1
+        → IsUndecidedBy tree (condition_of most widths (before ++ entry ∷ after)) cause
+        → IsUndecidedBy tree (condition_of most widths (before ++ after)) (moved (pick_before (length before)) cause)
     -- at the end, no pick changes
     pub undecided_last : (cond : ConditionOf X) (entry : X × Bool) (cause : Cause) → kind_of (tree entry.0) ≡ Constant entry.1
         → IsUndecidedBy tree (with_entries cond (entry ∷ [])) cause ↔ IsUndecidedBy tree cond cause

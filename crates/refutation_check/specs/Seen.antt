@@ -5,7 +5,7 @@ use Rattle.sn_width.specs.Width.{FitsWidth}
 use Rattle.sn_width.specs.declared.ids.SymId.{SymId}
 use Rattle.sn_ranges.specs.Ranges.{fits_width}
 use Rattle.path_formula.specs.Formulas.{FormulaTree}
-use Rattle.path_cond.specs.Seen.{ConditionOf, entry_holds, first_broken}
+use Rattle.path_cond.specs.Seen.{ConditionOf, entry_holds, first_broken, tried}
 pub use Rattle.path_cond.specs.Seen.{is_possible}
 pub use Rattle.path_cond.specs.Kept.{is_outside_kind, is_outside}
 use Rattle.path_formula.specs.Bounds.{AreValues, Case}
@@ -18,12 +18,9 @@ use Rattle.refutation_check.specs.declared.outcome.Cause.TheVariants.{Outside as
 use Rattle.refutation_check.specs.declared.steps.Refute.{Refute}
 use Rattle.refutation_check.specs.declared.steps.Refute.TheVariants.{Empty, Domain, Split, Cycle}
 
--- more symbols than `most_coupled` may not be coupled, and more choices of cases than `most_choices` are not tried
+-- more symbols than `most_coupled` may not be coupled
 abbrev pub most_coupled : ℕ
 most_coupled = 64
-
-abbrev pub most_choices : ℕ
-most_choices = 4096
 
 -- the number is a value of the width at the place
 abbrev pub FitsAt : List ℕ → ℕ → ℕ → Type 0
@@ -88,10 +85,10 @@ module _ {X : Type 0} (tree : X → FormulaTree) where
     pub unbroken : first_broken tree cond ≡ None
     pub possible : (s : SymId) → s.0 < length cond.widths → (value : ℕ) × (is_possible tree cond s value ≡ true)
 
-  -- few enough symbols are coupled, and there are few enough choices of cases
+  -- few enough symbols are coupled, and there are no more choices of cases than are tried
   pub record IsWithinLimits (cond : ConditionOf X) : Type 0 where
     pub coupled : coupled_count tree cond ≤ most_coupled
-    pub choices : choice_count tree cond ≤ most_choices
+    pub choices : choice_count tree cond ≤ tried cond.most_choices
 
   -- within the limits no values satisfy every formula that is not outside
   pub record IsRefutedByCases (cond : ConditionOf X) : Type 0 where
@@ -114,11 +111,11 @@ module _ {X : Type 0} (tree : X → FormulaTree) where
     pub is : count ≡ coupled_count tree cond
     pub many : most_coupled < count
 
-  -- the number is that of the choices of cases, too many
+  -- the number is that of the choices of cases, more than are tried
   pub record AreManyChoices (cond : ConditionOf X) (count : ℕ) : Type 0 where
     pub simply_open : IsSimplyOpen cond
     pub is : count ≡ choice_count tree cond
-    pub many : most_choices < count
+    pub many : tried cond.most_choices < count
 
   -- the condition is undecided, and this is the cause
   abbrev pub IsUndecidedBy : ConditionOf X → Cause → Type 0

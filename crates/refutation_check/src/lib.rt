@@ -15,7 +15,7 @@ mod steps;
 mod values;
 
 pub use checker::check;
-pub use licence::{MOST_CHOICES, MOST_COUPLED, lawful};
+pub use licence::{MOST_COUPLED, lawful};
 pub use list::Listed;
 pub use outcome::{Cause, Verdict};
 pub use steps::{Refutation, Refute, copy_of};

@@ -13,9 +13,6 @@ use std::alloc::Global;
 /// The most symbols that may be coupled in a condition that is decided.
 pub const MOST_COUPLED: u64 = 64;
 
-/// The most choices of cases that are tried.
-pub const MOST_CHOICES: u64 = 4096;
-
 /// Whether a value of the symbol's width meets each formula that is simple on the symbol.
 fn has_value(alloc: Global, cond: &PathCond, symbol: SymId) -> Result<bool, NoMemory>
     requires { symbol.0 < length cond.now.widths }
@@ -60,7 +57,7 @@ fn are_many_coupled(alloc: Global, cond: &PathCond, count: u64) -> Result<bool, 
 fn are_many_choices(alloc: Global, cond: &PathCond, count: u64) -> Result<bool, NoMemory>
     ensures { IfOk result (λ yes. IsTrue yes ↔ AreManyChoices cond.now count) }
 {
-    if count <= MOST_CHOICES || case_count(alloc, cond)? != count {
+    if count <= cond.tried_choices() || case_count(alloc, cond)? != count {
         return Ok(false);
     }
     is_simply_open(alloc, cond)

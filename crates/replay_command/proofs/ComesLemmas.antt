@@ -4,7 +4,8 @@ use Rattle.std.proofs.lemmas.List.{append-nil, length-append}
 use Rattle.std.specs.Prelude.{String}
 use Rattle.std.specs.declared.alloc.Global.{Global}
 use Rattle.sefl_syntax.specs.Trees.{AskTree}
-use Rattle.net_check.specs.Network.{Network, Entry}
+use Rattle.net_check.specs.Network.{Network, Entry, EntryParts, entry, with_choices}
+use Rattle.net_check.specs.Sound.{AreOfOneJob, IsEntryOf}
 use Rattle.exact_records.specs.Records.{RecordTree}
 use Rattle.exact_records.specs.View.{record_trees}
 use Rattle.record_text.specs.declared.report.Report.{Report}
@@ -25,7 +26,7 @@ use Rattle.command_runs.specs.Runs.{IsRefusal}
 use Rattle.command_edge.specs.declared.ending.Ending.TheVariants.{Done}
 use Rattle.command_edge.specs.declared.fault.OwnFault.{OwnFault}
 use Rattle.command_edge.specs.declared.fault.OwnFault.TheVariants.{BadReport, NotConfirmed, NoMemory}
-use Rattle.replay_command.specs.Replays.{CountsCome, IsCountsText, IsNoReport, IsReplayRefusal, NoCountsCome, ReplayComes, TellsAnswer, TellsFault, fault_of_replay}
+use Rattle.replay_command.specs.Replays.{CountsCome, IsBoundAgain, IsCountsText, IsNoReport, IsReplayRefusal, NoCountsCome, ReplayComes, TellsAnswer, TellsFault, choices_of, fault_of_replay}
 
 module _ (net : Network) (bytes : List ℕ) where
   -- the refusal tells why there is no report
@@ -49,7 +50,7 @@ told_replay net i hops records NoReplay h = tt
 -- that printed records are read, as a law
 abbrev PrintedAreRead : Type 0
 PrintedAreRead = (net : Network) (bytes : List ℕ) (frame : Report) (start : Reading) (items : List Record) → IsOpened net bytes frame start
-    → BeginsWithAll net items start.left [] → length items < 2 ^ 63 → ShowsRecords net bytes frame.hops items
+    → BeginsWithAll net items start.left [] → length items < 2 ^ 63 → ShowsRecords net bytes frame.cases frame.hops items
 
 -- what is told of an answer
 module _ (net : Network) (i : Entry) (hops : ℕ) (records : List RecordTree) where
@@ -75,12 +76,16 @@ module _ (net : Network) (i : Entry) (bytes : List ℕ) where
   without_report fault h = absurd h
 
   module _ (report : Report) (reads : ReadsReport net bytes (Ok report)) where
-    records_text : (result : Result (String Global) OwnFault) → IfOk result (λ whole. IsCountsText net i report.hops (record_trees report.records.items) (string_bytes whole))
+    -- the injection with the bound that the report says
+    abbrev bound : Entry
+    bound = with_choices (choices_of report.cases) i
+
+    records_text : (result : Result (String Global) OwnFault) → IfOk result (λ whole. IsCountsText net bound report.hops (record_trees report.records.items) (string_bytes whole))
         → IfOk result (λ whole. CountsCome net i bytes (string_bytes whole))
     records_text (Ok whole) h = record { report = report; reads = reads; holds = h }
     records_text (Err fault) h = tt
 
-    records_refused : (result : Result (String Global) OwnFault) → IfErr result (IsReplayRefusal net i report.hops (record_trees report.records.items))
+    records_refused : (result : Result (String Global) OwnFault) → IfErr result (IsReplayRefusal net bound report.hops (record_trees report.records.items))
         → IfErr result (NoCountsCome net i bytes)
     records_refused (Ok whole) h = tt
     records_refused (Err (NotConfirmed number kind)) h = record { report = report; reads = reads; holds = h }
@@ -88,28 +93,32 @@ module _ (net : Network) (i : Entry) (bytes : List ℕ) where
     records_refused (Err fault) h = absurd h
 
     -- so of the records of a report
-    pub report_text : (records : List Record) → records ≡ report.records.items → (result : Result (String Global) OwnFault)
-        → IfOk result (λ whole. IsCountsText net i report.hops (record_trees records) (string_bytes whole)) → IfOk result (λ whole. CountsCome net i bytes (string_bytes whole))
-    report_text records is result h = records_text result
-        (subst (λ rs. IfOk result (λ whole. IsCountsText net i report.hops (record_trees rs) (string_bytes whole))) is h)
+    module _ (own : Entry) (set : own ≡ bound) (records : List Record) (is : records ≡ report.records.items) (result : Result (String Global) OwnFault) where
+      pub report_text : IfOk result (λ whole. IsCountsText net own report.hops (record_trees records) (string_bytes whole))
+          → IfOk result (λ whole. CountsCome net i bytes (string_bytes whole))
+      report_text h = records_text result
+          (subst (λ e. IfOk result (λ whole. IsCountsText net e report.hops (record_trees report.records.items) (string_bytes whole))) set
+          (subst (λ rs. IfOk result (λ whole. IsCountsText net own report.hops (record_trees rs) (string_bytes whole))) is h))
 
-    pub report_refused : (records : List Record) → records ≡ report.records.items → (result : Result (String Global) OwnFault)
-        → IfErr result (IsReplayRefusal net i report.hops (record_trees records)) → IfErr result (NoCountsCome net i bytes)
-    report_refused records is result h = records_refused result (subst (λ rs. IfErr result (IsReplayRefusal net i report.hops (record_trees rs))) is h)
+      pub report_refused : IfErr result (IsReplayRefusal net own report.hops (record_trees records)) → IfErr result (NoCountsCome net i bytes)
+      report_refused h = records_refused result
+          (subst (λ e. IfErr result (IsReplayRefusal net e report.hops (record_trees report.records.items))) set
+          (subst (λ rs. IfErr result (IsReplayRefusal net own report.hops (record_trees rs))) is h))
 
   -- and of records that are shown
-  module _ (hops : ℕ) (records : List Record) (shows : ShowsRecords net bytes hops records) (answer : Result Confirmed ReplayFault)
-      (confirms : ConfirmsFor net i hops (record_trees records) answer) (result : Result (String Global) OwnFault) (tells : TellsAnswer answer result) where
-    of_report : ConfirmsFor net i shows.report.hops (record_trees shows.report.records.items) answer
+  module _ (cases : Option ℕ) (hops : ℕ) (records : List Record) (shows : ShowsRecords net bytes cases hops records) (answer : Result Confirmed ReplayFault)
+      (confirms : ConfirmsFor net (with_choices (choices_of cases) i) hops (record_trees records) answer) (result : Result (String Global) OwnFault) (tells : TellsAnswer answer result) where
+    of_report : ConfirmsFor net (bound shows.report shows.reads) shows.report.hops (record_trees shows.report.records.items) answer
     of_report =
-        subst (λ n. ConfirmsFor net i n (record_trees shows.report.records.items) answer) (sym shows.same_hops)
-        (subst (λ rs. ConfirmsFor net i hops (record_trees rs) answer) (sym shows.same_records) confirms)
+        subst (λ c. ConfirmsFor net (with_choices (choices_of c) i) shows.report.hops (record_trees shows.report.records.items) answer) (sym shows.same_cases)
+        (subst (λ n. ConfirmsFor net (with_choices (choices_of cases) i) n (record_trees shows.report.records.items) answer) (sym shows.same_hops)
+        (subst (λ rs. ConfirmsFor net (with_choices (choices_of cases) i) hops (record_trees rs) answer) (sym shows.same_records) confirms))
 
     shown_text : IfOk result (λ whole. CountsCome net i bytes (string_bytes whole))
-    shown_text = records_text shows.report shows.reads result (answer_text net i shows.report.hops (record_trees shows.report.records.items) answer result of_report tells)
+    shown_text = records_text shows.report shows.reads result (answer_text net (bound shows.report shows.reads) shows.report.hops (record_trees shows.report.records.items) answer result of_report tells)
 
     shown_refused : IfErr result (NoCountsCome net i bytes)
-    shown_refused = records_refused shows.report shows.reads result (answer_refused net i shows.report.hops (record_trees shows.report.records.items) answer result of_report tells)
+    shown_refused = records_refused shows.report shows.reads result (answer_refused net (bound shows.report shows.reads) shows.report.hops (record_trees shows.report.records.items) answer result of_report tells)
 
 -- records that are read one after another
 module _ {S : Type 0} (net : Network) (read : S → Reading) where
@@ -124,7 +133,7 @@ module _ {S : Type 0} (net : Network) (read : S → Reading) where
 
   -- where no text is left, the bytes show them
   shown : PrintedAreRead → (bytes : List ℕ) (frame : Report) (u v : S) (xs : List Record) → length bytes < 2 ^ 63 → IsOpened net bytes frame (read u) → HandsAll steps u xs v
-      → (read v).left ≡ [] → ShowsRecords net bytes frame.hops xs
+      → (read v).left ≡ [] → ShowsRecords net bytes frame.cases frame.hops xs
   shown law bytes frame u v xs short opened all over =
       let body = (read u).left in
       let read_all : AreRead net body xs (read v) =
@@ -137,31 +146,34 @@ module _ {S : Type 0} (net : Network) (read : S → Reading) where
 
   module _ (law : PrintedAreRead) (i : Entry) (bytes : List ℕ) (frame : Report) (u v : S) (short : length bytes < 2 ^ 63) (opened : IsOpened net bytes frame (read u))
       (over : (read v).left ≡ []) where
-    pub printed_text : (answer : Result Confirmed ReplayFault) (result : Result (String Global) OwnFault) → ConfirmsAllFor net i frame.hops steps u v answer → TellsAnswer answer result
+    pub printed_text : (answer : Result Confirmed ReplayFault) (result : Result (String Global) OwnFault) → ConfirmsAllFor net (with_choices (choices_of frame.cases) i) frame.hops steps u v answer → TellsAnswer answer result
         → IfOk result (λ whole. CountsCome net i bytes (string_bytes whole))
     printed_text (Ok counts) result (xs, all, h) tells =
-        shown_text net i bytes frame.hops xs (shown law bytes frame u v xs short opened all over) (Ok counts) h result tells
+        shown_text net i bytes frame.cases frame.hops xs (shown law bytes frame u v xs short opened all over) (Ok counts) h result tells
     printed_text (Err (IsBroken number part)) result (xs, all, h) tells =
-        shown_text net i bytes frame.hops xs (shown law bytes frame u v xs short opened all over) (Err (IsBroken number part)) h result tells
+        shown_text net i bytes frame.cases frame.hops xs (shown law bytes frame u v xs short opened all over) (Err (IsBroken number part)) h result tells
     printed_text (Err NoReplay) (Ok whole) h tells = absurd tells
     printed_text (Err NoReplay) (Err fault) h tells = tt
 
-    pub printed_refused : (answer : Result Confirmed ReplayFault) (result : Result (String Global) OwnFault) → ConfirmsAllFor net i frame.hops steps u v answer → TellsAnswer answer result
+    pub printed_refused : (answer : Result Confirmed ReplayFault) (result : Result (String Global) OwnFault) → ConfirmsAllFor net (with_choices (choices_of frame.cases) i) frame.hops steps u v answer → TellsAnswer answer result
         → IfErr result (NoCountsCome net i bytes)
     printed_refused (Ok counts) result (xs, all, h) tells =
-        shown_refused net i bytes frame.hops xs (shown law bytes frame u v xs short opened all over) (Ok counts) h result tells
+        shown_refused net i bytes frame.cases frame.hops xs (shown law bytes frame u v xs short opened all over) (Ok counts) h result tells
     printed_refused (Err (IsBroken number part)) result (xs, all, h) tells =
-        shown_refused net i bytes frame.hops xs (shown law bytes frame u v xs short opened all over) (Err (IsBroken number part)) h result tells
+        shown_refused net i bytes frame.cases frame.hops xs (shown law bytes frame u v xs short opened all over) (Err (IsBroken number part)) h result tells
     printed_refused (Err NoReplay) (Ok whole) h tells = absurd tells
     printed_refused (Err NoReplay) (Err fault) h tells = subst (NoCountsCome net i bytes) (sym tells) tt
 
--- of the net that the code names, which is the job's
-module _ {S : Type 0} (u v : S) (read : S → Reading) (net own : Network) (same : own ≡ net) (i : Entry) (frame : Report) (answer : Result Confirmed ReplayFault)
-    (confirms : ConfirmsAllFor own i frame.hops (λ a found b. IsNext net (read a) found (read b)) u v answer) (law : PrintedAreRead) (bytes : List ℕ)
+-- of the net that the code names, which is the job's, and of the injection whose bound was set
+module _ {S : Type 0} (u v : S) (read : S → Reading) (net own : Network) (same : own ≡ net) (i : Entry) (frame : Report) (bound : Entry)
+    (set : bound ≡ with_choices (choices_of frame.cases) i) (answer : Result Confirmed ReplayFault)
+    (confirms : ConfirmsAllFor own bound frame.hops (λ a found b. IsNext net (read a) found (read b)) u v answer) (law : PrintedAreRead) (bytes : List ℕ)
     (short : length bytes < 2 ^ 63) (opened : IsOpened net bytes frame (read u)) (over : (read v).left ≡ []) (result : Result (String Global) OwnFault)
     (tells : TellsAnswer answer result) where
-  of_net : ConfirmsAllFor net i frame.hops (steps net read) u v answer
-  of_net = subst (λ n. ConfirmsAllFor n i frame.hops (steps net read) u v answer) same confirms
+  of_net : ConfirmsAllFor net (with_choices (choices_of frame.cases) i) frame.hops (steps net read) u v answer
+  of_net =
+      subst (λ n. ConfirmsAllFor n (with_choices (choices_of frame.cases) i) frame.hops (steps net read) u v answer) same
+      (subst (λ e. ConfirmsAllFor own e frame.hops (steps net read) u v answer) set confirms)
 
   pub read_text : IfOk result (λ whole. CountsCome own i bytes (string_bytes whole))
   read_text = subst (λ n. IfOk result (λ whole. CountsCome n i bytes (string_bytes whole))) (sym same)
@@ -170,6 +182,32 @@ module _ {S : Type 0} (u v : S) (read : S → Reading) (net own : Network) (same
   pub read_refused : IfErr result (NoCountsCome own i bytes)
   read_refused = subst (λ n. IfErr result (NoCountsCome n i bytes)) (sym same)
       (printed_refused net read law i bytes frame u v short opened over answer result of_net tells)
+
+-- the bound was set
+pub set_again : (before after : EntryParts) (n most : ℕ) → after ≡ record before { most_choices = n } → n ≡ most → entry after ≡ with_choices most (entry before)
+set_again before after n most set is = ap entry set ∙ ap (λ m. with_choices m (entry before)) is
+
+-- what is so of an injection is so of it with another bound, where the bound of a report stands in its place
+module _ (net : Network) (before after : EntryParts) (again : IsBoundAgain before after) where
+  pub again_of_job : AreOfOneJob net (entry before) → AreOfOneJob net (entry after)
+  again_of_job (j, sound, of_net, of_entry) =
+      (j, sound, of_net, subst (λ parts. IsEntryOf j (entry parts)) (sym again.1) (record { own = of_entry.own; node = of_entry.node }))
+
+  module _ (bytes : List ℕ) where
+    pub again_text : (result : Result (String Global) OwnFault) → IfOk result (λ whole. CountsCome net (entry after) bytes (string_bytes whole))
+        → IfOk result (λ whole. CountsCome net (entry before) bytes (string_bytes whole))
+    again_text (Ok whole) h = subst (λ parts. CountsCome net (entry parts) bytes (string_bytes whole)) again.1 h
+    again_text (Err fault) h = tt
+
+    none_again : (fault : OwnFault) → NoCountsCome net (entry after) bytes fault → NoCountsCome net (entry before) bytes fault
+    none_again (BadReport kind pointer) h = h
+    none_again (NotConfirmed number kind) h = subst (λ parts. NoCountsCome net (entry parts) bytes (NotConfirmed number kind)) again.1 h
+    none_again NoMemory h = tt
+    none_again fault h = absurd h
+
+    pub again_refused : (result : Result (String Global) OwnFault) → IfErr result (NoCountsCome net (entry after) bytes) → IfErr result (NoCountsCome net (entry before) bytes)
+    again_refused (Ok whole) h = tt
+    again_refused (Err fault) h = none_again fault h
 
 module _ (net : Network) (i : Entry) (asks : List AskTree) (bytes : List ℕ) where
   -- there are no counts

@@ -1,8 +1,8 @@
 -- What `replay` comes to of the bytes of a report is one thing.
-use Rattle.std.proofs.Common.{◌≡◌, inl, inr, refl, sym, ap, subst, ◌∙◌, ℕ, List, [], ◌∷◌, map, Some, Result, Ok, Err, string_bytes}
+use Rattle.std.proofs.Common.{◌≡◌, inl, inr, refl, sym, ap, subst, ◌∙◌, ℕ, List, [], ◌∷◌, map, Option, Some, Result, Ok, Err, string_bytes}
 use Rattle.std.proofs.lemmas.Option.{none-some}
 use Rattle.serde_json.specs.Data.{Data}
-use Rattle.net_check.specs.Network.{Network, Entry}
+use Rattle.net_check.specs.Network.{Network, Entry, with_choices}
 use Rattle.exact_records.specs.Records.{RecordTree, path, pruned, unexplored}
 use Rattle.exact_records.specs.View.{record_tree, record_trees}
 use Rattle.path_records.specs.declared.records.Record.{Record}
@@ -25,7 +25,7 @@ use Rattle.path_replay.specs.Replaying.{ConfirmsFor, IsConfirmedBackFor}
 use Rattle.command_edge.specs.Puts.{Outcome, text, refused}
 use Rattle.command_edge.specs.declared.fault.OwnFault.TheVariants.{BadReport, NotConfirmed}
 use Rattle.replay_command.specs.Counted.{confirmed_text}
-use Rattle.replay_command.specs.Replays.{IsBadReport, IsCountsText, IsFirstOther, OfReport, ReplayOf, part_kind, report_kind}
+use Rattle.replay_command.specs.Replays.{IsBadReport, IsCountsText, IsFirstOther, OfReport, ReplayOf, part_kind, report_kind, choices_of}
 
 some_same : {A : Type 0} {a b : A} → Some a ≡ Some b → a ≡ b
 some_same e = cc
@@ -60,13 +60,15 @@ module _ (one : IsOneReport) (net : Network) (bytes : List ℕ) where
   same_report a b x y = one net a b x.2 y.2 (same_value bytes (data_of net a) (data_of net b) x.0 y.0)
 
   -- a fact of the report of the bytes is one of any report of them
-  of_one : (P Q : ℕ → List RecordTree → Type 0) (a : OfReport net bytes P) (b : OfReport net bytes Q) → Q a.report.hops (record_trees a.report.records.items)
+  of_one : (P Q : ℕ → ℕ → List RecordTree → Type 0) (a : OfReport net bytes P) (b : OfReport net bytes Q)
+      → Q (choices_of a.report.cases) a.report.hops (record_trees a.report.records.items)
   of_one P Q a b =
       let same = same_report b.report a.report b.reads a.reads in
       let trees : record_trees b.report.records.items ≡ record_trees a.report.records.items =
       trees_seen b.report.records.items ∙ (ap (λ (r : seen.ReportSeen). map tree_of r.records) same ∙ sym (trees_seen a.report.records.items)) in
-      subst (λ (hops : ℕ). Q hops (record_trees a.report.records.items)) (ap (λ (r : seen.ReportSeen). r.hops) same)
-      (subst (Q b.report.hops) trees b.holds)
+      subst (λ (cases : Option ℕ). Q (choices_of cases) a.report.hops (record_trees a.report.records.items)) (ap (λ (r : seen.ReportSeen). r.cases) same)
+      (subst (λ (hops : ℕ). Q (choices_of b.report.cases) hops (record_trees a.report.records.items)) (ap (λ (r : seen.ReportSeen). r.hops) same)
+      (subst (Q (choices_of b.report.cases) b.report.hops) trees b.holds))
 
   -- bytes that show a report are not refused as none
   fault_or_report : (f : ReportFault) (told : ℕ × List ℕ) (report : Report) → ReadsReport net bytes (Err f) → report_kind f ≡ Some told
@@ -77,7 +79,7 @@ module _ (one : IsOneReport) (net : Network) (bytes : List ℕ) where
       (sym r.1 ∙ (ap (fault (knows net) part.Report) (same_value bytes (data_of net report) h.0 r.0 h.1) ∙ h.2))
   fault_or_report NoReading told report h e r = none-some told e
 
-  bad_or_report : (kind : ℕ) (pointer : List ℕ) (P : ℕ → List RecordTree → Type 0) → IsBadReport net bytes kind pointer → OfReport net bytes P → ⊥
+  bad_or_report : (kind : ℕ) (pointer : List ℕ) (P : ℕ → ℕ → List RecordTree → Type 0) → IsBadReport net bytes kind pointer → OfReport net bytes P → ⊥
   bad_or_report kind pointer P bad of = fault_or_report bad.fault (kind, pointer) of.report bad.reads bad.told of.reads
 
   same_fault : (f g : ReportFault) (p q : ℕ × List ℕ) → ReadsReport net bytes (Err f) → report_kind f ≡ Some p
@@ -151,12 +153,12 @@ module _ (one : IsOneReport) (back : IsOneAnswer) (net : Network) (i : Entry) (b
   replays_once (text e w) (text e' w') h k =
       let ends = h.0 ∙ sym k.0 in
       let of = h.1 in
-      let texts = same_counts back net i of.report.hops (record_trees of.report.records.items) w w' of.holds (of_one one net bytes _ _ of k.1) in
+      let texts = same_counts back net (with_choices (choices_of of.report.cases) i) of.report.hops (record_trees of.report.records.items) w w' of.holds (of_one one net bytes _ _ of k.1) in
       λ l. text (ends l) (texts l)
   replays_once (text e w) (refused (BadReport kind pointer)) h k = absurd (bad_or_report one net bytes kind pointer _ k h.1)
   replays_once (text e w) (refused (NotConfirmed number kind)) h k =
       let of = h.1 in
-      absurd (counted_or_other back net i of.report.hops (record_trees of.report.records.items) w number kind of.holds (of_one one net bytes _ _ of k))
+      absurd (counted_or_other back net (with_choices (choices_of of.report.cases) i) of.report.hops (record_trees of.report.records.items) w number kind of.holds (of_one one net bytes _ _ of k))
   replays_once (text e w) (refused f) h k = absurd k
   replays_once (refused (BadReport kind pointer)) (text e w) h k = absurd (bad_or_report one net bytes kind pointer _ h k.1)
   replays_once (refused (BadReport kind pointer)) (refused (BadReport kind' pointer')) h k = same_bad one net bytes kind kind' pointer pointer' h k
@@ -164,9 +166,9 @@ module _ (one : IsOneReport) (back : IsOneAnswer) (net : Network) (i : Entry) (b
   replays_once (refused (BadReport kind pointer)) (refused f) h k = absurd k
   replays_once (refused (NotConfirmed number kind)) (text e w) h k =
       let of = k.1 in
-      absurd (counted_or_other back net i of.report.hops (record_trees of.report.records.items) w number kind of.holds (of_one one net bytes _ _ of h))
+      absurd (counted_or_other back net (with_choices (choices_of of.report.cases) i) of.report.hops (record_trees of.report.records.items) w number kind of.holds (of_one one net bytes _ _ of h))
   replays_once (refused (NotConfirmed number kind)) (refused (BadReport kind' pointer')) h k = absurd (bad_or_report one net bytes kind' pointer' _ k h)
   replays_once (refused (NotConfirmed number kind)) (refused (NotConfirmed number' kind')) h k =
-      same_other back net i h.report.hops (record_trees h.report.records.items) number number' kind kind' h.holds (of_one one net bytes _ _ h k)
+      same_other back net (with_choices (choices_of h.report.cases) i) h.report.hops (record_trees h.report.records.items) number number' kind kind' h.holds (of_one one net bytes _ _ h k)
   replays_once (refused (NotConfirmed number kind)) (refused f) h k = absurd k
   replays_once (refused f) b h k = absurd h

@@ -1,7 +1,8 @@
 -- What `replay` writes of an accepted job and the bytes of a report.
 use Rattle.std.specs.Prelude.{ℕ, ◌≡◌, List, [], ◌∷◌, Option, None, Some, Result, Ok, Err, String, string_bytes}
 use Rattle.std.specs.declared.alloc.Global.{Global}
-use Rattle.net_check.specs.Network.{Network, Entry}
+use Rattle.net_check.specs.Network.{Network, Entry, EntryParts, with_choices}
+use Rattle.net_check.specs.declared.injection.TheConstants.{USUAL_CHOICES}
 use Rattle.exact_records.specs.Records.{RecordTree}
 use Rattle.exact_records.specs.View.{record_trees}
 use Rattle.record_text.specs.declared.report.Report.{Report}
@@ -49,12 +50,17 @@ module _ (net : Network) (i : Entry) (hops : ℕ) (records : List RecordTree) wh
   IsReplayRefusal NoMemory = Unit {0}
   IsReplayRefusal _ = ⊥
 
+-- the bound on choices of cases that a report says, or the usual one
+abbrev pub choices_of : Option ℕ → ℕ
+choices_of None = USUAL_CHOICES
+choices_of (Some most) = most
+
 module _ (net : Network) where
-  -- the bytes show a report, and this is so of its hops and its records
-  pub record OfReport (bytes : List ℕ) (Fact : ℕ → List RecordTree → Type 0) : Type 0 where
+  -- the bytes show a report, and this is so of its bound on choices of cases, its hops and its records
+  pub record OfReport (bytes : List ℕ) (Fact : ℕ → ℕ → List RecordTree → Type 0) : Type 0 where
     pub report : Report
     pub reads : ReadsReport net bytes (Ok report)
-    pub holds : Fact report.hops (record_trees report.records.items)
+    pub holds : Fact (choices_of report.cases) report.hops (record_trees report.records.items)
 
   -- the bytes show no report, for a cause of this kind, by this place
   pub record IsBadReport (bytes : List ℕ) (kind : ℕ) (pointer : List ℕ) : Type 0 where
@@ -69,21 +75,21 @@ module _ (net : Network) where
   IsNoReport bytes _ = ⊥
 
 module _ (net : Network) (i : Entry) (bytes : List ℕ) where
-  -- the counts of the report that the bytes show, or why there are none; walks have the hops of the report
+  -- the counts of the report that the bytes show, or why there are none; walks have the hops of the report, and decisions its bound
   abbrev pub ReplayOf : Outcome → Type 0
-  ReplayOf (text ending whole) = (ending ≡ Done) × OfReport net bytes (λ hops records. IsCountsText net i hops records whole)
+  ReplayOf (text ending whole) = (ending ≡ Done) × OfReport net bytes (λ most hops records. IsCountsText net (with_choices most i) hops records whole)
   ReplayOf (refused (BadReport kind pointer)) = IsBadReport net bytes kind pointer
-  ReplayOf (refused (NotConfirmed number kind)) = OfReport net bytes (λ hops records. IsFirstOther net i hops records number kind)
+  ReplayOf (refused (NotConfirmed number kind)) = OfReport net bytes (λ most hops records. IsFirstOther net (with_choices most i) hops records number kind)
   ReplayOf _ = ⊥
 
   -- this is the text of the counts of the report that the bytes show
   abbrev pub CountsCome : List ℕ → Type 0
-  CountsCome whole = OfReport net bytes (λ hops records. IsCountsText net i hops records whole)
+  CountsCome whole = OfReport net bytes (λ most hops records. IsCountsText net (with_choices most i) hops records whole)
 
   -- or why there is none
   abbrev pub NoCountsCome : OwnFault → Type 0
   NoCountsCome (BadReport kind pointer) = IsBadReport net bytes kind pointer
-  NoCountsCome (NotConfirmed number kind) = OfReport net bytes (λ hops records. IsFirstOther net i hops records number kind)
+  NoCountsCome (NotConfirmed number kind) = OfReport net bytes (λ most hops records. IsFirstOther net (with_choices most i) hops records number kind)
   NoCountsCome NoMemory = Unit {0}
   NoCountsCome _ = ⊥
 
@@ -115,3 +121,7 @@ TellsAnswer (Ok counts) (Ok whole) = string_bytes whole ≡ confirmed_text count
 TellsAnswer (Ok counts) (Err fault) = fault ≡ NoMemory
 TellsAnswer (Err fault) (Ok whole) = ⊥
 TellsAnswer (Err fault) (Err own) = own ≡ fault_of_replay fault
+
+-- the same injection, but for its bound on choices of cases
+abbrev pub IsBoundAgain : EntryParts → EntryParts → Type 0
+IsBoundAgain i j = (most : ℕ) × (j ≡ record i { most_choices = most })

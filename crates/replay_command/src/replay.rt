@@ -8,14 +8,14 @@ ghost use Rattle.path_report.specs.Reading.{ReadsReport};
 ghost use Rattle.command_runs.specs.Inputs.{given_of, some_bytes};
 ghost use Rattle.command_edge.specs.Puts.{text as a_text};
 ghost use Rattle.command_runs.specs.Runs.{IsRefusal};
-ghost use Rattle.replay_command.specs.Replays.{CountsCome, IsCountsText, IsNoReport, IsReplayRefusal, NoCountsCome, ReplayComes, TellsAnswer};
+ghost use Rattle.replay_command.specs.Replays.{CountsCome, IsBoundAgain, IsCountsText, IsNoReport, IsReplayRefusal, NoCountsCome, ReplayComes, TellsAnswer, choices_of};
 
 use crate::counts::confirmed_text;
 use crate::fault::{fault_of_replay, fault_of_report};
 use command_edge::{Ending, OwnFault};
 use command_runs::{Both, ByteFile, JobFile, OnePiece, Two};
 use kept_texts::OfNet;
-use net_check::{Accepted, Net};
+use net_check::{Accepted, Injection, Net, USUAL_CHOICES};
 use path_records::Record;
 use path_replay::{Confirmed, ReplayFault, Supply, confirm, confirm_given};
 use path_report::laws::printed_records_are_read;
@@ -44,32 +44,49 @@ fn report_of(alloc: Global, net: &Net, bytes: &[u8]) -> Result<Report, OwnFault>
     }
 }
 
+/// The bound on choices of cases that a report says, or the usual one.
+fn choices_of(cases: Option<u64>) -> u64
+    ensures { result ≡ choices_of cases }
+{
+    match cases {
+        None => USUAL_CHOICES,
+        Some(most) => most,
+    }
+}
+
 /// The text of the counts of these records, whose walks have `hops` hops.
 fn text_of_counts(
     alloc: Global,
-    job: &Accepted,
+    net: &Net,
+    injection: &Injection,
     hops: u32,
     records: &[Record],
 ) -> Result<String, OwnFault>
-    requires { AreOfOneJob (network job.now.net) (entry job.now.injection) }
-    ensures text { IfOk result (λ text. IsCountsText (network job.now.net) (entry job.now.injection) hops
+    requires { AreOfOneJob (network net.now) (entry injection.now) }
+    ensures text { IfOk result (λ text. IsCountsText (network net.now) (entry injection.now) hops
         (record_trees records.now) (string_bytes text)) }
-    ensures refused { IfErr result (IsReplayRefusal (network job.now.net) (entry job.now.injection) hops
+    ensures refused { IfErr result (IsReplayRefusal (network net.now) (entry injection.now) hops
         (record_trees records.now)) }
 {
-    let answer = confirm(alloc, &job.net, &job.injection, hops, records);
+    let answer = confirm(alloc, net, injection, hops, records);
     text_of_answer(alloc, answer)
 }
 
 /// The text of the counts of the report that the bytes show, which is read whole.
-fn text_of_whole(alloc: Global, job: &Accepted, bytes: &[u8]) -> Result<String, OwnFault>
-    requires { AreOfOneJob (network job.now.net) (entry job.now.injection) }
-    ensures text { IfOk result (λ text. CountsCome (network job.now.net) (entry job.now.injection) bytes.now
+fn text_of_whole(
+    alloc: Global,
+    net: &Net,
+    injection: &mut Injection,
+    bytes: &[u8],
+) -> Result<String, OwnFault>
+    requires { AreOfOneJob (network net.now) (entry injection.old) }
+    ensures text { IfOk result (λ text. CountsCome (network net.now) (entry injection.old) bytes.now
         (string_bytes text)) }
-    ensures refused { IfErr result (NoCountsCome (network job.now.net) (entry job.now.injection) bytes.now) }
+    ensures refused { IfErr result (NoCountsCome (network net.now) (entry injection.old) bytes.now) }
 {
-    let report = report_of(alloc, &job.net, bytes)?;
-    text_of_counts(alloc, job, report.hops, &report.records)
+    let report = report_of(alloc, net, bytes)?;
+    injection.set_choices(choices_of(report.cases));
+    text_of_counts(alloc, net, injection, report.hops, &report.records)
 }
 
 /// The records of a report in its printed form. Each is confirmed as it is read.
@@ -102,25 +119,28 @@ fn text_of_answer(alloc: Global, answer: Result<Confirmed, ReplayFault>) -> Resu
 }
 
 /// The text of the counts of the records of a report in its printed form. It keeps none of them. None also where that form is
-/// not seen.
+/// not seen. The injection has another bound on choices of cases behind it.
 fn text_of_printed<N: OfNet>(
     alloc: Global,
-    job: &Accepted,
+    net: &Net,
+    injection: &mut Injection,
     bytes: &[u8],
 ) -> Result<Option<String>, OwnFault>
-    requires net { network job.now.net ≡ N.net }
-    requires job { AreOfOneJob (network job.now.net) (entry job.now.injection) }
+    requires net { network net.now ≡ N.net }
+    requires job { AreOfOneJob (network net.now) (entry injection.old) }
     requires short { length bytes.now < 2 ^ 63 }
     ensures text { IfOk result (λ found. IfSome found
-        (λ text. CountsCome (network job.now.net) (entry job.now.injection) bytes.now (string_bytes text))) }
-    ensures refused { IfErr result (NoCountsCome (network job.now.net) (entry job.now.injection) bytes.now) }
+        (λ text. CountsCome (network net.now) (entry injection.old) bytes.now (string_bytes text))) }
+    ensures refused { IfErr result (NoCountsCome (network net.now) (entry injection.old) bytes.now) }
+    ensures kept { IsBoundAgain injection.old injection.new }
 {
     printed_records_are_read();
-    let Some((frame, records)) = open_printed::<N>(alloc, &job.net, bytes)? else {
+    let Some((frame, records)) = open_printed::<N>(alloc, net, bytes)? else {
         return Ok(None);
     };
+    injection.set_choices(choices_of(frame.cases));
     let mut supply = AsRead { records };
-    let answer = confirm_given(alloc, &job.net, &job.injection, frame.hops, &mut supply);
+    let answer = confirm_given(alloc, net, injection, frame.hops, &mut supply);
     if !supply.records.is_over() {
         return Ok(None);
     }
@@ -130,29 +150,34 @@ fn text_of_printed<N: OfNet>(
     }
 }
 
-/// The text of the counts of the report that the bytes show, of an accepted job.
-fn text_of_report(alloc: Global, job: &Accepted, bytes: &[u8]) -> Result<String, OwnFault>
-    requires job { AreOfOneJob (network job.now.net) (entry job.now.injection) }
+/// The text of the counts of the report that the bytes show, of an accepted net and injection.
+fn text_of_report(
+    alloc: Global,
+    net: &Net,
+    injection: &mut Injection,
+    bytes: &[u8],
+) -> Result<String, OwnFault>
+    requires job { AreOfOneJob (network net.now) (entry injection.old) }
     requires short { length bytes.now < 2 ^ 63 }
-    ensures text { IfOk result (λ text. CountsCome (network job.now.net) (entry job.now.injection) bytes.now
+    ensures text { IfOk result (λ text. CountsCome (network net.now) (entry injection.old) bytes.now
         (string_bytes text)) }
-    ensures refused { IfErr result (NoCountsCome (network job.now.net) (entry job.now.injection) bytes.now) }
+    ensures refused { IfErr result (NoCountsCome (network net.now) (entry injection.old) bytes.now) }
 {
-    match text_of_printed::<Brand>(alloc, job, bytes)? {
+    match text_of_printed::<Brand>(alloc, net, injection, bytes)? {
         Some(text) => Ok(text),
-        None => text_of_whole(alloc, job, bytes),
+        None => text_of_whole(alloc, net, injection, bytes),
     }
 }
 
 /// The text of the counts of the report of the file.
-fn text_of(alloc: Global, given: &Two<Accepted, Vec<u8>>) -> Result<(Ending, String), OwnFault>
-    requires { AreOfOneJob (network given.now.first.net) (entry given.now.first.injection) }
-    ensures text { IfOk result (λ t. ReplayComes (given_of given.now.first ∷ some_bytes given.now.second.items ∷ [])
+fn text_of(alloc: Global, job: &mut Accepted, bytes: &[u8]) -> Result<(Ending, String), OwnFault>
+    requires job { AreOfOneJob (network job.old.net) (entry job.old.injection) }
+    requires short { length bytes.now < 2 ^ 63 }
+    ensures text { IfOk result (λ t. ReplayComes (given_of job.old ∷ some_bytes bytes.now ∷ [])
         (a_text t.0 (string_bytes t.1))) }
-    ensures refused { IfErr result (IsRefusal (ReplayComes
-        (given_of given.now.first ∷ some_bytes given.now.second.items ∷ []))) }
+    ensures refused { IfErr result (IsRefusal (ReplayComes (given_of job.old ∷ some_bytes bytes.now ∷ []))) }
 {
-    let text = text_of_report(alloc, &given.first, &given.second)?;
+    let text = text_of_report(alloc, &job.net, &mut job.injection, bytes)?;
     Ok((Ending::Done, text))
 }
 
@@ -172,6 +197,8 @@ impl<'a> OnePiece for Replay<'a> {
         alloc: Global,
         given: Two<Accepted, Vec<u8>>,
     ) -> Result<(Ending, String), OwnFault> {
-        text_of(alloc, &given)
+        let Two { first, second } = given;
+        let mut job = first;
+        text_of(alloc, &mut job, &second)
     }
 }

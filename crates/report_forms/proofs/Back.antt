@@ -37,12 +37,12 @@ use Rattle.report_shape.specs.Reduced.{number_in}
 use Rattle.run_text.specs.Forms.{list, count, value_data, values_data, address_data, decision_data, decisions_data, place_data, places_data, failure_data, end_data, owner_data, tag_data, tags_data, term_part_data, term_parts_data, term_data, given_by, cell_data, cells_data, head_data, heads_data, meta_data, metas_data, fields_data}
 use Rattle.record_text.specs.declared.report.Report.{Report}
 use Rattle.record_text.specs.Records.{ids_data, step_data, refutation_data, cause_data, verdict_data, before_data, path_data, pruned_data, unexplored_data, record_data, records_data}
-use Rattle.record_text.specs.Reports.{state_text, report_data, data_of}
+use Rattle.record_text.specs.Reports.{state_text, report_members, report_data, data_of}
 use Rattle.report_names.specs.Names.{node_named, meta_named, tag_named, place_named}
 use Rattle.report_names.specs.Own.{IsOwnPlace}
 use Rattle.report_forms.specs.Seen.{RecordSeen, path, pruned, unexplored, record_seen, ReportSeen, line_seen, report_seen}
 use Rattle.report_forms.specs.Fits.{DecisionFits, ValueFits, CellFits, HeadFits, OwnerFits, MetaFits, TagFits, FieldsFit, Fit128, Fit32, CauseFits, VerdictFits, BeforeFits, StepFits, LineFits, RecordFits, ReportFits}
-use Rattle.report_forms.proofs.Written.{HasDigits, FindsPlaces, value_in, power_within, parts_fit, PartFits128}
+use Rattle.report_forms.proofs.Written.{HasDigits, FindsPlaces, line_fits, value_in, power_within, parts_fit, PartFits128}
 
 -- ---- parts of a value, whatever it is
 
@@ -183,6 +183,7 @@ record_back net d = record_by (text_back (member_back (codes "kind") d)) net d
 
 abbrev report_back : Network → Data → ReportSeen
 report_back net d = record {
+  cases = option_map number_in (get (codes "cases") d);
   hops = number_in (member_back (codes "hops") d);
   limit = number_in (member_back (codes "limit") d);
   records = list_back (record_back net) (member_back (codes "records") d);
@@ -361,21 +362,23 @@ module _ (net : Network) (digits : HasDigits) (places : FindsPlaces) where
   unfolding records_data
   records_is rs h = seen_back (record_data net) (record_back net) record_seen (RecordFits net) record_is rs h
 
+  line_is : (cases : Option ℕ) (hops limit : ℕ) (records : List Record) (refuted : ℕ) (complete : Bool) → LineFits net cases hops limit records refuted
+      → report_back net (report_data cases hops limit (records_data net records) refuted complete) ≡ line_seen cases hops limit records refuted complete
+  unfolding report_data report_members
+  line_is None hops limit records refuted complete h =
+      λ i. record { cases = None; hops = hops; limit = limit; records = records_is records h.all_records i; refuted = refuted; complete = state_is complete i }
+  line_is (Some n) hops limit records refuted complete h =
+      λ i. record { cases = Some n; hops = hops; limit = limit; records = records_is records h.all_records i; refuted = refuted; complete = state_is complete i }
+
   report_is : (r : Report) → ReportFits net r → report_back net (data_of net r) ≡ report_seen r
-  unfolding report_data
-  report_is r h = λ i. record { hops = r.hops; limit = r.limit; records = records_is r.records.items h.all_records i; refuted = r.refuted; complete = state_is r.complete i }
+  report_is r h = line_is r.cases r.hops r.limit r.records.items r.refuted r.complete (line_fits net r h)
 
   pub report_one : (a b : Report) → ReportFits net a → ReportFits net b → data_of net a ≡ data_of net b → report_seen a ≡ report_seen b
   report_one a b h k same = sym (report_is a h) ∙ ap (report_back net) same ∙ report_is b k
 
-  line_is : (hops limit : ℕ) (records : List Record) (refuted : ℕ) (complete : Bool) → LineFits net hops limit records refuted
-      → report_back net (report_data hops limit (records_data net records) refuted complete) ≡ line_seen hops limit records refuted complete
-  unfolding report_data
-  line_is hops limit records refuted complete h =
-      λ i. record { hops = hops; limit = limit; records = records_is records h.all_records i; refuted = refuted; complete = state_is complete i }
-
-  pub line_one : (hops limit : ℕ) (records : List Record) (refuted : ℕ) (complete : Bool) (found : Report) → LineFits net hops limit records refuted
-      → ReportFits net found → report_data hops limit (records_data net records) refuted complete ≡ data_of net found
-      → report_seen found ≡ line_seen hops limit records refuted complete
-  line_one hops limit records refuted complete found h k same =
-      sym (report_is found k) ∙ ap (report_back net) (sym same) ∙ line_is hops limit records refuted complete h
+  pub line_one : (cases : Option ℕ) (hops limit : ℕ) (records : List Record) (refuted : ℕ) (complete : Bool) (found : Report)
+      → LineFits net cases hops limit records refuted
+      → ReportFits net found → report_data cases hops limit (records_data net records) refuted complete ≡ data_of net found
+      → report_seen found ≡ line_seen cases hops limit records refuted complete
+  line_one cases hops limit records refuted complete found h k same =
+      sym (report_is found k) ∙ ap (report_back net) (sym same) ∙ line_is cases hops limit records refuted complete h

@@ -111,7 +111,7 @@ module _ (net : Network) (i : Entry) (hops : ℕ) (below : Below net i) (found :
   own_start one = by (injected (terms (unknown_count i)) (scene_at net i.node) i.own) (below.injection one) below.typed_injection
     where
       from : (s : Carried LinearTerm) → IsOwnTree net unknowns (tree_from (terms (unknown_count i)) net i hops s) → (r : Result (List FormulaTree) LayoutFault)
-          → IfOk {T = SymStart} (on_ok (λ fs. record { unknowns = unknowns; tests = fs; tree = tree_from (terms (unknown_count i)) net i hops s }) r) (λ start. IsOwnTree net unknowns start.tree)
+          → IfOk {T = SymStart} (on_ok (λ fs. record { unknowns = unknowns; tests = fs; tree = tree_from (terms (unknown_count i)) net i hops s; most_choices = i.most_choices }) r) (λ start. IsOwnTree net unknowns start.tree)
       from s h (Ok fs) = h
       from s h (Err fault) = tt
 

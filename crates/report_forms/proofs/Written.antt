@@ -44,7 +44,7 @@ use Rattle.run_text.specs.Names.{node_name}
 use Rattle.run_text.specs.Forms.{list, count, value_data, values_data, address_data, decision_data, decisions_data, side_text, place_data, places_data, fault_data, failure_data, end_data, owner_data, tag_data, tags_data, term_part_data, term_parts_data, term_data, given_by, cell_data, cells_data, head_data, heads_data, meta_data, metas_data, fields_data}
 use Rattle.record_text.specs.declared.report.Report.{Report}
 use Rattle.record_text.specs.Records.{ids_data, step_data, refutation_data, cause_data, verdict_data, before_data, path_data, pruned_data, unexplored_data, record_data, records_data}
-use Rattle.record_text.specs.Reports.{state_text, report_data, data_of}
+use Rattle.record_text.specs.Reports.{state_text, report_members, report_data, data_of}
 use Rattle.report_names.specs.Names.{knows, place_named}
 use Rattle.report_names.specs.Own.{IsOwnPlace}
 use Rattle.report_forms.specs.Fits.{DecisionFits, EndFits, AddressFits, PartFits, TermFits, ValueFits, CellFits, HeadFits, OwnerFits, MetaFits, TagFits, FieldsFit, Fit128, Fit32, CauseFits, VerdictFits, BeforeFits, StepFits, LineFits, RecordFits, ReportFits}
@@ -139,6 +139,18 @@ parts_fit w (p ∷ ps) h all fit = ((all.0, power_within w p.1 h fit.0.1), parts
 -- a place of the net is found by its text
 abbrev pub FindsPlaces : Type 0
 FindsPlaces = (net : Network) (place : Place) → IsOwnPlace net place → place_named net (side_text place.side ++ (node_name net place.node ++ (codes "." ++ decimal place.port))) ≡ Some place
+
+-- so fits the line of a report that does
+pub line_fits : (net : Network) (r : Report) → ReportFits net r → LineFits net r.cases r.hops r.limit r.records.items r.refuted
+line_fits net r h = record {
+  the_cases = h.the_cases;
+  least_hops = h.least_hops;
+  most_hops = h.most_hops;
+  least_limit = h.least_limit;
+  most_limit = h.most_limit;
+  all_records = h.all_records;
+  count = h.refuted;
+}
 
 module _ (net : Network) (digits : HasDigits) (places : FindsPlaces) where
   module _ {A : Type 0} (p : Shaped) (data_of : A → Data) (Fits : A → Type 0) (one : (a : A) → Fits a → HasForm net p (data_of a)) where
@@ -319,13 +331,20 @@ module _ (net : Network) (digits : HasDigits) (places : FindsPlaces) where
   state_form true = refl
   state_form false = refl
 
-  pub report_form : (r : Report) → ReportFits net r → HasForm net part.Report (data_of net r)
-  unfolding report_data
-  report_form r h =
-      rw (within 1 256 r.hops h.least_hops h.most_hops, within 1 100000 r.limit h.least_limit h.most_limit, records_form r.records.items h.all_records, count_form r.refuted h.refuted, state_form r.complete) refl
-
-  pub line_form : (hops limit : ℕ) (records : List Record) (refuted : ℕ) (complete : Bool) → LineFits net hops limit records refuted
-      → HasForm net part.Report (report_data hops limit (records_data net records) refuted complete)
-  unfolding report_data
-  line_form hops limit records refuted complete h =
+  pub line_form : (cases : Option ℕ) (hops limit : ℕ) (records : List Record) (refuted : ℕ) (complete : Bool) → LineFits net cases hops limit records refuted
+      → HasForm net part.Report (report_data cases hops limit (records_data net records) refuted complete)
+  unfolding report_data report_members
+  line_form None hops limit records refuted complete h =
       rw (within 1 256 hops h.least_hops h.most_hops, within 1 100000 limit h.least_limit h.most_limit, records_form records h.all_records, count_form refuted h.count, state_form complete) refl
+  line_form (Some n) hops limit records refuted complete h =
+      rw (
+        within 1 18446744073709551615 n h.the_cases.0 (omega (arith, h.the_cases.1)),
+        within 1 256 hops h.least_hops h.most_hops,
+        within 1 100000 limit h.least_limit h.most_limit,
+        records_form records h.all_records,
+        count_form refuted h.count,
+        state_form complete,
+      ) refl
+
+  pub report_form : (r : Report) → ReportFits net r → HasForm net part.Report (data_of net r)
+  report_form r h = line_form r.cases r.hops r.limit r.records.items r.refuted r.complete (line_fits net r h)

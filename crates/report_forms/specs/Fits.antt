@@ -114,7 +114,13 @@ RecordFits net (Path decisions places ended fields verdict) = PathFits net decis
 RecordFits net (Pruned decisions before refutation) = AllByRecursion DecisionFits decisions.items × BeforeFits before × AllByRecursion StepFits refutation
 RecordFits net (Unexplored decisions) = AllByRecursion DecisionFits decisions.items
 
+-- a number of 64 bits from 1 on, where there is one
+abbrev pub CasesFit : Option ℕ → Type 0
+CasesFit None = Unit {0}
+CasesFit (Some n) = (1 ≤ n) × (n < 2 ^ 64)
+
 pub record ReportFits (net : Network) (r : Report) : Type 0 where
+  pub the_cases : CasesFit r.cases
   pub least_hops : 1 ≤ r.hops
   pub most_hops : r.hops ≤ 256
   pub least_limit : 1 ≤ r.limit
@@ -123,7 +129,8 @@ pub record ReportFits (net : Network) (r : Report) : Type 0 where
   pub refuted : r.refuted < 2 ^ 64
 
 -- the same of the line of a report of any records
-pub record LineFits (net : Network) (hops limit : ℕ) (records : List Record) (refuted : ℕ) : Type 0 where
+pub record LineFits (net : Network) (cases : Option ℕ) (hops limit : ℕ) (records : List Record) (refuted : ℕ) : Type 0 where
+  pub the_cases : CasesFit cases
   pub least_hops : 1 ≤ hops
   pub most_hops : hops ≤ 256
   pub least_limit : 1 ≤ limit

@@ -25,6 +25,7 @@ record_seen (Unexplored decisions) = unexplored decisions.items
 
 -- a report, as lists
 pub record ReportSeen : Type 0 where
+  pub cases : Option ℕ
   pub hops : ℕ
   pub limit : ℕ
   pub records : List RecordSeen
@@ -32,9 +33,10 @@ pub record ReportSeen : Type 0 where
   pub complete : Bool
 
 abbrev pub report_seen : Report → ReportSeen
-report_seen r = record { hops = r.hops; limit = r.limit; records = map record_seen r.records.items; refuted = r.refuted; complete = r.complete }
+report_seen r =
+    record { cases = r.cases; hops = r.hops; limit = r.limit; records = map record_seen r.records.items; refuted = r.refuted; complete = r.complete }
 
 -- what the line of a report of any records shows
-abbrev pub line_seen : ℕ → ℕ → List Record → ℕ → Bool → ReportSeen
-line_seen hops limit records refuted complete =
-    record { hops = hops; limit = limit; records = map record_seen records; refuted = refuted; complete = complete }
+abbrev pub line_seen : Option ℕ → ℕ → ℕ → List Record → ℕ → Bool → ReportSeen
+line_seen cases hops limit records refuted complete =
+    record { cases = cases; hops = hops; limit = limit; records = map record_seen records; refuted = refuted; complete = complete }

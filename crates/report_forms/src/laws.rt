@@ -1,7 +1,7 @@
 //! What follows from the definitions of a report's JSON and of its shape. These functions do nothing: their contracts are
 //! the laws.
 
-ghost use Rattle.std.specs.Prelude.{◌≡◌, ℕ, Bool, List, None};
+ghost use Rattle.std.specs.Prelude.{◌≡◌, ℕ, Bool, List, None, Option};
 ghost use Rattle.net_check.specs.Network.{Network};
 ghost use Rattle.path_records.specs.declared.records.Record.{Record};
 ghost use Rattle.report_shape.specs.declared.part.Part.TheVariants as part;
@@ -31,14 +31,16 @@ pub fn reports_have_their_form()
 
 /// The same of the JSON of any records.
 pub fn lines_have_their_form()
-    ensures form { (net : Network) (hops limit : ℕ) (records : List Record) (refuted : ℕ) (complete : Bool)
-        → LineFits net hops limit records refuted
-        → fault (knows net) part.Report (report_data hops limit (records_data net records) refuted complete) ≡ None }
-    ensures one { (net : Network) (hops limit : ℕ) (records : List Record) (refuted : ℕ) (complete : Bool)
-        (found : Report)
-        → LineFits net hops limit records refuted → ReportFits net found
-        → report_data hops limit (records_data net records) refuted complete ≡ data_of net found
-        → report_seen found ≡ line_seen hops limit records refuted complete }
+    ensures form { (net : Network) (cases : Option ℕ) (hops limit : ℕ) (records : List Record) (refuted : ℕ)
+        (complete : Bool)
+        → LineFits net cases hops limit records refuted
+        → fault (knows net) part.Report (report_data cases hops limit (records_data net records) refuted complete)
+        ≡ None }
+    ensures one { (net : Network) (cases : Option ℕ) (hops limit : ℕ) (records : List Record) (refuted : ℕ)
+        (complete : Bool) (found : Report)
+        → LineFits net cases hops limit records refuted → ReportFits net found
+        → report_data cases hops limit (records_data net records) refuted complete ≡ data_of net found
+        → report_seen found ≡ line_seen cases hops limit records refuted complete }
 {
     large_numbers_have_digits();
     places_are_found();

@@ -1,7 +1,7 @@
 -- The shape of a report: the form of each of its parts.
 use Rattle.std.specs.Prelude.{ℤ, pos, negsuc, List, [], ◌∷◌, true, false, codes, Some, None}
 use Rattle.report_shape.specs.declared.part.Part.{Part}
-use Rattle.report_shape.specs.declared.part.Part.TheVariants.{Report, Hops, Limit, Records, Record, State, Version, Word, Decisions, Decision, Places, Place, End, Text, Fields, Heads, Head, Metas, Meta, Owner, MetaName, Tags, Tag, TagName, Address, Cells, Cell, Width, Value, Terms, Term, Verdict, Before, Cause, Values, Refutation, Step, Ids, Id, Count, Nothing}
+use Rattle.report_shape.specs.declared.part.Part.TheVariants.{Report, Cases, Hops, Limit, Records, Record, State, Version, Word, Decisions, Decision, Places, Place, End, Text, Fields, Heads, Head, Metas, Meta, Owner, MetaName, Tags, Tag, TagName, Address, Cells, Cell, Width, Value, Terms, Term, Verdict, Before, Cause, Values, Refutation, Step, Ids, Id, Count, Nothing}
 use Rattle.report_shape.specs.Forms.{TextForm, no_text, any_text, words, large, known, ListForm, no_list, list_of, rows, headed, ObjectForm, no_object, keyed, by_word, by_number, Form, Field}
 
 abbrev pub nothing : Form
@@ -23,6 +23,10 @@ objects o = record nothing { object = o }
 
 abbrev pub report_fields : List Field
 report_fields = (codes "hops", Hops) ∷ (codes "limit", Limit) ∷ (codes "records", Records) ∷ (codes "refuted", Count) ∷ (codes "state", State) ∷ (codes "symnet", Version) ∷ []
+
+-- a report that says the most choices of cases
+abbrev pub bounded_fields : List Field
+bounded_fields = (codes "cases", Cases) ∷ report_fields
 
 abbrev pub path_fields : List Field
 path_fields = (codes "decisions", Decisions) ∷ (codes "end", End) ∷ (codes "fields", Fields) ∷ (codes "kind", Word) ∷ (codes "places", Places) ∷ (codes "verdict", Verdict) ∷ []
@@ -61,7 +65,8 @@ verdicts = keyed (sat_fields ∷ undecided_fields ∷ [])
 -- ---- the table
 
 abbrev pub form : Part → Form
-form Report = objects (keyed (report_fields ∷ []))
+form Report = objects (keyed (report_fields ∷ bounded_fields ∷ []))
+form Cases = numbers (pos 1) (pos 18446744073709551615)
 form Hops = numbers (pos 1) (pos 256)
 form Limit = numbers (pos 1) (pos 100000)
 form Records = lists (list_of Record)

@@ -4,6 +4,8 @@
 #[derive(Clone, Copy)]
 pub enum Part {
     Report,
+    /// The most choices of cases.
+    Cases,
     /// The most hops of a walk.
     Hops,
     /// The most records.

@@ -52,6 +52,17 @@ const REPORT: &[Field] = &[
     ("symnet", Part::Version),
 ];
 
+// A report that says the most choices of cases.
+const BOUNDED: &[Field] = &[
+    ("cases", Part::Cases),
+    ("hops", Part::Hops),
+    ("limit", Part::Limit),
+    ("records", Part::Records),
+    ("refuted", Part::Count),
+    ("state", Part::State),
+    ("symnet", Part::Version),
+];
+
 const PATH: &[Field] = &[
     ("decisions", Part::Decisions),
     ("end", Part::End),
@@ -92,7 +103,7 @@ const OUTSIDE: &[Field] = &[
     ("values", Part::Values),
 ];
 
-const WHOLE: Objects = Objects::Of(&[REPORT]);
+const WHOLE: Objects = Objects::Of(&[REPORT, BOUNDED]);
 
 const FIELDS: Objects = Objects::Of(&[CARRIED]);
 
@@ -133,6 +144,7 @@ pub(crate) fn form_for(part: Part) -> Form
 {
     match part {
         Part::Report => object(WHOLE),
+        Part::Cases => number(1, 18_446_744_073_709_551_615),
         Part::Hops => number(1, 256),
         Part::Limit => number(1, 100_000),
         Part::Records => list(Lists::Of(Part::Record)),

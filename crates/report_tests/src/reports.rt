@@ -2,8 +2,8 @@
 
 use crate::jobs::accepted;
 use crate::texts::{
-    ALL, ALL_JOB, CARRIED, CELLS, HEAD, ODD, OTHERS, READ_BACK, RECORDS, Row, TTL, TTL_JOB,
-    TTL_ROWS, VERDICTS,
+    ALL, ALL_JOB, BOUNDED, CARRIED, CASES, CELLS, HEAD, ODD, OTHER_ORDER, OTHERS, READ_BACK,
+    RECORDS, Row, TTL, TTL_JOB, TTL_ROWS, VERDICTS,
 };
 use net_check::Net;
 use path_report::{Report, ReportFault, read_report, report_text};
@@ -80,6 +80,28 @@ fn faults_of_the_ttl_report_have_their_place(rt: HostRuntime) {
 }
 
 #[test]
+fn broken_bounds_have_their_place(rt: HostRuntime) {
+    assert_ttl(&rt, rt.alloc(), BOUNDED);
+}
+
+/// What is read of the report of the TTL, with this part changed, has the most choices of cases in front.
+fn assert_in_front(rt: &impl Abort, alloc: Global, net: &Net, row: Row) {
+    let wanted = changed(rt, alloc, TTL, CASES);
+    let text = changed(rt, alloc, TTL, row);
+    assert_told(rt, alloc, net, text.as_str(), wanted.as_str());
+}
+
+#[test]
+fn bounds_are_read_in_any_order(rt: HostRuntime) {
+    let alloc = rt.alloc();
+    let job = accepted(&rt, alloc, TTL_JOB);
+    for row in OTHER_ORDER {
+        assert_in_front(&rt, alloc, &job.net, *row);
+    }
+    drop(job);
+}
+
+#[test]
 fn all_forms_are_read_back(rt: HostRuntime) {
     assert_ttl(&rt, rt.alloc(), READ_BACK);
 }
@@ -127,6 +149,7 @@ fn same(rt: &impl Abort, found: u64, wanted: u64) {
 
 /// What the report tells beside its records.
 fn check_ttl(rt: &impl Abort, report: &Report) {
+    same(rt, report.cases.unwrap_or(0), 0);
     same(rt, u64::from(report.hops), 16);
     same(rt, u64::from(report.limit), 10_000);
     same(rt, report.records.len() as u64, 2);
@@ -141,6 +164,16 @@ fn the_ttl_report_is_read(rt: HostRuntime) {
     let report = report_of(&rt, alloc, &job.net, TTL);
     drop(job);
     check_ttl(&rt, &report);
+}
+
+#[test]
+fn the_bound_is_read(rt: HostRuntime) {
+    let alloc = rt.alloc();
+    let job = accepted(&rt, alloc, TTL_JOB);
+    let text = changed(&rt, alloc, TTL, CASES);
+    let report = report_of(&rt, alloc, &job.net, text.as_str());
+    drop(job);
+    same(&rt, report.cases.unwrap_or(0), 4096);
 }
 
 /// The report without its last bytes is no JSON, except where only its last line end is missing.

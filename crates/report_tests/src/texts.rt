@@ -155,6 +155,44 @@ pub const HEAD: &[Row] = &[
     (r#""symnet":1"#, r#""symnet":true"#, "/symnet"),
 ];
 
+/// The report of the TTL with the most choices of cases.
+pub const CASES: Row = (r#"{"hops""#, r#"{"cases":4096,"hops""#, "same");
+
+/// Rules of the most choices of cases.
+pub const BOUNDED: &[Row] = &[
+    CASES,
+    (r#"{"hops""#, r#"{"cases":1,"hops""#, "same"),
+    (
+        r#"{"hops""#,
+        r#"{"cases":18446744073709551615,"hops""#,
+        "same",
+    ),
+    (r#"{"hops""#, r#"{"cases":0,"hops""#, "/cases"),
+    (r#"{"hops""#, r#"{"cases":-1,"hops""#, "/cases"),
+    (r#"{"hops""#, r#"{"cases":1e3,"hops""#, "/cases"),
+    (
+        r#"{"hops""#,
+        r#"{"cases":18446744073709551616,"hops""#,
+        "/cases",
+    ),
+    (r#"{"hops""#, r#"{"cases":"4096","hops""#, "/cases"),
+    (r#"{"hops""#, r#"{"cases":null,"hops""#, "/cases"),
+    (r#"{"hops":16"#, r#"{"cases":0,"hops":0"#, "/cases"),
+    (r#"{"hops":16"#, r#"{"cases":4096,"hops":0"#, "/hops"),
+    (r#"{"hops""#, r#"{"cases":4096,"cases":0,"hops""#, "/cases"),
+    // Other keys are refused at the whole.
+    (r#"{"hops""#, r#"{"case":4096,"hops""#, ""),
+    (r#"{"hops":16"#, r#"{"cases":4096,"hop":16"#, ""),
+    (r#"{"hops":16,"#, r#"{"cases":0,"#, ""),
+];
+
+/// The report with the most choices of cases in other words.
+pub const OTHER_ORDER: &[Row] = &[
+    (r#"{"hops""#, r#"{"cases":0,"cases":4096,"hops""#, "good"),
+    (r#""hops":16,"#, r#""hops":16,"cases":4096,"#, "good"),
+    (r#","symnet":1"#, r#","symnet":1,"cases":4096"#, "good"),
+];
+
 /// Rules of records, decisions and ends.
 pub const RECORDS: &[Row] = &[
     // What decides comes before the keys, and keys before what they hold.

@@ -61,15 +61,18 @@ module _ (o : Values ℕ Bool) (at : Scene) (s : Carried ℕ) where
 
 -- ---- the tests of a start
 
-tests_of_made : {V F : Type 0} (unknowns : List ℕ) (tree : Tree V F) (truths : Result (List F) LayoutFault)
-    → on_ok (λ (start : Start V F). start.tests) (on_ok (λ ts. record { unknowns = unknowns; tests = ts; tree = tree }) truths) ≡ truths
-tests_of_made unknowns tree (Err fault) = refl
-tests_of_made unknowns tree (Ok ts) = refl
+abbrev made : {V F : Type 0} → List ℕ → ℕ → Tree V F → List F → Start V F
+made unknowns most tree tests = record { unknowns = unknowns; tests = tests; tree = tree; most_choices = most }
+
+tests_of_made : {V F : Type 0} (unknowns : List ℕ) (most : ℕ) (tree : Tree V F) (truths : Result (List F) LayoutFault)
+    → on_ok (λ (start : Start V F). start.tests) (on_ok (made unknowns most tree) truths) ≡ truths
+tests_of_made unknowns most tree (Err fault) = refl
+tests_of_made unknowns most tree (Ok ts) = refl
 
 pub its_tests : {V F : Type 0} (o : Values V F) (net : Network) (i : Entry) (hops : ℕ) (s : Carried V) (start : Start V F)
     → start_from o net i hops s ≡ Ok start → tests_in o (scene_at net i.node) i.own.tests s ≡ Ok start.tests
 its_tests o net i hops s start is =
-    sym (tests_of_made (unknown_widths i.own.fields) (tree_from o net i hops s) (tests_in o (scene_at net i.node) i.own.tests s))
+    sym (tests_of_made (unknown_widths i.own.fields) i.most_choices (tree_from o net i hops s) (tests_in o (scene_at net i.node) i.own.tests s))
     ∙ ap (on_ok (λ begun. begun.tests)) is
 
 -- ---- functions of values
@@ -88,16 +91,13 @@ module _ {V F W G : Type 0} (o : Values V F) (p : Values W G) (f : V → W) (g :
       ap (λ r. and_then r (λ t. on_ok (λ ts. t ∷ ts) (tests_in p at more (carried_valued f s)))) (each test)
       ∙ next_valued (truth_in o at test s) (tests_in o at more s) (tests_in p at more (carried_valued f s)) (truths_valued each more)
 
-abbrev made : {V F : Type 0} → List ℕ → Tree V F → List F → Start V F
-made unknowns tree tests = record { unknowns = unknowns; tests = tests; tree = tree }
-
-module _ {V F W G : Type 0} (f : V → W) (g : F → G) (unknowns : List ℕ) where
+module _ {V F W G : Type 0} (f : V → W) (g : F → G) (unknowns : List ℕ) (most : ℕ) where
   same_start : (tests : Result (List F) LayoutFault) (tests' : Result (List G) LayoutFault) (tree : Tree V F) (tree' : Tree W G)
       → tests' ≡ on_ok (map g) tests → tree' ≡ tree_valued f g tree
-      → on_ok (made unknowns tree') tests' ≡ on_ok (start_valued f g) (on_ok (made unknowns tree) tests)
-  same_start (Err fault) tests' tree tree' same trees = ap (on_ok (made unknowns tree')) same
+      → on_ok (made unknowns most tree') tests' ≡ on_ok (start_valued f g) (on_ok (made unknowns most tree) tests)
+  same_start (Err fault) tests' tree tree' same trees = ap (on_ok (made unknowns most tree')) same
   same_start (Ok ts) tests' tree tree' same trees =
-      ap (on_ok (made unknowns tree')) same ∙ ap (λ t. Ok (made unknowns t (map g ts))) trees
+      ap (on_ok (made unknowns most tree')) same ∙ ap (λ t. Ok (made unknowns most t (map g ts))) trees
 
 module _ {V F W G : Type 0} (o : Values V F) (p : Values W G) (f : V → W) (g : F → G) (net : Network) (i : Entry) (hops : ℕ) where
   pub start_from_valued : (s : Carried V)
@@ -105,7 +105,7 @@ module _ {V F W G : Type 0} (o : Values V F) (p : Values W G) (f : V → W) (g :
       → tree_from p net i hops (carried_valued f s) ≡ tree_valued f g (tree_from o net i hops s)
       → start_from p net i hops (carried_valued f s) ≡ on_ok (start_valued f g) (start_from o net i hops s)
   start_from_valued s each trees =
-      same_start f g (unknown_widths i.own.fields) (tests_in o (scene_at net i.node) i.own.tests s)
+      same_start f g (unknown_widths i.own.fields) i.most_choices (tests_in o (scene_at net i.node) i.own.tests s)
       (tests_in p (scene_at net i.node) i.own.tests (carried_valued f s)) (tree_from o net i hops s)
       (tree_from p net i hops (carried_valued f s)) (truths_valued o p f g (scene_at net i.node) s each i.own.tests) trees
 

@@ -71,7 +71,7 @@ meta scope name = Meta scope name 8
 -- at input port 0 of the first node, without tags and conditions
 abbrev pub injection : List ℕ → List RawField → Entry
 injection node fields =
-    record { own = record { node = node; port = 0; tags = []; fields = fields; tests = [] }; node = record { 0 = 0 } }
+    record { own = record { node = node; port = 0; tags = []; fields = fields; tests = [] }; node = record { 0 = 0 }; most_choices = 4096 }
 
 -- ---- a box that drops a packet whose time to live is 1 or less
 
@@ -100,6 +100,7 @@ ttl_injection = record {
     tests = [];
   };
   node = record { 0 = 0 };
+  most_choices = 4096;
 }
 
 abbrev pub ttl_of : ℕ → Carried ℕ

@@ -14,11 +14,13 @@ use Rattle.sefl_meaning.specs.Trees.{Tree, over, arrives, tests, splits, enter}
 use Rattle.sefl_meaning.specs.Routes.{Route}
 use Rattle.sefl_meaning.specs.Valued.{tree_valued}
 
--- the widths of the unknown fields, the tests of the injection, and the tree from its port
+-- the widths of the unknown fields, the tests of the injection, the tree from its port, and the bound on the choices of cases that
+-- decisions try
 pub record Start (V F : Type 0) : Type 0 where
   pub unknowns : List ℕ
   pub tests : List F
   pub tree : Tree V F
+  pub most_choices : ℕ
 
 module _ {V F : Type 0} (o : Values V F) where
   -- the truths of conditions, in order, or the first fault
@@ -33,7 +35,8 @@ module _ {V F : Type 0} (o : Values V F) where
   -- of what is carried there
   abbrev pub start_from : Network → Entry → ℕ → Carried V → Result (Start V F) LayoutFault
   start_from net i hops s =
-      on_ok (λ fs. record { unknowns = unknown_widths i.own.fields; tests = fs; tree = tree_from net i hops s })
+      on_ok
+      (λ fs. record { unknowns = unknown_widths i.own.fields; tests = fs; tree = tree_from net i hops s; most_choices = i.most_choices })
       (tests_in (scene_at net i.node) i.own.tests s)
 
   abbrev pub start_of : Network → Entry → ℕ → Result (Start V F) LayoutFault
@@ -56,7 +59,8 @@ module _ {V F : Type 0} (start : Start V F) where
   tests_on r = map (λ f. (f, true)) start.tests ++ r.tests
 
 abbrev pub start_valued : {V F W G : Type 0} → (V → W) → (F → G) → Start V F → Start W G
-start_valued f g s = record { unknowns = s.unknowns; tests = map g s.tests; tree = tree_valued f g s.tree }
+start_valued f g s =
+    record { unknowns = s.unknowns; tests = map g s.tests; tree = tree_valued f g s.tree; most_choices = s.most_choices }
 
 -- a packet starts so, exactly where it fits and its numbers give this state and tests that are all true
 pub record StartsAt (net : Network) (i : Entry) (v : List ℕ) (hops : ℕ) (s : Carried ℕ) : Type 0 where

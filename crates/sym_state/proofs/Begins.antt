@@ -40,4 +40,4 @@ pub has_no_fault : (net : Network) (i : Injection) (start : Start LinearTerm For
     → and_then (injected (terms (unknown_count i)) (scene_at net i.node) i.own) (tests_in (terms (unknown_count i)) (scene_at net i.node) i.own.tests) ≡ Err fault → ⊥
 has_no_fault net i start fault h k =
     no_start (injected (terms (unknown_count i)) (scene_at net i.node) i.own) (tests_in (terms (unknown_count i)) (scene_at net i.node) i.own.tests)
-    (λ s fs. record { unknowns = unknown_widths i.own.fields; tests = fs; tree = tree_from (terms (unknown_count i)) net i 0 s }) start fault h k
+    (λ s fs. record { unknowns = unknown_widths i.own.fields; tests = fs; tree = tree_from (terms (unknown_count i)) net i 0 s; most_choices = i.most_choices }) start fault h k

@@ -55,10 +55,10 @@ pub record AskedTo (unknowns : ℕ) (at : Scene) (tests : List Cond) (i : ℕ) (
       ≡ on_ok (λ fs. trees_of more ++ fs) (tests_in (terms unknowns) at (map cond_tree (drop i tests)) first.carried)
 
 with_none : (s : Symbolic) → s ≡ with_entries s []
-with_none s = λ j. record s { condition = record { widths = s.condition.widths; entries = sym (end_of s.condition.entries) j } }
+with_none s = λ j. record s { condition = record s.condition { entries = sym (end_of s.condition.entries) j } }
 
 with_both : (s : Symbolic) (es fs : List Entry) → with_entries (with_entries s es) fs ≡ with_entries s (es ++ fs)
-with_both s es fs = λ j. record s { condition = record { widths = s.condition.widths; entries = append_assoc s.condition.entries es fs j } }
+with_both s es fs = λ j. record s { condition = record s.condition { entries = append_assoc s.condition.entries es fs j } }
 
 pub asked_none : (unknowns : ℕ) (at : Scene) (tests : List Cond) (first : Symbolic) → AskedTo unknowns at tests 0 first first
 asked_none unknowns at tests first = record {

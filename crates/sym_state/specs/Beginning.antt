@@ -25,19 +25,20 @@ abbrev pub MustBeTrue : List Entry → Type 0
 MustBeTrue entries = AllByRecursion (λ entry. entry.1 ≡ true) entries
 
 -- the state carries what this injection makes here, its symbols are the `unknowns` unknown fields, and its formulas are the
--- tests of the injection, which must be true; nothing was decided or arrived at
-pub record BeginsAs (unknowns : ℕ) (at : Scene) (i : InjectionTree) (s : Symbolic) : Type 0 where
+-- tests of the injection, which must be true; its bound on choices of cases is `most`; nothing was decided or arrived at
+pub record BeginsAs (unknowns most : ℕ) (at : Scene) (i : InjectionTree) (s : Symbolic) : Type 0 where
   pub carries : injected (terms unknowns) at i ≡ Ok s.carried
   pub tests : tests_in (terms unknowns) at i.tests s.carried ≡ Ok (trees_of s.condition.entries)
   pub true_tests : MustBeTrue s.condition.entries
   pub widths : s.condition.widths ≡ unknown_widths i.fields
+  pub most_choices : s.condition.most_choices ≡ most
   pub unknown_fields : s.unknowns ≡ unknowns
   pub decisions : s.decisions ≡ []
   pub places : s.places ≡ []
 
 -- it is the state that the injection of the net begins with
 abbrev pub Begins : Network → Injection → Symbolic → Type 0
-Begins net i s = BeginsAs (unknown_count i) (scene_at net i.node) i.own s
+Begins net i s = BeginsAs (unknown_count i) i.most_choices (scene_at net i.node) i.own s
 
 -- what is explored from this state, with this many hops
 abbrev pub start_in : Network → Injection → ℕ → Symbolic → Start LinearTerm FormulaTree
@@ -45,27 +46,29 @@ start_in net i hops s = record {
   unknowns = s.condition.widths;
   tests = trees_of s.condition.entries;
   tree = tree_from (terms (unknown_count i)) net i hops s.carried;
+  most_choices = s.condition.most_choices;
 }
 
 -- the state before its tests are looked at
-pub record CarriesIts (unknowns : ℕ) (at : Scene) (i : InjectionTree) (s : Symbolic) : Type 0 where
+pub record CarriesIts (unknowns most : ℕ) (at : Scene) (i : InjectionTree) (s : Symbolic) : Type 0 where
   pub carries : injected (terms unknowns) at i ≡ Ok s.carried
   pub none : s.condition.entries ≡ []
   pub widths : s.condition.widths ≡ unknown_widths i.fields
+  pub most_choices : s.condition.most_choices ≡ most
   pub unknown_fields : s.unknowns ≡ unknowns
   pub decisions : s.decisions ≡ []
   pub places : s.places ≡ []
 
-abbrev pub CarriesAs : ℕ → Scene → InjectionTree → Result Symbolic StepFault → Type 0
-CarriesAs unknowns at i (Ok s) = CarriesIts unknowns at i s
-CarriesAs unknowns at i (Err (Layout fault)) = injected (terms unknowns) at i ≡ Err fault
-CarriesAs unknowns at i (Err NoMemory) = Unit {0}
+abbrev pub CarriesAs : ℕ → ℕ → Scene → InjectionTree → Result Symbolic StepFault → Type 0
+CarriesAs unknowns most at i (Ok s) = CarriesIts unknowns most at i s
+CarriesAs unknowns most at i (Err (Layout fault)) = injected (terms unknowns) at i ≡ Err fault
+CarriesAs unknowns most at i (Err NoMemory) = Unit {0}
 
 -- what a call that makes it in parts answers
-abbrev pub BegunAs : ℕ → Scene → InjectionTree → Result Symbolic StepFault → Type 0
-BegunAs unknowns at i (Ok s) = BeginsAs unknowns at i s
-BegunAs unknowns at i (Err (Layout fault)) = and_then (injected (terms unknowns) at i) (tests_in (terms unknowns) at i.tests) ≡ Err fault
-BegunAs unknowns at i (Err NoMemory) = Unit {0}
+abbrev pub BegunAs : ℕ → ℕ → Scene → InjectionTree → Result Symbolic StepFault → Type 0
+BegunAs unknowns most at i (Ok s) = BeginsAs unknowns most at i s
+BegunAs unknowns most at i (Err (Layout fault)) = and_then (injected (terms unknowns) at i) (tests_in (terms unknowns) at i.tests) ≡ Err fault
+BegunAs unknowns most at i (Err NoMemory) = Unit {0}
 
 -- a state with the formulas of these tests more, which must be true
 pub record IsAsking (unknowns : ℕ) (at : Scene) (tests : List CondTree) (old new : Symbolic) : Type 0 where

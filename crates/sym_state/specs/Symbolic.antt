@@ -49,7 +49,7 @@ with_symbol s width carried = record s { carried = carried; condition = with_wid
 
 -- with more formulas, each with the truth that it must have
 abbrev pub with_entries : Symbolic → List Entry → Symbolic
-with_entries s more = record s { condition = record { widths = s.condition.widths; entries = s.condition.entries ++ more } }
+with_entries s more = record s { condition = record s.condition { entries = s.condition.entries ++ more } }
 
 -- with one decision more
 abbrev pub with_decision : Symbolic → Decision → Symbolic
@@ -63,11 +63,13 @@ with_place s place = record s { places = place ∷ s.places }
 abbrev pub decided : Symbolic → Formula → Decision → Symbolic
 decided s formula decision = with_decision (with_entries s ((formula, polarity decision) ∷ [])) decision
 
--- what no instruction changes: the unknown fields with their widths, the formulas, the decisions and the places
+-- what no instruction changes: the unknown fields with their widths, the formulas, the bound on choices of cases, the decisions and
+-- the places
 pub record Rest : Type 0 where
   pub unknowns : ℕ
   pub fields : List ℕ
   pub entries : List Entry
+  pub most_choices : ℕ
   pub decisions : List Decision
   pub places : List Place
 
@@ -76,6 +78,7 @@ rest_of s = record {
   unknowns = s.unknowns;
   fields = take s.unknowns s.condition.widths;
   entries = s.condition.entries;
+  most_choices = s.condition.most_choices;
   decisions = s.decisions;
   places = s.places;
 }

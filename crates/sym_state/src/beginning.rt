@@ -24,11 +24,12 @@ use std::alloc::Global;
 use term_values::laws::terms_keep_types;
 use term_values::{Formulas, Terms};
 
-/// Where a packet is injected, and the operations on its terms.
+/// Where a packet is injected, the operations on its terms, and the bound on the choices of cases that are tried.
 #[derive(Clone, Copy)]
 struct Origin<'a> {
     scene: Scene<'a>,
     terms: Terms,
+    most_choices: u64,
 }
 
 impl SymState {
@@ -58,6 +59,7 @@ impl SymState {
             terms: Terms {
                 unknowns: injection.unknowns() as u64,
             },
+            most_choices: injection.most_choices(),
         };
         match begun(alloc, &at, injection.raw()) {
             Ok(state) => Ok(state),
@@ -82,7 +84,7 @@ impl SymState {
 /// The state that the injection begins with, or its first fault.
 fn begun(alloc: Global, at: &Origin<'_>, raw: &RawInjection) -> Result<SymState, StepFault>
     requires { at.now.terms.unknowns ≡ length (unknown_widths raw.now.fields.items) }
-    ensures { BegunAs at.now.terms.unknowns (scene_of at.now.scene) (injection_tree raw.now) result }
+    ensures { BegunAs at.now.terms.unknowns at.now.most_choices (scene_of at.now.scene) (injection_tree raw.now) result }
 {
     let mut state = carrying(alloc, at, raw)?;
     state.ask(alloc, &at.scene, &raw.tests)?;
@@ -92,11 +94,11 @@ fn begun(alloc: Global, at: &Origin<'_>, raw: &RawInjection) -> Result<SymState,
 /// The state with the tags and the fields, and without the tests.
 fn carrying(alloc: Global, at: &Origin<'_>, raw: &RawInjection) -> Result<SymState, StepFault>
     requires { at.now.terms.unknowns ≡ length (unknown_widths raw.now.fields.items) }
-    ensures { CarriesAs at.now.terms.unknowns (scene_of at.now.scene) (injection_tree raw.now) result }
+    ensures { CarriesAs at.now.terms.unknowns at.now.most_choices (scene_of at.now.scene) (injection_tree raw.now) result }
 {
     symbols_are_typed::<Term, Formulas>();
     terms_keep_types();
-    let trace = unmet(alloc, &raw.fields)?;
+    let trace = unmet(alloc, &raw.fields, at.most_choices)?;
     let carried = injected(alloc, &at.terms, &at.scene, raw)?;
     Ok(SymState {
         carried,
@@ -106,15 +108,15 @@ fn carrying(alloc: Global, at: &Origin<'_>, raw: &RawInjection) -> Result<SymSta
 }
 
 /// The unknown fields as symbols, before anything is met.
-fn unmet(alloc: Global, fields: &[RawField]) -> Result<Trace, NoMemory>
+fn unmet(alloc: Global, fields: &[RawField], most_choices: u64) -> Result<Trace, NoMemory>
     ensures { IfOk result (λ t. t ≡ record {
-      condition = record { widths = unknown_widths fields.now; entries = [] };
+      condition = record { widths = unknown_widths fields.now; entries = []; most_choices = most_choices };
       decisions = [];
       places = [];
     }) }
 {
     let widths = widths_of(alloc, fields)?;
-    let condition = PathCond::new(alloc, widths)?;
+    let condition = PathCond::new(alloc, widths, most_choices)?;
     let trace = Trace::of(alloc, condition)?;
     Ok(trace)
 }

@@ -27,13 +27,13 @@ pub record BasesKnown : Type 0 where
 module _ (laws : BasesKnown) (cond : Condition) (b : Base) where
   -- the condition without its last symbols
   abbrev front : List ℕ → Condition
-  front first = record { widths = first; entries = cond.entries }
+  front first = record cond { widths = first }
 
   base_by : (decision : Decided) (verdict : Verdict) (k : IsKnown (seen view cond) verdict) → IsDecisionOn (front k.first) decision → HasValues b.least decision
       → broken_in decision ≡ b.broken → b.formulas ≡ length cond.entries → IsBaseOf cond b
   base_by decision verdict k on values broken formulas =
       let c = front k.first in
-      subst (λ (widths : List ℕ). IsBaseOf (record { widths = widths; entries = cond.entries }) b) (sym k.widths)
+      subst (λ (widths : List ℕ). IsBaseOf (record cond { widths = widths }) b) (sym k.widths)
       (laws.wider c b k.more (laws.made c decision b ((laws.judged c).typed.1 k.typed) on values broken formulas))
 
   -- the values that a known verdict tells

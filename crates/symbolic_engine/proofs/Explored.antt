@@ -2,6 +2,7 @@
 use Rattle.std.proofs.Common.{◌≡◌, ℕ, ◌+◌, ◌≤◌, inl, inr, true, List, [], ◌∷◌, ◌++◌, length, map, Result, Ok, Err, IfOk, IsErrAnd, arith, refl, sym, ap, subst, ◌∙◌}
 use Rattle.std.specs.Global.{Vec}
 use Rattle.std.specs.List.{AllByRecursion}
+use Rattle.refutation_check.specs.Longer.{condition_of}
 use Rattle.sefl_meaning.specs.declared.walk.Decision.{Decision}
 use Rattle.sefl_meaning.specs.declared.walk.Place.{Place}
 use Rattle.sefl_meaning.specs.Network.{Network, Entry}
@@ -51,6 +52,7 @@ pub first_of : (net : Network) (i : Entry) (hops : ℕ) (x : Symbolic) → Begin
 first_of net i hops x begins = record {
   unknowns = refl;
   tests = refl;
+  most_choices = refl;
   tree = ap (λ (u : ℕ). enter (terms u) net hops i.node i.own.port (starting x.carried)) (sym begins.unknown_fields);
   true_tests = begins.true_tests;
   fields = begins.unknown_fields ∙ ap length (sym begins.widths);
@@ -105,7 +107,7 @@ module _ (s : SymStart) (ds : List Decision) (x : Symbolic) (tree : ℕ → SymT
   condition_led =
       let widths = led.widths ∙ ap (λ (t : SymTree). s.unknowns ++ (progress_of t).choices) (sym led.left) in
       let entries = sym (all_tests s x run) ∙ ap (λ l. map (λ f. (f, true)) s.tests ++ l) (sym led.tests) in
-      λ j. record { widths = widths j; entries = entries j }
+      λ j. condition_of (run.most_choices j) (widths j) (entries j)
 
   pub leads_there : (waits : Waits) → WaitsAs waits led.way.left x → (progress_of (tree begun)).state ≡ x.carried
       → LeadsThere s ds (record { state = x; waits = waits })
@@ -150,7 +152,7 @@ arrives_in origin s net ds before arrival place run h =
       way = h.way;
       leads = h.leads;
       places = h.places;
-      condition = λ j. record { widths = h.widths j; entries = entries j };
+      condition = λ j. condition_of (run.most_choices j) (h.widths j) (entries j);
       unknowns = run.unknowns;
     }
 

@@ -1,6 +1,7 @@
 -- States of runs, and the points where they stand.
 use Rattle.std.proofs.Common.{◌≡◌, ℕ, zero, suc, ◌≤◌, true, List, [], ◌∷◌, ◌++◌, drop, length, map, take, Some, refl, sym, ap, ◌∙◌, append_assoc, arith}
 use Rattle.std.proofs.lemmas.List.{append-nil, length-map, map-append, reverse-append, take-append-drop, take-append-le, drop-append-le, take_all}
+use Rattle.refutation_check.specs.Longer.{condition_of}
 use Rattle.sn_width.specs.declared.ids.NodeId.{NodeId}
 use Rattle.lin_term.specs.Terms.{LinearTerm}
 use Rattle.path_formula.specs.declared.formula.Formula.{Formula}
@@ -44,7 +45,10 @@ all_tests s x run =
 -- so the condition where it stands is that of the state
 pub condition_here : (s : SymStart) (x : Symbolic) (tree : ℕ → SymTree) (begun : ℕ) → IsRunOf s x
     → condition_at s (point_at begun (location_of s x tree)) ≡ condition_seen x
-condition_here s x tree begun run = ap (λ entries. record { widths = x.condition.widths; entries = entries }) (all_tests s x run)
+condition_here s x tree begun run =
+    let most = sym run.most_choices in
+    let tests = all_tests s x run in
+    λ j. condition_of (most j) x.condition.widths (tests j)
 
 few : {A : Type 0} (n : ℕ) (xs : List A) → length (take n xs) ≡ n → n ≤ length xs
 few zero xs e = omega arith
@@ -62,6 +66,7 @@ run_on s x y same run = record {
   unknowns = ap (λ (r : Rest). r.unknowns) same ∙ run.unknowns;
   fields = ap (λ (r : Rest). r.fields) same ∙ run.fields;
   tests = ap (λ (r : Rest). take (length s.tests) (map (entry_seen view) r.entries)) same ∙ run.tests;
+  most_choices = ap (λ (r : Rest). r.most_choices) same ∙ run.most_choices;
 }
 
 -- what an instruction leaves has the same tests, and symbols behind those that were there
@@ -78,10 +83,12 @@ wider_by s x y same run grown = (
 )
 
 pub run_placed : (s : SymStart) (x : Symbolic) (place : Place) → IsRunOf s x → IsRunOf s (with_place x place)
-run_placed s x place run = record { unknowns = run.unknowns; fields = run.fields; tests = run.tests }
+run_placed s x place run =
+    record { unknowns = run.unknowns; fields = run.fields; tests = run.tests; most_choices = run.most_choices }
 
 pub run_copied : (s : SymStart) (x : Symbolic) (d : Decision) → IsRunOf s x → IsRunOf s (with_decision x d)
-run_copied s x d run = record { unknowns = run.unknowns; fields = run.fields; tests = run.tests }
+run_copied s x d run =
+    record { unknowns = run.unknowns; fields = run.fields; tests = run.tests; most_choices = run.most_choices }
 
 -- a decision's formula stands behind the others
 entries_more : (x : Symbolic) (formula : Formula) (d : Decision)
@@ -94,6 +101,7 @@ run_decided s x formula d run = record {
   fields = run.fields;
   tests = ap (take (length s.tests)) (entries_more x formula d)
       ∙ take-append-le (length s.tests) (entries_seen x) ((view formula, polarity d) ∷ []) (tests_within s x run) ∙ run.tests;
+  most_choices = run.most_choices;
 }
 
 pub tests_decided : (s : SymStart) (x : Symbolic) (formula : Formula) (d : Decision) → IsRunOf s x
@@ -127,6 +135,7 @@ module _ (s : SymStart) (net : Network) (hops : ℕ) (node : NodeId) (port : ℕ
     unknowns = first.fields ∙ ap length (sym first.unknowns);
     fields = take_all x.unknowns x.condition.widths (let e = first.fields in omega (arith, e)) ∙ sym first.unknowns;
     tests = take_all (length s.tests) (entries_seen x) (let e = count_of_tests in omega (arith, e)) ∙ first_entries;
+    most_choices = sym first.most_choices;
   }
 
   pub no_tests : drop (length s.tests) (entries_seen x) ≡ []

@@ -2,6 +2,7 @@
 use Rattle.std.specs.Prelude.{ℕ, ◌≡◌, ◌≤◌, ◌+◌, List, [], ◌∷◌, ◌++◌, length, map, reverse, Result, Ok, Err, Some}
 use Rattle.std.specs.Global.{Vec}
 use Rattle.std.specs.List.{AllByRecursion}
+use Rattle.refutation_check.specs.Longer.{condition_of}
 use Rattle.sefl_meaning.specs.declared.walk.Decision.{Decision}
 use Rattle.sefl_meaning.specs.declared.walk.Place.{Place}
 use Rattle.sefl_meaning.specs.Network.{Network, Entry}
@@ -58,7 +59,7 @@ module _ (net : Network) (i : Entry) (hops : ℕ) where
 
 -- the condition where a route makes this arrival: its tests with their truths, over the symbols that there are so far
 abbrev pub condition_up_to : SymStart → SymRoute → Arrival → SymCondition
-condition_up_to start way arrival = record { widths = start.unknowns ++ arrival.1.choices; entries = tests_on start way }
+condition_up_to start way arrival = condition_of start.most_choices (start.unknowns ++ arrival.1.choices) (tests_on start way)
 
 -- the state makes the arrival behind those before it, on the way of the first of these decisions, which are its own, with its ports
 -- and its formulas; its first symbols are the unknown fields

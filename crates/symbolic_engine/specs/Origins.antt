@@ -28,12 +28,13 @@ condition_seen x = seen view x.condition
 abbrev pub progress_in : Symbolic → ℕ → Progress LinearTerm
 progress_in x begun = progress_at x.carried (choices_of x) begun
 
--- the state is of a run from this start: its first symbols are the unknown fields, and its first formulas the tests of the
--- injection
+-- the state is of a run from this start: its first symbols are the unknown fields, its first formulas the tests of the
+-- injection, and its bound on choices of cases is that of the start
 pub record IsRunOf (s : SymStart) (x : Symbolic) : Type 0 where
   pub unknowns : x.unknowns ≡ length s.unknowns
   pub fields : take x.unknowns x.condition.widths ≡ s.unknowns
   pub tests : take (length s.tests) (entries_seen x) ≡ injection_tests s
+  pub most_choices : x.condition.most_choices ≡ s.most_choices
 
 -- a state is where this comes, whatever number of instructions has begun: the tests are its formulas behind those of the injection
 abbrev pub location_of : SymStart → Symbolic → (ℕ → SymTree) → Location
@@ -49,6 +50,7 @@ location_of s x tree = record {
 pub record IsFirstState (s : SymStart) (net : Network) (hops : ℕ) (node : NodeId) (port : ℕ) (x : Symbolic) : Type 0 where
   pub unknowns : s.unknowns ≡ x.condition.widths
   pub tests : s.tests ≡ trees_of x.condition.entries
+  pub most_choices : s.most_choices ≡ x.condition.most_choices
   pub tree : s.tree ≡ enter (terms x.unknowns) net hops node port (starting x.carried)
   pub true_tests : MustBeTrue x.condition.entries
   pub fields : x.unknowns ≡ length x.condition.widths
@@ -68,4 +70,5 @@ no_start = record {
   unknowns = [];
   tests = [];
   tree = over (starting (record { layers = record { tags = []; heads = [] }; scopes = [] })) Stopped;
+  most_choices = 0;
 }

@@ -7,7 +7,7 @@ use Rattle.sefl_syntax.specs.Trees.{AskTree, BodyTree, code, table, DeclTree, Jo
 use Rattle.sefl_reader.specs.Outcome.{Outcome as OutcomeOf, a_job as job_outcome, IsOutcome}
 use Rattle.job_items.specs.Rules.{refusal}
 use Rattle.job_items.specs.declared.rule.Rule.{Rule}
-use Rattle.net_check.specs.Network.{Network, Entry}
+use Rattle.net_check.specs.Network.{Network, Entry, with_choices}
 use Rattle.net_check.specs.Sound.{IsSound}
 use Rattle.command_edge.specs.Files.{HasFile, LoadFails}
 use Rattle.command_runs.specs.Flaws.{Flaw, HasFlaw, flaw_of}
@@ -283,13 +283,13 @@ module _ (p : World) (name : List ℕ) (rest : List Input) (w : OwnWork) (status
 
 -- ---- of a job that is explored
 
-module _ (p : World) (name : List ℕ) (hops limit : ℕ) (pruned : RefutedSides) (status : Status) where
+module _ (p : World) (name : List ℕ) (cases hops limit : ℕ) (pruned : RefutedSides) (status : Status) where
   abbrev pub Explored : JobTree → Type 0
-  Explored j = JobCase p name [] (work (explore name hops limit pruned)) j status
+  Explored j = JobCase p name [] (work (explore name hops limit cases pruned)) j status
 
   reported : (net : Network) (i : Entry) (asks : List AskTree) (given : List Given) (outcome : Outcome) → given ≡ []
-      → (work (explore name hops limit pruned)).comes (a_net net i asks ∷ given) outcome → ReportsOf hops limit pruned net i outcome
-  reported net i asks given outcome none h = subst (λ gs. (work (explore name hops limit pruned)).comes (a_net net i asks ∷ gs) outcome) none h
+      → (work (explore name hops limit cases pruned)).comes (a_net net i asks ∷ given) outcome → ReportsOf hops limit pruned net (with_choices cases i) outcome
+  reported net i asks given outcome none h = subst (λ gs. (work (explore name hops limit cases pruned)).comes (a_net net i asks ∷ gs) outcome) none h
 
   -- each outcome is a text
   written : (net : Network) (i : Entry) (outcome : Outcome) → status ≡ outcome_status outcome → ReportsOf hops limit pruned net i outcome → IsWritten status
@@ -306,5 +306,5 @@ module _ (p : World) (name : List ℕ) (hops limit : ℕ) (pruned : RefutedSides
   explored_in once j full filled sound (inl (has_bad own at own_filled refuses is)) = inr (inr (at, is))
   explored_in once j full filled sound (inl (is_taken own net i has own_filled taken (inl h))) = inr (inl h)
   explored_in once j full filled sound (inl (is_taken own net i has own_filled taken (inr (inl (outcome, given, opened, h, is))))) =
-      inl (written net i outcome is (reported net i own.asks given outcome opened.0 h))
+      inl (written net (with_choices cases i) outcome is (reported net i own.asks given outcome opened.0 h))
   explored_in once j full filled sound (inl (is_taken own net i has own_filled taken (inr (inr (fault, h, is))))) = absurd h

@@ -6,7 +6,7 @@ use Rattle.sn_edge.specs.Told.{SinkTold}
 use Rattle.sn_edge.specs.declared.sink.Put.{Put}
 use Rattle.sn_edge.proofs.Putting.{known_alone, takes_none, until_all, until_taken}
 use Rattle.command_runs.specs.Outside.{Outside}
-use Rattle.net_check.specs.Network.{Network, Entry}
+use Rattle.net_check.specs.Network.{Network, Entry, with_choices}
 use Rattle.command_runs.specs.Inputs.{Input, Given, a_net, AllOpen}
 use Rattle.command_edge.specs.Puts.{text}
 use Rattle.command_runs.specs.Runs.{OwnWork, IsRefusal, Runs}
@@ -25,7 +25,7 @@ use Rattle.path_records.specs.declared.sides.RefutedSides.{RefutedSides}
 use Rattle.explore_command.specs.Explores.{explore_work}
 use Rattle.explore_command.specs.Headline.{MayBeShown}
 use Rattle.explore_command.specs.Laws.{ReportsTellWalks}
-use Rattle.command_words.specs.Commands.{Command, HasRanges, explore}
+use Rattle.command_words.specs.Commands.{Command, HasRanges, explore, AreBounds}
 use Rattle.symnet_program.specs.Commands.{inputs, work}
 use Rattle.symnet_program.specs.Headline.{TellsJob}
 use Rattle.symnet_program.specs.Program.{Cause, IsCaused, MayWrite, Stops, Writes}
@@ -96,17 +96,29 @@ own_ends w given (own.BadAsk number kind) h = (refl, h)
 own_ends w given (own.BadCompare kind one other) h = (refl, h)
 
 module _ (law : (net : Network) (i : Entry) (hops : ℕ) → ReportsTellWalks net i hops) where
-  report_tells : (hops limit : ℕ) (sides : RefutedSides) (ended : Ending) (whole : List ℕ) (given : List Given) → MayBeShown hops limit
-      → (report : (explore_work hops limit sides).comes given (text ended whole)) → ReportTells hops limit sides ended whole given report
-  report_tells hops limit sides ended whole (a_net net i asks ∷ []) shown report =
-      let told = law net i hops limit sides ended whole report in record { headline = told; read_back = told.read_back shown }
-  report_tells hops limit sides ended whole given shown report = absurd report
+  report_tells : (cases hops limit : ℕ) (sides : RefutedSides) (ended : Ending) (whole : List ℕ) (given : List Given) → MayBeShown cases hops limit
+      → (report : (explore_work cases hops limit sides).comes given (text ended whole)) → ReportTells cases hops limit sides ended whole given report
+  report_tells cases hops limit sides ended whole (a_net net i asks ∷ []) shown report =
+      let told = law net (with_choices cases i) hops limit sides ended whole report in record { headline = told; read_back = told.read_back shown }
+  report_tells cases hops limit sides ended whole given shown report = absurd report
+
+  -- what the words may say may be shown
+  shown_by : (cases hops limit : ℕ) → AreBounds hops limit cases → MayBeShown cases hops limit
+  shown_by cases hops limit h = record {
+    least_choices = h.1;
+    most_choices = h.2;
+    least_hops = h.0.0;
+    most_hops = h.0.1;
+    least_limit = h.0.2;
+    most_limit = h.0.3;
+  }
 
   tells_more : (c : Command) → HasRanges c → (given : List Given) (status : Status) (part : List ℕ) (ends : Ends (work c) given status part)
       → TellsMore c given status part ends
-  tells_more (explore job hops limit pruned) ranged given Done part ends = report_tells hops limit pruned ending.Done part given ranged ends
-  tells_more (explore job hops limit pruned) ranged given Partial part ends =
-      report_tells hops limit pruned ending.Partial part given ranged ends
+  tells_more (explore job hops limit cases pruned) ranged given Done part ends =
+      report_tells cases hops limit pruned ending.Done part given (shown_by cases hops limit ranged) ends
+  tells_more (explore job hops limit cases pruned) ranged given Partial part ends =
+      report_tells cases hops limit pruned ending.Partial part given (shown_by cases hops limit ranged) ends
   tells_more c ranged given status part ends = tt
 
   module _ {S : Type 0} (o : Outside S) (u v : S) (c : Command) (ranged : HasRanges c) {K : Type 0} (told : K → SinkTold) (gives : K → List ℕ → Put → K → Type 0) (old new : K) where
@@ -242,19 +254,19 @@ no_input (input.BadPattern site) h = h
 no_input (input.Refused site kind) h = h
 no_input input.NoMemory h = h
 
-module _ {S : Type 0} (o : Outside S) (u v : S) (job : List ℕ) (hops limit : ℕ) (pruned : RefutedSides) where
+module _ {S : Type 0} (o : Outside S) (u v : S) (job : List ℕ) (cases hops limit : ℕ) (pruned : RefutedSides) where
   -- the report of what the input gave, and what it tells
   abbrev Report : List Given → Ending → List ℕ → Type 0
   Report given ended part =
-      (report : (explore_work hops limit pruned).comes given (text ended part)) × ReportTells hops limit pruned ended part given report
+      (report : (explore_work cases hops limit pruned).comes given (text ended part)) × ReportTells cases hops limit pruned ended part given report
 
-  report_of : (given : List Given) (ended : Ending) (part : List ℕ) (ends : Ends (work (explore job hops limit pruned)) given (status_of (Ok ended)) part)
-      → TellsMore (explore job hops limit pruned) given (status_of (Ok ended)) part ends → Report given ended part
+  report_of : (given : List Given) (ended : Ending) (part : List ℕ) (ends : Ends (work (explore job hops limit cases pruned)) given (status_of (Ok ended)) part)
+      → TellsMore (explore job hops limit cases pruned) given (status_of (Ok ended)) part ends → Report given ended part
   report_of given ending.Done part ends more = (ends, more)
   report_of given ending.Partial part ends more = (ends, more)
 
-  job_by : (ended : Ending) (part : List ℕ) (given : List Given) → AllOpen o u (inputs (explore job hops limit pruned)) given v → Report given ended part
-      → TellsJob o u v job hops limit pruned ended part
+  job_by : (ended : Ending) (part : List ℕ) (given : List Given) → AllOpen o u (inputs (explore job hops limit cases pruned)) given v → Report given ended part
+      → TellsJob o u v job cases hops limit pruned ended part
   job_by ended part given (g, m, (j, between, has, net, i, taken, is), rest, (none, last), all) report =
       let own : Report (a_net net i j.asks ∷ []) ended part =
       subst (λ gs. Report gs ended part) (all ∙ (ap (λ x. x ∷ rest) is ∙ ap (λ r. a_net net i j.asks ∷ r) none)) report in record {
@@ -268,8 +280,8 @@ module _ {S : Type 0} (o : Outside S) (u v : S) (job : List ℕ) (hops limit : �
         walks = own.1;
       }
 
-  pub run_told : (ended : Ending) (part : List ℕ) → IsRunOf o u v (explore job hops limit pruned) (status_of (Ok ended)) part
-      → TellsJob o u v job hops limit pruned ended part
+  pub run_told : (ended : Ending) (part : List ℕ) → IsRunOf o u v (explore job hops limit cases pruned) (status_of (Ok ended)) part
+      → TellsJob o u v job cases hops limit pruned ended part
   run_told ended part (unbegun is same none) = absurd (subst IsWhole is (ended_whole ended))
   run_told ended part (unopened fault fails is none) = absurd (no_input fault (subst IsWhole is (ended_whole ended)))
   run_told ended part (performed given opened ends more) = job_by ended part given opened (report_of given ended part ends more)

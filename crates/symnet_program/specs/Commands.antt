@@ -17,26 +17,26 @@ use Rattle.model_command.specs.Models.{ModelComes}
 use Rattle.model_command.specs.ClickModels.{ClickComes}
 use Rattle.acl_command.specs.declared.model.ListStyle.{ListStyle}
 use Rattle.acl_command.specs.declared.model.ListStyle.TheVariants as list
-use Rattle.acl_command.specs.Commands.{AclComes, RulesComes}
+use Rattle.acl_command.specs.Commands.{AclComes, BothRulesCome, RulesComes}
 use Rattle.walk_command.specs.Walks.{WalkComes}
-use Rattle.command_words.specs.Commands.{Command, explore, walk, replay, ask, loops, compare, model, click, acl, rules, grow}
-use Rattle.command_words.specs.declared.command.TheConstants.{LIMIT}
+use Rattle.command_words.specs.Commands.{Command, explore, walk, replay, ask, loops, compare, model, click, acl, rules, both_rules, grow}
 use Rattle.command_words.specs.declared.command.FilterStyle.{FilterStyle}
 use Rattle.command_words.specs.declared.command.FilterStyle.TheVariants as filter
 use Rattle.command_words.specs.declared.command.Open.{Open}
 use Rattle.command_words.specs.declared.command.Open.TheVariants as of_words
 
 abbrev pub inputs : Command → List Input
-inputs (explore job hops limit pruned) = a_job job ∷ []
+inputs (explore job hops limit cases pruned) = a_job job ∷ []
 inputs (walk job packet hops limit) = a_job job ∷ a_file FILE_LIMIT packet ∷ []
 inputs (replay job report) = a_job job ∷ a_file REPORT_LIMIT report ∷ []
-inputs (ask job hops) = a_job job ∷ []
-inputs (loops job hops detail) = a_job job ∷ []
-inputs (compare job other hops) = a_job job ∷ a_job other ∷ []
+inputs (ask job hops limit cases) = a_job job ∷ []
+inputs (loops job hops limit cases detail) = a_job job ∷ []
+inputs (compare job other hops limit cases) = a_job job ∷ a_job other ∷ []
 inputs (model table file style) = a_file FILE_LIMIT file ∷ []
 inputs (click file) = a_file FILE_LIMIT file ∷ []
 inputs (acl file style) = a_file FILE_LIMIT file ∷ []
 inputs (rules file) = a_file FILE_LIMIT file ∷ []
+inputs (both_rules file other) = a_file FILE_LIMIT file ∷ a_file FILE_LIMIT other ∷ []
 inputs (grow seed boxes) = a_made_job (grown seed boxes) ∷ []
 
 -- the first that it reads is the job under this name
@@ -53,14 +53,15 @@ list_style_of filter.Chain = list.Chain
 list_style_of filter.Grouped = list.Grouped
 
 abbrev pub work : Command → OwnWork
-work (explore job hops limit pruned) = explore_work hops limit pruned
+work (explore job hops limit cases pruned) = explore_work cases hops limit pruned
 work (walk job packet hops limit) = one_piece (WalkComes hops limit)
 work (replay job report) = one_piece ReplayComes
-work (ask job hops) = one_piece (AskComes hops LIMIT)
-work (loops job hops detail) = one_piece (LoopsComes hops LIMIT (detail_of detail))
-work (compare job other hops) = one_piece (CompareComes hops LIMIT)
+work (ask job hops limit cases) = one_piece (AskComes cases hops limit)
+work (loops job hops limit cases detail) = one_piece (LoopsComes cases hops limit (detail_of detail))
+work (compare job other hops limit cases) = one_piece (CompareComes cases hops limit)
 work (model table file style) = one_piece (ModelComes table style file)
 work (click file) = one_piece (ClickComes file)
 work (acl file style) = one_piece (AclComes (list_style_of style) file)
 work (rules file) = one_piece (RulesComes file)
+work (both_rules file other) = one_piece (BothRulesCome file other)
 work (grow seed boxes) = one_piece (GrowComes seed boxes)

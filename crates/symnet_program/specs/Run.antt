@@ -3,6 +3,7 @@ use Rattle.std.specs.Prelude.{ℕ, ◌≡◌, ◌⊎◌, List, [], ◌∷◌, Op
 use Rattle.sn_edge.specs.Putting.{Takes, TakesPart, TakesUntil}
 use Rattle.sn_edge.specs.Told.{SinkTold}
 use Rattle.sn_edge.specs.declared.sink.Put.{Put}
+use Rattle.net_check.specs.Network.{with_choices}
 use Rattle.command_runs.specs.Outside.{Outside}
 use Rattle.command_runs.specs.Inputs.{Given, AllOpen, FirstFails, a_net}
 use Rattle.command_runs.specs.Runs.{OwnWork}
@@ -36,15 +37,16 @@ Ends w given (BadCompare kind one other) part = (part ≡ []) × w.comes given (
 Ends w given _ part = ⊥
 
 -- the report of `explore`, of the net and the injection that its input gave, tells the walks of all packets
-abbrev pub ReportTells : (hops limit : ℕ) (sides : RefutedSides) (ended : Ending) (whole : List ℕ) (given : List Given)
-    → (explore_work hops limit sides).comes given (text ended whole) → Type 0
-ReportTells hops limit sides ended whole (a_net net i asks ∷ []) report = TellsWalks net i hops limit sides ended whole report
-ReportTells hops limit sides ended whole _ report = ⊥
+abbrev pub ReportTells : (cases hops limit : ℕ) (sides : RefutedSides) (ended : Ending) (whole : List ℕ) (given : List Given)
+    → (explore_work cases hops limit sides).comes given (text ended whole) → Type 0
+ReportTells cases hops limit sides ended whole (a_net net i asks ∷ []) report =
+    TellsWalks net (with_choices cases i) hops limit sides ended whole report
+ReportTells cases hops limit sides ended whole _ report = ⊥
 
 -- what is told beyond that where a text was written whole
 abbrev pub TellsMore : (c : Command) (given : List Given) (status : Status) (part : List ℕ) → Ends (work c) given status part → Type 0
-TellsMore (explore job hops limit pruned) given Done part ends = ReportTells hops limit pruned ending.Done part given ends
-TellsMore (explore job hops limit pruned) given Partial part ends = ReportTells hops limit pruned ending.Partial part given ends
+TellsMore (explore job hops limit cases pruned) given Done part ends = ReportTells cases hops limit pruned ending.Done part given ends
+TellsMore (explore job hops limit cases pruned) given Partial part ends = ReportTells cases hops limit pruned ending.Partial part given ends
 TellsMore c given status part ends = Unit {0}
 
 -- of an outside that goes from state to state

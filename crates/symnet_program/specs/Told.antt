@@ -2,7 +2,7 @@
 use Rattle.std.specs.Prelude.{ℕ, ◌≡◌, ◌≤◌, Bool, List, length, None, Some}
 use Rattle.sefl_syntax.specs.Trees.{JobTree}
 use Rattle.net_check.specs.Network.{Network, Entry}
-use Rattle.net_check.specs.Sound.{IsSound, IsNetOf, IsEntryOf}
+use Rattle.net_check.specs.Sound.{IsSound, IsNetOf, IsGivenEntry}
 use Rattle.command_runs.specs.Jobs.{IsTextOf, ListsFound}
 use Rattle.command_runs.specs.Outside.{World, world}
 use Rattle.command_runs.specs.Tables.{IsFilled}
@@ -41,7 +41,7 @@ pub record TellsNet (w : World) (name : List ℕ) (net : Network) (i : Entry) : 
   pub filled : IsFilled (Some w.at) job tree
   pub sound : IsSound tree
   pub of_net : IsNetOf tree net
-  pub of_entry : IsEntryOf tree i
+  pub of_entry : IsGivenEntry tree i
   pub told : w.finds ≡ Some finds
   pub lists : ListsFound tree net finds
 

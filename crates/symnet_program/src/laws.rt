@@ -46,14 +46,17 @@ pub fn runs_tell<F: Folder, P: Patterns>()
     ensures written { (u v : F × P) (said : Option CommandOf) (status : StatusOf) (part : List ℕ)
         → IsRun (outside F.told F.load_gives P.told P.find_gives) u v said status part
         → MayWrite (outside F.told F.load_gives P.told P.find_gives) u v said status part }
-    ensures headline { (u v : F × P) (job : List ℕ) (hops limit : ℕ) (pruned : Sides) (whole : List ℕ)
-        → IsRun (outside F.told F.load_gives P.told P.find_gives) u v (Some (explore job hops limit pruned)) Done whole
-        → TellsJob (outside F.told F.load_gives P.told P.find_gives) u v job hops limit pruned ending.Done
-        whole }
-    ensures partial { (u v : F × P) (job : List ℕ) (hops limit : ℕ) (pruned : Sides) (whole : List ℕ)
-        → IsRun (outside F.told F.load_gives P.told P.find_gives) u v (Some (explore job hops limit pruned)) Partial
+    ensures headline { (u v : F × P) (job : List ℕ) (cases hops limit : ℕ) (pruned : Sides)
+        (whole : List ℕ)
+        → IsRun (outside F.told F.load_gives P.told P.find_gives) u v (Some (explore job hops limit cases pruned)) Done
         whole
-        → TellsJob (outside F.told F.load_gives P.told P.find_gives) u v job hops limit pruned ending.Partial
+        → TellsJob (outside F.told F.load_gives P.told P.find_gives) u v job cases hops limit pruned ending.Done
+        whole }
+    ensures partial { (u v : F × P) (job : List ℕ) (cases hops limit : ℕ) (pruned : Sides)
+        (whole : List ℕ)
+        → IsRun (outside F.told F.load_gives P.told P.find_gives) u v (Some (explore job hops limit cases pruned)) Partial
+        whole
+        → TellsJob (outside F.told F.load_gives P.told P.find_gives) u v job cases hops limit pruned ending.Partial
         whole }
 {}
 
@@ -87,8 +90,8 @@ pub fn jobs_are_told()
 
 /// Of a job that with code for its tables breaks no rule, and that has no bad pattern, `explore` tells Done or Partial.
 pub fn explored_jobs_are_told()
-    ensures { (job : List ℕ) (hops limit : ℕ) (pruned : Sides) (w : World) (status : StatusOf) (j full : JobTree)
-        → IsCaused (world w) tt tt (Some (explore job hops limit pruned)) status → HasJobIn w job j
+    ensures { (job : List ℕ) (cases hops limit : ℕ) (pruned : Sides) (w : World) (status : StatusOf) (j full : JobTree)
+        → IsCaused (world w) tt tt (Some (explore job hops limit cases pruned)) status → HasJobIn w job j
         → IsFilled (Some w.at) j full → IsSound full → IsWritten status ⊎ MayBeBad status }
 {
     jobs_are_filled_once();

@@ -16,12 +16,12 @@ ghost use Rattle.symnet_program.specs.Run.{IsPutWith, IsRun};
 ghost use Rattle.symnet_program.specs.Told.{MayBeUnread};
 ghost use Rattle.command_words.specs.Commands.{Command as CommandOf, HasRanges, command_of, reading};
 
-use acl_command::{AclModel, ListStyle, Rules};
+use acl_command::{AclModel, BothFiles, BothRules, ListStyle, Rules};
 use ask_command::Ask;
 use command_edge::{Ending, FILE_LIMIT, Stop};
 use command_runs::laws::worlds_decide;
 use command_runs::{Both, ByteFile, JobFile, Piece, Status, run, status_of};
-use command_words::{Command, FilterStyle, LIMIT, Open, reading};
+use command_words::{Command, FilterStyle, Open, reading};
 use compare_command::{BothJobs, Compare};
 use explore_command::laws::reports_tell_walks;
 use explore_command::{Explore, RecordLimit};
@@ -74,10 +74,12 @@ fn run_command<F: Folder, P: Patterns, K: Sink>(
             job,
             hops,
             limit,
+            cases,
             pruned,
         } => {
             let command = Explore {
                 source: JobFile { name: job },
+                cases,
                 hops,
                 limit: RecordLimit::new(limit),
                 sides: pruned,
@@ -114,32 +116,52 @@ fn run_command<F: Folder, P: Patterns, K: Sink>(
             };
             run(alloc, &Piece(Replay { source }), folder, patterns, out)
         }
-        Command::Ask { job, hops } => {
+        Command::Ask {
+            job,
+            hops,
+            limit,
+            cases,
+        } => {
             let command = Piece(Ask {
                 source: JobFile { name: job },
+                cases,
                 hops,
-                limit: RecordLimit::new(LIMIT),
+                limit: RecordLimit::new(limit),
             });
             run(alloc, &command, folder, patterns, out)
         }
-        Command::Loops { job, hops, open } => {
+        Command::Loops {
+            job,
+            hops,
+            limit,
+            cases,
+            open,
+        } => {
             let command = Piece(Loops {
                 source: JobFile { name: job },
+                cases,
                 hops,
-                limit: RecordLimit::new(LIMIT),
+                limit: RecordLimit::new(limit),
                 detail: detail_of(open),
             });
             run(alloc, &command, folder, patterns, out)
         }
-        Command::Compare { job, other, hops } => {
+        Command::Compare {
+            job,
+            other,
+            hops,
+            limit,
+            cases,
+        } => {
             let source = BothJobs {
                 left: JobFile { name: job },
                 right: JobFile { name: other },
             };
             let command = Piece(Compare {
                 source,
+                cases,
                 hops,
-                limit: RecordLimit::new(LIMIT),
+                limit: RecordLimit::new(limit),
             });
             run(alloc, &command, folder, patterns, out)
         }
@@ -181,6 +203,19 @@ fn run_command<F: Folder, P: Patterns, K: Sink>(
                 limit: FILE_LIMIT,
             };
             run(alloc, &Piece(Rules { source }), folder, patterns, out)
+        }
+        Command::BothRules { file, other } => {
+            let source = BothFiles {
+                left: ByteFile {
+                    name: file,
+                    limit: FILE_LIMIT,
+                },
+                right: ByteFile {
+                    name: other,
+                    limit: FILE_LIMIT,
+                },
+            };
+            run(alloc, &Piece(BothRules { source }), folder, patterns, out)
         }
         Command::Grow { seed, boxes } => {
             let source = GrownJob { seed, boxes };

@@ -12,7 +12,7 @@ use Rattle.net_check.proofs.laws.questions_keep_the_rules.Goals as goal
 
 pub returns-clause-told : goal.returns-clause-told
 returns-clause-told c = λ j a is index ask at.
-    (j, is.sound, is.net, is.injection, (index, ap (λ asks. slice_get asks index) (sym is.asks) ∙ slice_get-map ask_tree a.asks.items index ∙ ap (option_map ask_tree) at))
+    (j, is.sound, is.net, is.injection.0, (index, ap (λ asks. slice_get asks index) (sym is.asks) ∙ slice_get-map ask_tree a.asks.items index ∙ ap (option_map ask_tree) at))
 
 pub returns-clause-rules : goal.returns-clause-rules
 returns-clause-rules c = λ net i ask (j, sound, is, own, (index, at)). of_ask KeepsRules j (items_keep_rules j sound) index ask at

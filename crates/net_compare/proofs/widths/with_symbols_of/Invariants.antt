@@ -8,5 +8,6 @@ abbrev pub invariant-loop-symbol : goal.invariant-loop-symbol
 invariant-loop-symbol l = record {
   ready : IsReady l.now;
   entries : l.now.condition.entries ≡ l.fn.start.condition.entries;
+  most : l.now.condition.most_choices ≡ l.fn.start.condition.most_choices;
   widths : l.now.condition.widths ++ drop l.symbol l.other.widths ≡ longer l.fn.start.condition.widths l.other.widths;
 }

@@ -9,12 +9,12 @@ returns-then-count-gt-MOST_COUPLED c =
       many = omega (arith, c.if-count-gt-MOST_COUPLED.true);
     }
 
-pub returns-then-count-gt-MOST_CHOICES : goal.returns-then-count-gt-MOST_CHOICES
-returns-then-count-gt-MOST_CHOICES c = (
+pub returns-then-count-tried_choices : goal.returns-then-count-tried_choices
+returns-then-count-tried_choices c = (
   omega (arith, ap length c.requires.symbols, c.if-count-gt-MOST_COUPLED.false),
   record {
     simply_open = c.requires.simply_open;
     is = c.in_ok-count.ensures;
-    many = omega (arith, c.if-count-gt-MOST_CHOICES.true);
+    many = let h = c.if-count-tried_choices.true in let e = c.tried_choices.ensures in omega (arith, h, e);
   },
 )

@@ -19,8 +19,8 @@ returns-clause-starts g c = λ net i v hops s. (
       record {
         fits = h.fits;
         carries = h.carries;
-        start = record { unknowns = unknown_widths i.own.fields; tests = true'.truths; tree = tree_from (numbers v (unknown_count i)) net i hops s };
-        starts = ap (on_ok (λ fs. record { unknowns = unknown_widths i.own.fields; tests = fs; tree = tree_from (numbers v (unknown_count i)) net i hops s })) true'.is;
+        start = record { unknowns = unknown_widths i.own.fields; tests = true'.truths; tree = tree_from (numbers v (unknown_count i)) net i hops s; most_choices = i.most_choices };
+        starts = ap (on_ok (λ fs. record { unknowns = unknown_widths i.own.fields; tests = fs; tree = tree_from (numbers v (unknown_count i)) net i hops s; most_choices = i.most_choices })) true'.is;
         holds = true'.true';
       }),
   (λ h. record {
@@ -44,7 +44,7 @@ pub returns-clause-goes : goal.returns-clause-goes
 returns-clause-goes g c = λ o net i hops one widths.
     let carried = c.accepted_injections_go.ensures.carries o net i one widths in
     let tests = truths_go o (scene_at net i.node) carried.0 i.own.tests (c.accepted_injections_go.ensures.tests o net i one widths carried.0 carried.1) in (
-      record { unknowns = unknown_widths i.own.fields; tests = tests.0; tree = tree_from o net i hops carried.0 },
+      record { unknowns = unknown_widths i.own.fields; tests = tests.0; tree = tree_from o net i hops carried.0; most_choices = i.most_choices },
       ap (λ r. and_then r (start_from o net i hops)) carried.1
-          ∙ ap (on_ok (λ fs. record { unknowns = unknown_widths i.own.fields; tests = fs; tree = tree_from o net i hops carried.0 })) tests.1,
+          ∙ ap (on_ok (λ fs. record { unknowns = unknown_widths i.own.fields; tests = fs; tree = tree_from o net i hops carried.0; most_choices = i.most_choices })) tests.1,
     )

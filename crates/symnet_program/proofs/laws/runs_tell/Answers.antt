@@ -12,9 +12,9 @@ returns-clause-written g c u v said status part ran =
     run_written (outside g.F.Folder.told g.F.Folder.load_gives g.P.Patterns.told g.P.Patterns.find_gives) u v said status part ran
 
 pub returns-clause-headline : goal.returns-clause-headline
-returns-clause-headline g c u v job hops limit pruned whole ran =
-    run_told (outside g.F.Folder.told g.F.Folder.load_gives g.P.Patterns.told g.P.Patterns.find_gives) u v job hops limit pruned Done whole ran
+returns-clause-headline g c u v job cases hops limit pruned whole ran =
+    run_told (outside g.F.Folder.told g.F.Folder.load_gives g.P.Patterns.told g.P.Patterns.find_gives) u v job cases hops limit pruned Done whole ran
 
 pub returns-clause-partial : goal.returns-clause-partial
-returns-clause-partial g c u v job hops limit pruned whole ran =
-    run_told (outside g.F.Folder.told g.F.Folder.load_gives g.P.Patterns.told g.P.Patterns.find_gives) u v job hops limit pruned Partial whole ran
+returns-clause-partial g c u v job cases hops limit pruned whole ran =
+    run_told (outside g.F.Folder.told g.F.Folder.load_gives g.P.Patterns.told g.P.Patterns.find_gives) u v job cases hops limit pruned Partial whole ran

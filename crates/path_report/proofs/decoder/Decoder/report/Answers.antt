@@ -1,7 +1,8 @@
 use Rattle.serde_json.specs.View.{members_view}
 use Rattle.net_check.specs.Network.{network}
 use Rattle.report_shape.specs.declared.part.Part.TheVariants as part
-use Rattle.path_report.proofs.Holding.{report_held, object_form}
+use Rattle.path_report.proofs.Holding.{object_form}
+use Rattle.path_report.proofs.Whole.{report_held}
 use Rattle.path_report.proofs.decoder.Decoder.report.Goals as goal
 
 pub report_of-requires : goal.report_of-requires

@@ -20,7 +20,7 @@ unreachable-requires c =
     let p = c.args.injection.now in
     let fault = c.in-Err-Layout.field-0-0 in
     let at : Scene = record { net = net; node = c.place.result.0; iterations = c.empty-iterations.result } in
-    let refused = subst (λ (r : Result Symbolic StepFault). BegunAs c.unknowns.result at (injection_tree c.raw.result.now) r)
+    let refused = subst (λ (r : Result Symbolic StepFault). BegunAs c.unknowns.result c.most_choices.result at (injection_tree c.raw.result.now) r)
     (c.in-Err-Layout.is ∙ ap Err c.in-Err-Layout.field-0-is) c.begun.ensures in
     let start = c.injections_have_a_start.ensures.goes (terms (unknown_count (entry p))) net (entry p) 0 c.requires c.keeps_the_rules.ensures.widths in
     has_no_fault net (entry p) start.0 fault start.1
