@@ -115,7 +115,11 @@ function bytesOf(text) {
 
 const isJobName = (name) => name.endsWith(".sefl"), isPacketName = (name) => name.endsWith(".packet"), isListName = (name) => name.endsWith(".acl");
 const wrote = (end) => end.status === 0 || end.status === 12;
-const hopsOf = (options) => options.filter((word, index) => /^--hops(=|$)/.test(word) || options[index - 1] === "--hops");
+// The options of a name among these, with their values.
+const optionOf = (options, name) => options.filter((word, index) => word === name || word.startsWith(`${name}=`) || options[index - 1] === name);
+const hopsOf = (options) => optionOf(options, "--hops");
+// The bounds of an exploration, so that two commands number the same records.
+const boundsOf = (options) => ["--hops", "--limit", "--cases"].flatMap((name) => optionOf(options, name));
 const hasQuestions = (text) => /\bask\s+(reach|invariant|visible)\b/.test(text);
 
 // Each command: which files it takes, and its plan. A plan runs the program by `call`, and gives the ends of its runs, the command's own first, and what the
@@ -126,8 +130,9 @@ const COMMANDS = {
   loops: {
     takes: [isJobName],
     async plan(call, { names, options, textOf }) {
-      const found = await call(["loops", names[0], ...options]);
-      const report = wrote(found) ? [await call(["explore", names[0], ...hopsOf(options)])] : [];
+      const given = options;
+      const found = await call(["loops", names[0], ...given]);
+      const report = wrote(found) ? [await call(["explore", names[0], ...boundsOf(given)])] : [];
       return { ends: [found, ...report], shown: [[names[0], textOf(names[0])], ...report.map(({ output }) => ["report.json", output]), ["loops.json", found.output]] };
     },
   },
@@ -161,10 +166,10 @@ const COMMANDS = {
 
 // The paths of a job, and the answers to its questions where it has some: they are shown together, whichever was asked for.
 async function exploredAndAsked(call, { names, options, textOf }, command) {
-  const [job] = names;
-  const own = await call([command, job, ...options]);
+  const [job] = names, given = options;
+  const own = await call([command, job, ...given]);
   const isMore = wrote(own) && (command === "ask" || hasQuestions(textOf(job)));
-  const more = isMore ? [await call([command === "ask" ? "explore" : "ask", job, ...hopsOf(options)])] : [];
+  const more = isMore ? [await call([command === "ask" ? "explore" : "ask", job, ...boundsOf(given)])] : [];
   const files = [own, ...more].filter(wrote).map(({ words, output }) => [words[0] === "ask" ? "answers.json" : "report.json", output]);
   return { ends: [own, ...more], shown: [[job, textOf(job)], ...files] };
 }
@@ -257,7 +262,7 @@ const desk = { files: new Map(), open: "", names: [], place: null, answers: new 
 const DESK_PARTS = `
   <div class="row"><label>example <select id="example"></select></label><label>open files <input type="file" id="opened" multiple></label></div>
   <div class="row"><select id="command" aria-label="command"></select><span id="taken" class="row"></span>
-    <input id="options" aria-label="options" placeholder="options, as --hops 32"><button id="run">run</button></div>
+    <input id="options" aria-label="options" placeholder="options, as --hops 32 or --cases all"><button id="run">run</button></div>
   <div class="row" id="tabs"></div>
   <div id="editor"><div id="gutter"><pre></pre></div><div id="paper"><pre id="colours" aria-hidden="true"></pre>
     <textarea id="text" spellcheck="false" autocapitalize="off" aria-label="the open file"></textarea></div></div>

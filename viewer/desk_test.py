@@ -245,7 +245,8 @@ def test_desk(expect, page, name, unproved):
     expect(f"{name}: what is not proved", unproved in (page.value("byId('unproved').textContent") or ""), True)
     for value, words in page.value("[...document.querySelectorAll('#example option')].map((it) => [it.value, it.textContent])"):
         expect(f"{name}: {words}", chosen(page, "example", value), True)
-        expect(f"{name}: {words}: it ran", page.value("byId('ran').textContent").startswith(words), True)
+        ran = page.value("byId('ran').textContent")
+        expect(f"{name}: {words}: it ran", ran.startswith(words), True)
         expect(f"{name}: {words}: messages", page.value("[byId('message').textContent, document.body.classList.contains('stale')]"), ["", False])
         if words == "compare before.sefl dropped.sefl":
             expect(f"{name}: the walks of the packet in both networks", page.value("[...document.querySelectorAll('#both .side > p')].map((it) => it.textContent)"),

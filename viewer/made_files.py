@@ -13,8 +13,8 @@ def path(decisions, places, end, values, heads=(), tags=()):
     return {"decisions": decisions, "end": end, "fields": fields, "kind": "path", "places": places, "verdict": {"sat": values}}
 
 
-def report(records, hops=16):
-    return written({"hops": hops, "limit": 10000, "records": records, "refuted": 0, "state": "done", "symnet": 1})
+def report(records, hops=16, **bound):
+    return written({**bound, "hops": hops, "limit": 10000, "records": records, "refuted": 0, "state": "done", "symnet": 1})
 
 
 # A ring of a and b, where UDP goes round for ever; c sends to itself, and takes one from the TTL each time.
@@ -63,8 +63,45 @@ BY_ONE = {"cover": [["inside", 1]], "rule": "hidden"}
 BY_TWO = {"cover": [["cut", 1, 0x80000000], ["inside", 3], ["inside", 4]], "rule": "hidden"}
 RULES = written({"rules": [DECIDING[0], DECIDING[1], BY_ONE, DECIDING[2], DECIDING[3], BY_TWO], "symnet": 1})
 
+# Of that list and of one rule that permits all: what becomes of a packet in each; and of two lists that permit the same.
+LISTS_DIFFER = written({"answer": "other", "left": {"action": "deny", "rule": 1}, "right": {"action": "permit", "rule": 0}, "symnet": 1, "values": DECIDING[1]["values"]})
+LISTS_ARE_SAME = written({"answer": "same", "covers": [{"cover": [["right", 0]], "left": 2, "ranges": [[0, 255], [0, 9], [0, 9], [0, 9], [0, 9]], "right": 1}], "symnet": 1})
+
 # Of the job of examples/branch-office: its six unknown fields, and a choice.
 OTHER = written({"answer": "other", "number": 3, "side": "left", "symnet": 1, "values": [2, 17, 167837696, 134744072, 0, 53, 1024]})
+
+# A box with a test of two sums behind one of one field, and a `where`; and a report with a path for each cause why it may be undecided.
+SUMS = """symnet 2;
+node r 1 -> 1 {
+  in 0 {
+    if head L3+64:8 <= 1 { fail "ttl"; } else { }
+    if head L4+0:16 + head L4+16:16 == 7 { forward 0; } else { }
+  }
+}
+inject r.0 {
+  tag L3 = 112; tag L4 = 272;
+  field head L3+64:8; field head L4+0:16; field head L4+16:16;
+  where head L4+0:16 - head L4+16:16 in {1..9};
+}
+ask reach out r.0;
+"""
+
+
+def undecided(decisions, places, end, why):
+    return {**path(decisions, places, end, []), "verdict": {"undecided": why}}
+
+
+SUMS_RECORDS = [
+    undecided(["then"], ["in r.0"], {"fault": 9, "site": 3, "text": "ttl"}, {"cause": "cases", "count": 2**64 - 1}),
+    undecided(["else", "then"], ["in r.0", "out r.0"], "delivered", {"cause": "outside", "pick": 2, "values": [2, 0, 0]}),
+    undecided(["else", "else"], ["in r.0"], "stopped", {"cause": "outside", "pick": 0, "values": [2, 0, 0]}),
+    undecided(["else"], ["in r.0"], "stopped", {"cause": "coupled", "count": 70}),
+    path(["else"], ["in r.0"], "stopped", [2, 1, 0]),
+]
+SUMS_REPORT = report(SUMS_RECORDS)
+# The same with another bound on choices of cases, and a path more that has too many.
+SUMS_BOUND = report([*SUMS_RECORDS, SUMS_RECORDS[0]], cases=1000000)
+SUMS_UNKNOWN = written({"answers": [{"answer": "unknown", "numbers": [0, 1, 4]}], "symnet": 1})
 
 # A net before and after a change, a packet that shows the difference, and what becomes of it in each.
 BEFORE = """symnet 2;
@@ -161,6 +198,7 @@ BAD_LISTS = {
 MISFITS = [
     ("rules of another list", "few.rules", written({"rules": [DECIDING[0]], "symnet": 1}), ["list.acl"], "the answer has 1 rules, and the filter list 6"),
     ("a packet of another list", "packet.rules", RULES.replace("[6,167772160,0,0,80]", "[6,167772160,0,0,81]"), ["list.acl"], "of another filter list"),
+    ("a verdict on another list", "verdict.rules", LISTS_DIFFER.replace('"rule":1', '"rule":2'), ["list.acl"], "of another filter list"),
     ("a cover of another list", "cover.rules", RULES.replace('[["inside",1]]', '[["inside",0]]'), ["list.acl"], "of another filter list"),
     ("a record that is not cut", "other.loops.json", '{"loops":[{"first":0,"number":2}],"open":[],"symnet":1}', ["ring.json"], "record 2 of the report is no path that is cut"),
     ("a record past the last", "past.loops.json", '{"loops":[],"open":[12],"symnet":1}', ["ring.json"], "record 12 of the report is no path that is cut"),

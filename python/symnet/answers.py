@@ -3,6 +3,7 @@
 from dataclasses import dataclass, field
 from typing import Any, Callable, Dict, List, Optional, Sequence, Tuple, TypeVar
 
+from .causes import HINT, visit_cause
 from .fields import code_text, kind_of, name_of, range_text, value_text
 from .inputs import LIST_FIELDS, Job, Ranges, Rule, has_packet, has_part
 from .picture import Pictured, Texts
@@ -79,6 +80,25 @@ class Compared(Pictured):
     left: Tuple[int, ...] = ()
     right: Tuple[int, ...] = ()
     shown: Optional[Texts] = field(default=None, repr=False, compare=False)
+
+
+@dataclass(frozen=True)
+class ListSide:
+    """What a filter list does with a packet, and the number of the rule that says so; None where no rule contains it."""
+
+    permits: bool
+    rule: Optional[int]
+
+
+@dataclass(frozen=True)
+class ComparedRules:
+    """What a comparison of two filter lists says: same, with so many covers; or other, with a packet and what each list does with it."""
+
+    answer: str
+    values: Tuple[int, ...] = ()
+    left: Optional[ListSide] = None
+    right: Optional[ListSide] = None
+    covers: int = 0
 
 
 def _count(value: object) -> int:
@@ -164,14 +184,49 @@ def read_rules(whole: Written, rules: Optional[Sequence[Rule]] = None) -> List[F
     return [_each("rule", number, _fate, fate, number, rules) for number, fate in enumerate(fates)]
 
 
+def _list_packet(values: object) -> Tuple[int, ...]:
+    """The five values of a packet that filter lists read."""
+    packet = _counts(values)
+    if len(packet) != len(LIST_FIELDS):
+        raise NotAnswer(f"its packet has {len(packet)} values")
+    for value, (name, _, greatest) in zip(packet, LIST_FIELDS):
+        if value > greatest:
+            raise NotAnswer(f"{value} is no {name}")
+    return packet
+
+
+def _list_side(side: Written, values: Tuple[int, ...], rules: Optional[Sequence[Rule]]) -> ListSide:
+    action, rule = side["action"], side["rule"]
+    if action not in ("permit", "deny"):
+        raise NotAnswer(f"{action!r} is neither permit nor deny")
+    number = None if rule is None else _count(rule)
+    if rules is not None and next((at for at, it in enumerate(rules) if has_packet(it.ranges, values)), None) != number:
+        raise NotAnswer("the answer is of another filter list: in this one the rule does not decide the packet that is shown")
+    return ListSide(action == "permit", number)
+
+
+def read_compared_rules(whole: Written, left: Optional[Sequence[Rule]] = None, right: Optional[Sequence[Rule]] = None) -> ComparedRules:
+    """The answer of `rules` on two filter lists; with these, if they are given, NotAnswer where the answer is of others. Covers are counted only."""
+    said = whole.get("answer")
+    try:
+        if said == "same":
+            return ComparedRules(said, covers=len(_list(whole["covers"])))
+        if said == "other":
+            values = _list_packet(whole["values"])
+            return ComparedRules(said, values, _list_side(whole["left"], values, left), _list_side(whole["right"], values, right))
+    except (KeyError, TypeError) as error:
+        raise NotAnswer(f"the answer of rules has not the form of one: {error!r}") from None
+    raise NotAnswer("the answer of rules on two lists is neither same nor other")
+
+
+def is_of_lists(whole: Written) -> bool:
+    """Whether an answer is of `rules` on two filter lists, and none of `compare`: it has covers, or what becomes of its packet in each list."""
+    return "answer" in whole and ("covers" in whole or isinstance(whole.get("left"), dict))
+
+
 def _fate(fate: Written, number: int, rules: Optional[Sequence[Rule]]) -> Fate:
     if fate["rule"] == "decides":
-        values = _counts(fate["values"])
-        if len(values) != len(LIST_FIELDS):
-            raise NotAnswer(f"its packet has {len(values)} values")
-        for value, (name, _, greatest) in zip(values, LIST_FIELDS):
-            if value > greatest:
-                raise NotAnswer(f"{value} is no {name}")
+        values = _list_packet(fate["values"])
         if rules is not None and next((at for at, rule in enumerate(rules) if has_packet(rule.ranges, values)), None) != number:
             raise NotAnswer("the answer is of another filter list: in this one the rule does not decide the packet that is shown for it")
         return Fate(values)
@@ -268,8 +323,9 @@ def _fits(values: Sequence[int], job: Optional[Job]) -> None:
         raise NotAnswer(f"the job has {_plural(len(job.fields), 'unknown field', 'unknown fields')}, and a packet {len(values)}: it is of another job")
 
 
-def asked_lines(answers: Sequence[Answer], job: Optional[Job]) -> List[str]:
-    """Each question of the job with its text, its answer, and the packet that shows it."""
+def asked_lines(answers: Sequence[Answer], job: Optional[Job], why: Optional[Callable[[Sequence[int]], List[str]]] = None) -> List[str]:
+    """Each question of the job with its text, its answer, and the packet that shows it; below an unknown one what `why` says of the records that leave it
+    open."""
     if job is not None and len(job.asks) != len(answers):
         raise NotAnswer(f"the job has {_plural(len(job.asks), 'question', 'questions')}, and the answer {len(answers)}: it is of another job")
     lines = []
@@ -281,6 +337,7 @@ def asked_lines(answers: Sequence[Answer], job: Optional[Job]) -> List[str]:
             lines += [f"  {raw}"] if raw != code_text(raw) else []
         if answer.answer == "unknown":
             lines.append(f"  unknown: left open by {_records(answer.open)}")
+            lines += [f"    {line}" for line in ([HINT] if why is None else why(answer.open))]
         elif answer.number is None:
             lines.append(f"  {answer.answer}")
         else:
@@ -296,7 +353,7 @@ def _records(numbers: Sequence[int]) -> str:
 def _visit_lines(visit: Visit, job: Optional[Job]) -> List[str]:
     """Why an earlier visit shows no loop, with the packet that shows it."""
     why = {"choice": "a value was chosen after it", "layout": "other tags or cells were there", "cell": "a cell had another value, as with the packet",
-           "unknown": f"it is undecided whether a cell had another value ({visit.cause})"}[visit.why]
+           "unknown": f"it is undecided whether a cell had another value ({visit_cause(visit.cause)})"}[visit.why]
     return [f"  at place {visit.place} {why}", *(packet_lines(visit.values, job, "    ") if visit.values else [])]
 
 
@@ -330,10 +387,10 @@ def compared_lines(compared: Compared, job: Optional[Job]) -> List[str]:
     if compared.answer == "same":
         return ["same: each packet of the injection is delivered at the same ports with the same header, within the bound of hops"]
     if compared.answer == "partial":
-        return ["partial: an exploration reached its limit of 10,000 records, so nothing is known"]
+        return ["partial: an exploration reached its limit of records, so nothing is known; raise --limit, or narrow the injection by where lines"]
     if compared.answer == "unknown":
         sides = [f"{_records(numbers)} of the {_SIDES[side][0]}" for side, numbers in (("left", compared.left), ("right", compared.right)) if numbers]
-        return [f"unknown: no difference was found, and of {' and '.join(sides)} it is undecided whether the other network delivers the same"]
+        return [f"unknown: no difference was found, and of {' and '.join(sides)} it is undecided whether the other network delivers the same", f"  {HINT}"]
     _fits(compared.values, job)
     has, lacks = _SIDES[compared.side]
     return [f"other: path {compared.number} of the {has} delivers this packet, and the {lacks} does not deliver the same", *packet_lines(compared.values, job, "  ")]
@@ -356,6 +413,25 @@ def rules_lines(fates: Sequence[Fate], rules: Optional[Sequence[Rule]]) -> List[
     for number in hidden:
         lines += [f"rule {number} is hidden:", *_part_lines(fates[number], rules[number].ranges if rules is not None else None)]
     return lines
+
+
+def compared_rules_lines(compared: ComparedRules, left: Optional[Sequence[Rule]], right: Optional[Sequence[Rule]]) -> List[str]:
+    """What a comparison of two filter lists says: with a packet that shows a difference, and the rule of each list that decides it."""
+    if compared.answer == "same" or compared.left is None or compared.right is None:
+        shown = f", as {_plural(compared.covers, 'cover shows', 'covers show')}" if compared.covers else ""
+        return [f"same: both filter lists permit the same packets{shown}"]
+    has, lacks = ("first", "second") if compared.left.permits else ("second", "first")
+    packet = [(name, value_text(kind, value)) for value, (name, kind, _) in zip(compared.values, LIST_FIELDS)]
+    return [f"other: the {has} filter list permits this packet, and the {lacks} one denies it", *columns(packet, "  "),
+            *columns([("first", *_side_words(compared.left, left)), ("second", *_side_words(compared.right, right))], "  ")]
+
+
+def _side_words(side: ListSide, rules: Optional[Sequence[Rule]]) -> Tuple[str, str]:
+    """What a list does with a packet, and by which rule; the rule's text, where the list is given."""
+    action = "permits" if side.permits else "denies"
+    if side.rule is None:
+        return f"{action} it: no rule contains it", ""
+    return f"{action} it by rule {side.rule}", "" if rules is None else f"line {rules[side.rule].line}: {rules[side.rule].text}"
 
 
 def _hidden_words(number: int, fate: Fate, rules: Optional[Sequence[Rule]]) -> str:

@@ -8,7 +8,7 @@ import json
 from dataclasses import dataclass, field, replace
 from typing import Dict, List, Literal, Mapping, Optional, Sequence, Tuple, Union
 
-from .answers import Answer, Compared, Fate, Loops, read_asked, read_compared, read_loops, read_rules
+from .answers import Answer, Compared, ComparedRules, Fate, Loops, read_asked, read_compared, read_compared_rules, read_loops, read_rules
 from .inputs import read_list
 from .library import Ended, Files as AnyFiles, Text, as_bytes, call
 from .picture import Pictured, Texts
@@ -16,6 +16,8 @@ from .refusal import PARTIAL, written
 from .report import Report, read_report, read_written
 
 Files = Mapping[str, Text]
+# A bound on choices of cases: a number from 1 to 2^64 - 1, or all of them.
+Cases = Union[int, Literal["all"]]
 
 
 @dataclass(frozen=True)
@@ -94,10 +96,10 @@ def _counts(text: bytes) -> Dict[str, int]:
 
 
 def explore(job: Text, *, files: Optional[Files] = None, hops: Optional[int] = None, limit: Optional[int] = None,
-            pruned: Optional[Literal["all", "count"]] = None) -> Report:
+            cases: Optional[Cases] = None, pruned: Optional[Literal["all", "count"]] = None) -> Report:
     """The report of all packets of a job."""
     whole, names = _with(files, job=job)
-    text = written(run(["explore", names["job"], *_options(hops=hops, limit=limit, pruned=pruned)], whole))
+    text = written(run(["explore", names["job"], *_options(hops=hops, limit=limit, cases=cases, pruned=pruned)], whole))
     return replace(read_report(text), text=text, shown=_shown({"report": text, "job": job}))
 
 
@@ -116,26 +118,28 @@ def replay(job: Text, report: Union[Text, Report], *, files: Optional[Files] = N
     return Confirmed(**_counts(written(run(["replay", names["job"], names["report"]], whole))))
 
 
-def ask(job: Text, *, files: Optional[Files] = None, hops: Optional[int] = None) -> Asked:
+def ask(job: Text, *, files: Optional[Files] = None, hops: Optional[int] = None, limit: Optional[int] = None, cases: Optional[Cases] = None) -> Asked:
     """The answers to the questions of a job."""
     whole, names = _with(files, job=job)
-    ended = run(["ask", names["job"], *_options(hops=hops)], whole)
+    ended = run(["ask", names["job"], *_options(hops=hops, limit=limit, cases=cases)], whole)
     text = written(ended)
     return Asked(tuple(read_asked(read_written(text))), ended.status != PARTIAL, _shown({"answer": text, "job": job}))
 
 
-def loops(job: Text, *, files: Optional[Files] = None, hops: Optional[int] = None, open: Optional[Literal["numbers", "visits"]] = None) -> Loops:
+def loops(job: Text, *, files: Optional[Files] = None, hops: Optional[int] = None, limit: Optional[int] = None, cases: Optional[Cases] = None,
+          open: Optional[Literal["numbers", "visits"]] = None) -> Loops:
     """Which paths of a job that are cut go round for ever."""
     whole, names = _with(files, job=job)
-    ended = run(["loops", names["job"], *_options(hops=hops, open=open)], whole)
+    ended = run(["loops", names["job"], *_options(hops=hops, limit=limit, cases=cases, open=open)], whole)
     text = written(ended)
     return replace(read_loops(read_written(text)), complete=ended.status != PARTIAL, shown=_shown({"answer": text, "job": job}))
 
 
-def compare(job: Text, other: Text, *, files: Optional[Files] = None, hops: Optional[int] = None) -> Compared:
+def compare(job: Text, other: Text, *, files: Optional[Files] = None, hops: Optional[int] = None, limit: Optional[int] = None,
+            cases: Optional[Cases] = None) -> Compared:
     """Whether two jobs deliver the same, or a packet that shows a difference."""
     whole, names = _with(files, job=job, other=other)
-    text = written(run(["compare", names["job"], names["other"], *_options(hops=hops)], whole))
+    text = written(run(["compare", names["job"], names["other"], *_options(hops=hops, limit=limit, cases=cases)], whole))
     return replace(read_compared(read_written(text)), shown=_shown({"answer": text, "job": job}, {"job": other}))
 
 
@@ -150,6 +154,13 @@ def rules(file: Text) -> Rules:
     whole, names = _with(None, file=file)
     text = written(run(["rules", names["file"]], whole))
     return Rules(tuple(read_rules(read_written(text), read_list(as_bytes(file).decode()))), _shown({"answer": text, "list.acl": file}))
+
+
+def compare_rules(file: Text, other: Text) -> ComparedRules:
+    """Whether two filter lists permit the same packets, or a packet that one permits and the other denies."""
+    whole, names = _with(None, file=file, other=other)
+    text = written(run(["rules", names["file"], names["other"]], whole))
+    return read_compared_rules(read_written(text), read_list(as_bytes(file).decode()), read_list(as_bytes(other).decode()))
 
 
 def grow(seed: int, nodes: int) -> Grown:

@@ -29,10 +29,11 @@ class Ask:
 
 @dataclass(frozen=True)
 class Job:
-    """The unknown fields of the injection in order, as references, and the questions."""
+    """The unknown fields of the injection in order, as references, its `where` lines, and the questions."""
 
     fields: Tuple[str, ...]
     asks: Tuple[Ask, ...]
+    wheres: Tuple[str, ...] = ()
 
     def target(self, symbol: int) -> str:
         """What the value number `symbol` of a packet is: a field, or a choice on the way."""
@@ -114,7 +115,7 @@ class _Tokens:
 
 
 def read_job(text: str) -> Job:
-    """The unknown fields and questions of the job; NotInput where it has not the outline of one."""
+    """The unknown fields, `where` lines and questions of the job; NotInput where it has not the outline of one."""
     tokens = _Tokens(text)
     tokens.take("symnet")
     tokens.statement()
@@ -134,18 +135,20 @@ def read_job(text: str) -> Job:
     for _ in range(3):
         tokens.next()
     tokens.take("{")
-    fields, asks = [], []
+    fields, asks, wheres = [], [], []
     while tokens.peek() != "}":
         kind = tokens.next()
         line = tokens.statement()
         if kind == "field" and "=" not in line:
             fields.append(line)
+        if kind == "where":
+            wheres.append(line)
     tokens.take("}")
     while tokens.peek() == "ask":
         note = tokens.tokens[tokens.at].note
         tokens.next()
         asks.append(Ask(tokens.statement(), note))
-    return Job(tuple(fields), tuple(asks))
+    return Job(tuple(fields), tuple(asks), tuple(wheres))
 
 
 def is_list(name: str, text: str) -> bool:

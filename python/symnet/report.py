@@ -4,8 +4,8 @@
     tools/symnet_report.py WRITTEN [FILE ..] [--pruned]      the same, where the package is not installed
 
 WRITTEN is a report of `symnet explore`, the walks of `symnet walk`, or an answer of `symnet ask`, `rules`, `loops` or `compare`; `-` reads it from
-standard input. A FILE is what belongs to it: the job, the filter list of `rules`, or the report whose paths `loops` speaks of. Fields are shown by
-their names and with their values as people write them, where the job is given. Only the standard library is used. Whole numbers keep all their
+standard input. A FILE is what belongs to it: the job, the filter list of `rules` (or its two, in their order), or the report whose records `loops` and `ask`
+speak of. Fields are shown by their names and with their values as people write them, where the job is given. Only the standard library is used. Whole numbers keep all their
 digits; a value above 2^64 - 1, which is written as a text of digits, becomes a number too.
 
     symnet ask office.sefl | tools/symnet_report.py - office.sefl
@@ -16,10 +16,11 @@ import json
 import signal
 import sys
 from dataclasses import dataclass, field
-from typing import Any, Dict, List, Optional, Tuple, Union
+from typing import Any, Callable, Dict, List, Optional, Sequence, Tuple, Union
 
-from .answers import (NotAnswer, Written, asked_lines, columns, compared_lines, loops_lines, packet_words, read_asked, read_compared, read_loops,
-                      read_rules, rules_lines)
+from .answers import (NotAnswer, Written, asked_lines, columns, compared_lines, compared_rules_lines, is_of_lists, loops_lines, packet_words, read_asked,
+                      read_compared, read_compared_rules, read_loops, read_rules, rules_lines)
+from .causes import ALL_CASES, COUPLED, OUTSIDE, USUAL_CASES, too_many, undecided_lines
 from .inputs import Job, NotInput, Rule, is_list, read_job, read_list
 from .picture import Pictured, Texts
 
@@ -60,7 +61,8 @@ class Fields:
 
 @dataclass(frozen=True)
 class Path:
-    """A path, or a walk of one packet; `values` are those of its least packet, None where it is undecided or a walk."""
+    """A path, or a walk of one packet; `values` are those of its least packet, None where it is undecided or a walk. `undecided` is the cause, "cases",
+    "coupled" or "outside"; `count` is the number of its choices of cases, or of its coupled values, and `pick` the number of the test that is outside."""
 
     decisions: Tuple[Union[str, int], ...]
     places: Tuple[str, ...]
@@ -68,6 +70,8 @@ class Path:
     fields: Fields
     values: Optional[Tuple[int, ...]] = None
     undecided: Optional[str] = None
+    count: Optional[int] = None
+    pick: Optional[int] = None
 
 
 @dataclass(frozen=True)
@@ -91,13 +95,14 @@ Record = Union[Path, Pruned, Unexplored]
 @dataclass(frozen=True)
 class Report(Pictured):
     """All records in order; `refuted` is how many refuted sides are only counted, and `complete` says that nothing was left unexplored. Walks have none
-    of hops, limit and refuted sides. `text` is what was read, as `replay` takes it, where it is kept."""
+    of hops, limit and refuted sides. `cases` is the bound on choices of cases, 4,096 where the text says none. `text` is what was read, as `replay` takes it, where it is kept."""
 
     records: Tuple[Record, ...]
     hops: Optional[int] = None
     limit: Optional[int] = None
     refuted: int = 0
     complete: bool = True
+    cases: Optional[int] = None
     text: bytes = field(default=b"", repr=False, compare=False)
     shown: Optional[Texts] = field(default=None, repr=False, compare=False)
 
@@ -133,8 +138,9 @@ def _end(end: Union[str, Written]) -> str:
 def _path(record: Written) -> Path:
     verdict = record.get("verdict") or {}
     values = tuple(int(value) for value in verdict["sat"]) if "sat" in verdict else None
-    undecided = verdict["undecided"]["cause"] if "undecided" in verdict else None
-    return Path(tuple(record["decisions"]), tuple(record["places"]), _end(record["end"]), _fields(record["fields"]), values, undecided)
+    why = verdict.get("undecided") or {}
+    count, pick = (int(why[key]) if key in why else None for key in ("count", "pick"))
+    return Path(tuple(record["decisions"]), tuple(record["places"]), _end(record["end"]), _fields(record["fields"]), values, why["cause"] if why else None, count, pick)
 
 
 def _record(record: Written) -> Record:
@@ -168,7 +174,10 @@ def _report(whole: Written) -> Report:
     if not isinstance(listed, list):
         raise NotReport("no report: it has neither records nor walks")
     records = tuple(_numbered(number, record) for number, record in enumerate(listed))
-    return Report(records, whole.get("hops"), whole.get("limit"), whole.get("refuted", 0), whole.get("state", "done") == "done")
+    cases = whole.get("cases", USUAL_CASES) if "records" in whole else None
+    if cases is not None and not (isinstance(cases, int) and not isinstance(cases, bool) and cases >= 1):
+        raise NotReport("no report: its bound on choices of cases is no number from 1 on")
+    return Report(records, whole.get("hops"), whole.get("limit"), whole.get("refuted", 0), whole.get("state", "done") == "done", cases)
 
 
 def _numbered(number: int, record: Written) -> Record:
@@ -193,8 +202,45 @@ def table(report: Report, with_pruned: bool = False, job: Optional[Job] = None) 
 
 def _packet(path: Path, job: Optional[Job]) -> str:
     if path.values is None:
-        return path.undecided or "-"
+        return f"undecided: {path.undecided}" if path.undecided else "-"
     return " ".join(map(str, path.values)) if job is None else packet_words(path.values, job)
+
+
+def undecided(report: Report, job: Optional[Job] = None) -> List[str]:
+    """How many paths are undecided by which cause, and what settles them."""
+    found = [(number, path.undecided, _test(path, job)) for number, path in enumerate(report.records) if isinstance(path, Path) and path.undecided]
+    return undecided_lines(found, len(report.paths), report.cases)
+
+
+def _test(path: Path, job: Optional[Job]) -> str:
+    """The words of the test that a path's cause names: the tests of the injection come first, then those of the decisions, in their order."""
+    if path.pick is None:
+        return ""
+    if job is None:
+        return f"test {path.pick}"
+    if path.pick < len(job.wheres):
+        return f"where {job.wheres[path.pick]}"
+    tests = [(at, decision) for at, decision in enumerate(path.decisions) if isinstance(decision, str)]
+    at, decision = tests[path.pick - len(job.wheres)] if path.pick - len(job.wheres) < len(tests) else (path.pick, "")
+    return f"decision {at}, {decision}" if decision else f"test {path.pick}"
+
+
+def open_lines(report: Report, numbers: Sequence[int], job: Optional[Job] = None) -> List[str]:
+    """Why these records leave a question open."""
+    if any(number >= len(report.records) for number in numbers):
+        raise NotAnswer("a record that leaves a question open is none of the report: the answer is of another job, other hops or another limit")
+    listed = [(number, report.records[number]) for number in numbers]
+    found = [(number, path.undecided, _test(path, job)) for number, path in listed if isinstance(path, Path) and path.undecided]
+    untried = sum(isinstance(record, Unexplored) for _, record in listed)
+    decided = len(listed) - len(found) - untried
+    lines = undecided_lines(found, len(listed), report.cases, "record")
+    if untried:
+        lines.append(f"{untried:,} of {len(listed):,} records {'was' if untried == 1 else 'were'} not tried, since the limit was met; raise --limit")
+    if decided:
+        verb, them, they = ("is", "it", "it") if decided == 1 else ("are", "them", "they")
+        settles = f"{OUTSIDE}, or {COUPLED}" if report.cases == ALL_CASES else f"with the question {they} may have {too_many(None)}; --cases all tries them"
+        lines.append(f"{decided:,} of {len(listed):,} records {verb} decided, and the question on {them} is not: {settles}")
+    return lines
 
 
 @dataclass
@@ -202,7 +248,8 @@ class Inputs:
     """The files that belong to what was written, as far as they are given."""
 
     job: Optional[Job] = None
-    rules: Optional[List[Rule]] = None
+    # Filter lists in the order in which they are given.
+    lists: List[List[Rule]] = field(default_factory=list)
     report: Optional[Report] = None
 
     def add(self, name: str, data: bytes) -> None:
@@ -211,9 +258,13 @@ class Inputs:
         if text.lstrip().startswith("{"):
             self.report = read_report(text)
         elif is_list(name, text):
-            self.rules = read_list(text)
+            self.lists.append(read_list(text))
         else:
             self.job = read_job(text)
+
+    def list_of(self, at: int) -> Optional[List[Rule]]:
+        """The filter list that stands there, where it is given."""
+        return self.lists[at] if at < len(self.lists) else None
 
     def cut_paths(self) -> Optional[Dict[int, Tuple[str, ...]]]:
         """The places of each cut path of the report, by the number of its record."""
@@ -221,19 +272,28 @@ class Inputs:
             return None
         return {number: record.places for number, record in enumerate(self.report.records) if isinstance(record, Path) and record.end == "cut"}
 
+    def why(self) -> Optional[Callable[[Sequence[int]], List[str]]]:
+        """Why records of the report leave a question open, where it is given."""
+        report, job = self.report, self.job
+        return None if report is None else lambda numbers: open_lines(report, numbers, job)
+
 
 def shown(text: Union[str, bytes], inputs: Inputs, with_pruned: bool = False) -> str:
     """What is written, in words; NotReport or NotAnswer where it is nothing that symnet writes, or not of these inputs."""
     whole = read_written(text)
     if "answers" in whole:
-        return "\n".join(asked_lines(read_asked(whole), inputs.job))
+        return "\n".join(asked_lines(read_asked(whole), inputs.job, inputs.why()))
     if "rules" in whole:
-        return "\n".join(rules_lines(read_rules(whole, inputs.rules), inputs.rules))
+        return "\n".join(rules_lines(read_rules(whole, inputs.list_of(0)), inputs.list_of(0)))
     if "loops" in whole:
         return "\n".join(loops_lines(read_loops(whole), inputs.cut_paths(), inputs.job))
+    if is_of_lists(whole):
+        left, right = inputs.list_of(0), inputs.list_of(1)
+        return "\n".join(compared_rules_lines(read_compared_rules(whole, left, right), left, right))
     if "answer" in whole:
         return "\n".join(compared_lines(read_compared(whole), inputs.job))
-    return table(_report(whole), with_pruned, inputs.job)
+    report = _report(whole)
+    return "\n".join([table(report, with_pruned, inputs.job), *undecided(report, inputs.job)])
 
 
 def _bytes_of(name: str) -> bytes:
