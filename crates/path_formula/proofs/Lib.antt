@@ -6,6 +6,7 @@ pub mod Shapes
 pub mod Solving
 pub mod Truths
 pub mod Typings
+pub mod MemberLemmas
 pub mod PartTruths
 pub mod CaseCounts
 pub mod Integers

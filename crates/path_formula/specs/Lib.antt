@@ -12,5 +12,6 @@ pub mod Pairs
 pub mod Cases
 pub mod Splits
 pub mod CaseCounts
+pub mod Members
 -- What functions inside promise each other.
 pub mod Summaries

@@ -1,12 +1,13 @@
 //! What holds of the cases of all formulas. Each is the contract of a function that does nothing.
 
-ghost use Rattle.std.specs.Prelude.{◌≡◌, ◌&&◌, ℕ, Bool, false, List, slice_index};
+ghost use Rattle.std.specs.Prelude.{◌≡◌, ◌&&◌, ℕ, Bool, false, true, List, Some, slice_index};
 ghost use Rattle.std.specs.List.{list_any};
 ghost use Rattle.sn_width.specs.Width.{FitsWidth};
 ghost use Rattle.sn_width.specs.declared.ids.SymId.{SymId};
 ghost use Rattle.sn_ranges.specs.Ranges.{RangeSet, IsSetOf, fits_width};
 ghost use Rattle.path_formula.specs.Formulas.{FormulaTree, truth_at};
 ghost use Rattle.path_formula.specs.Kinds.{atoms_of, is_hard, kind_of};
+ghost use Rattle.path_formula.specs.Members.{Member, member_of};
 ghost use Rattle.path_formula.specs.Solutions.{agrees};
 ghost use Rattle.path_formula.specs.Typed.{IsTyped};
 ghost use Rattle.path_formula.specs.declared.kinds.Kind.{Kind};
@@ -52,4 +53,16 @@ pub fn one_range_is_met_exactly_where_the_value_passes()
 pub fn bounds_before_cases_are_met_with_one_of_them()
     ensures { (bounds : Case) (cases : List Case) (values : List ℕ)
         → is_one_met values (with_bounds cases bounds) ≡ (is_case_met values bounds && is_one_met values cases) }
+{}
+
+/// Where a formula has the truth that it must have, each of its members has its own. A member of a typed formula is typed, and one
+/// of a formula that has cases has cases.
+pub fn a_member_of_a_formula_that_has_its_truth_has_its_own()
+    ensures truth { (f : FormulaTree) (holds : Bool) (way : List ℕ) (m : Member) (values : List ℕ)
+        → member_of f holds way ≡ Some m → agrees holds (truth_at f values) ≡ true
+        → agrees m.1 (truth_at m.0 values) ≡ true }
+    ensures typed { (f : FormulaTree) (holds : Bool) (way : List ℕ) (m : Member) (widths : List ℕ)
+        → member_of f holds way ≡ Some m → IsTyped widths f → IsTyped widths m.0 }
+    ensures splits { (f : FormulaTree) (holds : Bool) (way : List ℕ) (m : Member)
+        → member_of f holds way ≡ Some m → CanSplit f → CanSplit m.0 }
 {}
