@@ -17,6 +17,8 @@ use Rattle.path_formula.specs.declared.atom.AtomKind.TheVariants.{Constant, Sing
 use Rattle.path_formula.specs.declared.atom.Shape.{Shape}
 use Rattle.path_formula.specs.declared.atom.Shape.TheVariants.{Number, Symbol, Other}
 use Rattle.path_formula.specs.Cases.{constant_cases, relation_with, cases_by_shapes, atom_cases, cases_of, cases_of_all, cases_of_any}
+use Rattle.path_formula.specs.Members.{Member, member_of}
+use Rattle.path_formula.proofs.MemberLemmas.{GoesDown, goes_down}
 use Rattle.path_formula.specs.Splits.{AtomCanSplit, CanSplit, EachCanSplit}
 use Rattle.path_cond.specs.Coupled.{stands_in, occurs_in, occurs_among}
 use Rattle.path_solver.specs.Bounds.{EachAreBetween}
@@ -154,6 +156,27 @@ mutual
       each_append test (cases_of f holds) (cases_of_any fs holds)
       (cases_between test f holds split.0 (λ s o. h s (or_left (occurs_in s f) (occurs_among s fs) o)))
       (any_between test fs holds split.1 (λ s o. h s (or_right (occurs_in s f) (occurs_among s fs) o)))
+
+-- the symbols of a formula pass the test
+abbrev SymbolsPass : (SymId → Bool) → FormulaTree → Bool → Type 0
+SymbolsPass test f holds = (s : SymId) → occurs_in s f ≡ true → test s ≡ true
+
+abbrev EachPass : (SymId → Bool) → Formulas → Bool → Type 0
+EachPass test fs holds = (s : SymId) → occurs_among s fs ≡ true → test s ≡ true
+
+symbols_down : (test : SymId → Bool) → GoesDown (SymbolsPass test) (EachPass test)
+symbols_down test = record {
+  all = λ fs h. h;
+  any = λ fs h. h;
+  other = λ f holds h. h;
+  first = λ f fs holds h s o. h s (or_left (occurs_in s f) (occurs_among s fs) o);
+  rest = λ f fs holds h s o. h s (or_right (occurs_in s f) (occurs_among s fs) o);
+}
+
+-- a member has no symbols but those of its formula
+pub member_among : (test : SymId → Bool) (f : FormulaTree) (holds : Bool) (way : List ℕ) (m : Member) → member_of f holds way ≡ Some m
+    → ((s : SymId) → occurs_in s f ≡ true → test s ≡ true) → (s : SymId) → occurs_in s m.0 ≡ true → test s ≡ true
+member_among test f holds way m leads h = goes_down (SymbolsPass test) (EachPass test) (symbols_down test) f holds way m leads h
 
 -- the symbol is one of the condition, of at most 64 bits
 pub record IsNarrow (widths : List ℕ) (s : SymId) : Type 0 where

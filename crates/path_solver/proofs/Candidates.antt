@@ -23,11 +23,11 @@ use Rattle.path_cond.specs.Coupled.{is_inside_kind, is_inside}
 use Rattle.path_cond.specs.Counts.{domain_cases}
 use Rattle.refutation_check.specs.Seen as any
 use Rattle.refutation_check.specs.Least.{AreCandidates, is_outside_kind, is_outside, holds_unless_outside}
-use Rattle.path_solver.specs.Origins.{entry_cases, cases_from, origins_of}
-use Rattle.path_solver.specs.declared.origin.Origin.{Origin}
-use Rattle.path_solver.specs.declared.origin.Origin.TheVariants.{Ranges, Cases}
+use Rattle.path_solver.specs.Origins.{cases_from, IsOrigin, origins_of}
+use Rattle.refutation_check.specs.declared.steps.Refute.{Refute}
+use Rattle.refutation_check.specs.declared.steps.Refute.TheVariants.{Empty, Domain, Split, Cycle}
 use Rattle.path_solver.proofs.Atoms.{or_cases}
-use Rattle.path_solver.proofs.Bridge.{IsOrigin, MeetCases, inside_case_met}
+use Rattle.path_solver.proofs.Bridge.{MeetCases, cases_there, inside_case_met}
 use Rattle.path_solver.specs.Laws.{Facts}
 use Rattle.path_solver.proofs.Entries.{at_all, all_at, typed_at, entry_splits, listed_narrow, get_at, index_at, known_at}
 use Rattle.path_solver.proofs.Goodness.{AreUnder, ranges_under}
@@ -70,22 +70,26 @@ module _ {X : Type 0} (tree : X → FormulaTree) (facts : Facts) where
       (λ i e is. meets_by s x e (seen.is_entry_on tree s e) refl (at_all (any.holds_unless_outside tree x) c.entries i e h.satisfied is))
 
 -- the values meet one of the cases of each choice
-pub candidate_meets : Facts → (cond : Condition) (x : List ℕ) (o : Origin) → AllTyped cond.widths cond.entries
+pub candidate_meets : Facts → (cond : Condition) (x : List ℕ) (o : Refute) → AllTyped cond.widths cond.entries
     → AreCandidates cond x → IsOrigin cond o → is_one_met x (cases_from cond o) ≡ true
-candidate_meets facts cond x (Ranges s) typed h origin =
+candidate_meets facts cond x (Empty s picks) typed h origin = absurd origin
+candidate_meets facts cond x (Domain s) typed h origin =
     let narrow = listed_narrow facts cond s typed origin in
     let fits : FitsWidth (slice_index cond.widths s.0) (slice_index x s.0) =
     subst (λ (w : ℕ). FitsWidth w (slice_index x s.0)) (sym (index_at cond.widths s.0 narrow.width narrow.at))
     (h.fitting.fit s.0 narrow.width narrow.at) in
     facts.ranges_are_test s (slice_index cond.widths s.0) (in_domain s cond) x fits ∙ candidate_in_domain view facts cond x s h
-candidate_meets facts cond x (Cases pick) typed h origin =
+candidate_meets facts cond x (Cycle bounds) typed h origin = absurd origin
+candidate_meets facts cond x (Split pick way) typed h origin =
     let e = origin.entry in
     let holds : entry_holds x e ≡ true =
     not_outside view e x (kind_of (view e.0)) refl (inside_is (kind_of (view e.0)) origin.inside)
     (at_all (holds_unless_outside x) cond.entries pick e h.satisfied origin.at) in
-    subst (λ (o : Option Entry). is_one_met x (entry_cases o) ≡ true) (sym origin.at)
-    (facts.cases_are_truth (view e.0) e.1 cond.widths x (entry_splits facts cond pick e typed origin.at origin.inside)
-    (typed_at cond.widths cond.entries pick e typed origin.at) h.fitting.fit ∙ holds)
+    let m = origin.member in
+    let splits = facts.member_splits (view e.0) e.1 way m origin.leads (entry_splits facts cond pick e typed origin.at origin.inside) in
+    let typed_member = facts.member_typed (view e.0) e.1 way m cond.widths origin.leads (typed_at cond.widths cond.entries pick e typed origin.at) in
+    ap (is_one_met x) (cases_there cond pick way origin) ∙ facts.cases_are_truth m.0 m.1 cond.widths x splits typed_member h.fitting.fit
+    ∙ facts.member_truth (view e.0) e.1 way m x origin.leads holds
 
 value_under : (x : List ℕ) (s : SymId) (ranges : List Range) (limit : ℕ) → AreUnder limit ranges
     → is_one_met x (map (range_case s) ranges) ≡ true → slice_index x s.0 < limit

@@ -80,7 +80,7 @@ TypedAt = (cond : Condition) (pick : ℕ) (entry : Entry) → AllTyped cond.widt
 
 -- one Split of a formula without cases refutes, where few enough symbols are coupled
 pub split_refutes : Facts → TypedAt → (cond : Condition) (pick : ℕ) → AllTyped cond.widths cond.entries → first_without_cases cond ≡ Some pick
-    → coupled_count cond ≤ most_coupled → IsRefuted cond × IsAccepted cond (Split pick ∷ [])
+    → coupled_count cond ≤ most_coupled → IsRefuted cond × IsAccepted cond (Split pick [] ∷ [])
 split_refutes facts typed_at c pick typed first few =
     let r = found has_no_cases 0 pick c.entries first in
     let e = r.entry in
@@ -104,5 +104,5 @@ split_refutes facts typed_at c pick typed first few =
             let bad : false ≡ true = met in
             cc;
       }),
-      ([], record { entry = e; at = at; splits = splits; cases_are = sym empty }, tt),
+      ([], record { entry = e; at = at; member = (view e.0, e.1); leads = refl; splits = splits; cases_are = sym empty }, tt),
     )

@@ -19,14 +19,14 @@ use Rattle.refutation_check.specs.declared.outcome.Cause.{Cause}
 use Rattle.refutation_check.specs.declared.outcome.Cause.TheVariants.{Outside as OutsideCause, Cases, Coupled}
 use Rattle.path_solver.specs.Decisions.{IsDecisionOn, IsSettled, IsInFragment, HasNoInside, HasNoOutside, IsByLeastValues, HasLeastValues}
 use Rattle.path_solver.specs.Laws.{Facts}
-use Rattle.path_solver.specs.Origins.{origins_of}
+use Rattle.path_solver.specs.Origins.{IsOrigin, origins_of}
 use Rattle.path_solver.specs.Unknowns.{is_listed}
 use Rattle.path_solver.specs.declared.decision.Decided.{Decided}
 use Rattle.path_solver.specs.declared.decision.Decided.TheVariants.{Sat, Unsat, Undecided}
-use Rattle.path_solver.specs.declared.origin.Origin.{Origin}
-use Rattle.path_solver.specs.declared.origin.Origin.TheVariants.{Ranges, Cases as OfCases}
+use Rattle.refutation_check.specs.declared.steps.Refute.{Refute}
+use Rattle.refutation_check.specs.declared.steps.Refute.TheVariants.{Empty, Domain, Split, Cycle}
 use Rattle.path_solver.proofs.Ascending.{or_no_left, or_no_right, other_place}
-use Rattle.path_solver.proofs.Bridge.{IsOrigin, origins_are, meet_all}
+use Rattle.path_solver.proofs.Bridge.{origins_are, meet_all}
 use Rattle.path_solver.proofs.Candidates.{candidate_possible, met_candidate}
 use Rattle.path_solver.proofs.Entries.{any_at}
 use Rattle.path_solver.proofs.Exact.{licensed, refuted_none}
@@ -119,11 +119,13 @@ unbroken_by facts c values (Some pick) h e = absurd (refuted_none view facts c v
 unbroken : Facts → (c : Condition) (values : List ℕ) → AreCandidates c values → first_broken c ≡ None
 unbroken facts c values h = unbroken_by facts c values (first_broken c) h refl
 
-pub no_origin : (c : Condition) (o : Origin) → HasNoInside c → IsOrigin c o → ⊥
-no_origin c (Ranges s) none h =
+pub no_origin : (c : Condition) (o : Refute) → HasNoInside c → IsOrigin c o → ⊥
+no_origin c (Empty s picks) none h = h
+no_origin c (Domain s) none h =
     let not : is_listed (coupled_symbols c) s ≡ false =
     ap (λ (symbols : List SymId). is_listed symbols s) (none_coupled c none) in cc
-no_origin c (OfCases pick) none h =
+no_origin c (Cycle bounds) none h = h
+no_origin c (Split pick way) none h =
     let some : list_any is_inside c.entries ≡ true = any_at is_inside c.entries pick h.entry h.at h.inside in cc
 
 possible_with : Facts → (c : Condition) (values : List ℕ) (s : SymId) (value : ℕ) (r : SymId) (b : Bool)

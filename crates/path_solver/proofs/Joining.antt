@@ -1,5 +1,5 @@
 -- Choices of one case each, and their bounds together.
-use Rattle.std.proofs.Common.{◌≡◌, ℕ, zero, suc, ◌≤◌, ℤ, pos, ◌≤ℤ◌, ◌<ℤ◌, ◌⊎◌, inl, inr, List, [], ◌∷◌, ◌++◌, length, map, take, Some, refl, sym, ap, subst, ◌∙◌, arith, ◌*◌, ◌==◌, Bool, true, false, cond, ◌&&◌, ◌+◌, ◌<◌, get_or, append_assoc}
+use Rattle.std.proofs.Common.{◌≡◌, ℕ, zero, suc, ◌≤◌, ℤ, pos, ◌≤ℤ◌, ◌<ℤ◌, ◌⊎◌, inl, inr, List, [], ◌∷◌, ◌++◌, length, map, take, Option, Some, refl, sym, ap, subst, ◌∙◌, arith, ◌*◌, ◌==◌, Bool, true, false, cond, ◌&&◌, ◌+◌, ◌<◌, get_or, append_assoc}
 use Rattle.std.specs.Prelude.{slice_get, All}
 use Rattle.std.proofs.lemmas.Int.{ints}
 use Rattle.std.proofs.Math.Nat.{mul-suc}
@@ -20,11 +20,11 @@ use Rattle.path_formula.specs.CaseCounts.{capped}
 use Rattle.path_formula.specs.Bounds as Symbolic
 use Rattle.path_cond.specs.Summaries.{entry_case_count, formula_choices, is_inside, single_case, singles, singles_from}
 use Rattle.path_cond.specs.Coupled.{coupled_symbols}
-use Rattle.path_solver.specs.Origins.{cases_from, choices_from, entry_cases, formula_origins, origins_of}
+use Rattle.path_solver.specs.Origins.{cases_from, choices_from, entry_cases, whole, formula_origins, origins_of}
 use Rattle.path_solver.specs.Singles.{AreJoined, AreSinglesOf}
 use Rattle.path_solver.specs.Unknowns.{bound_of, case_of, choice_of}
-use Rattle.path_solver.specs.declared.origin.Origin.{Origin}
-use Rattle.path_solver.specs.declared.origin.Origin.TheVariants.{Ranges, Cases}
+use Rattle.refutation_check.specs.declared.steps.Refute.{Refute}
+use Rattle.refutation_check.specs.declared.steps.Refute.TheVariants.{Domain}
 use Rattle.path_solver.specs.declared.singles.Singles.{Singles}
 use Rattle.path_solver.proofs.Solved.{natural_at}
 
@@ -80,7 +80,7 @@ joined_more choices bounds case h =
     }
 
 -- the choice of an origin more, which has one case
-pub singles_more : (cond : Condition) (origins : List Origin) (o : Origin) (old new : Singles) (cases : List Symbolic.Case)
+pub singles_more : (cond : Condition) (origins : List Refute) (o : Refute) (old new : Singles) (cases : List Symbolic.Case)
     (case : Symbolic.Case) → cases ≡ case ∷ [] → cases ≡ cases_from cond o
     → new.bounds.items ≡ old.bounds.items ++ case_of (coupled_symbols cond) case
     → AreSinglesOf cond origins old → AreSinglesOf cond (origins ++ o ∷ []) new
@@ -88,7 +88,7 @@ singles_more cond origins o old new cases case one from more h =
     let symbols = coupled_symbols cond in
     let choice : choice_of symbols (cases_from cond o) ≡ case_of symbols case ∷ [] = ap (choice_of symbols) (sym from ∙ one) in
     let choices : choices_from cond (origins ++ o ∷ []) ≡ choices_from cond origins ++ (case_of symbols case ∷ []) ∷ [] =
-    map_push (λ (p : Origin). choice_of symbols (cases_from cond p)) origins o ∙ ap (λ x. choices_from cond origins ++ x ∷ []) choice in
+    map_push (λ (p : Refute). choice_of symbols (cases_from cond p)) origins o ∙ ap (λ x. choices_from cond origins ++ x ∷ []) choice in
     subst (λ xs. AreJoined xs new.bounds.items) (sym choices)
     (subst (AreJoined (choices_from cond origins ++ (case_of symbols case ∷ []) ∷ [])) (sym more)
     (joined_more (choices_from cond origins) old.bounds.items (case_of symbols case) h))
@@ -117,7 +117,7 @@ natural_each cond [] u h = let l = h.one_each in absurd (omega (arith, l))
 natural_each cond (z0 ∷ vs) zero h = let first = h.first in omega (arith, ints, first)
 natural_each cond (z0 ∷ vs) (suc i) h =
     let l = h.one_each in
-    natural_by vs i (λ z at. natural_at cond z0 vs i z (omega (arith, l)) h.first h.met at)
+    natural_by vs i (λ z at. natural_at cond (formula_origins 0 cond.entries) z0 vs i z (omega (arith, l)) h.first h.met at)
 
 -- integers that meet one case of each choice are not below zero
 natural_met : (cond : Condition) (w : List ℤ) → IsMet (length (coupled_symbols cond)) (choices_from cond (origins_of cond)) w
@@ -175,9 +175,9 @@ singles_are_case : (symbols : List SymId) (pick : ℕ) (case : Symbolic.Case) �
 singles_are_case symbols pick [] = refl
 singles_are_case symbols pick (b ∷ case) = ap (λ bs. bound_of symbols b ∷ bs) (singles_are_case symbols pick case)
 
-formula_joined : (c : Condition) (pick : ℕ) (rest : List Origin) (bounds : Case) (cases : List Symbolic.Case) (b : Bool)
-    → cases_from c (Cases pick) ≡ cases → cond b (length cases) 1 ≡ 1 → AreJoined (choices_from c rest) bounds
-    → AreJoined (choices_from c (cond b (Cases pick ∷ rest) rest))
+formula_joined : (c : Condition) (pick : ℕ) (rest : List Refute) (bounds : Case) (cases : List Symbolic.Case) (b : Bool)
+    → cases_from c (whole pick) ≡ cases → cond b (length cases) 1 ≡ 1 → AreJoined (choices_from c rest) bounds
+    → AreJoined (choices_from c (cond b (whole pick ∷ rest) rest))
     (case_of (coupled_symbols c) (cond (b && (cond b (length cases) 1 == 1)) (first_case cases) []) ++ bounds)
 formula_joined c pick rest bounds [] true is one h = absurd (omega (arith, one))
 formula_joined c pick rest bounds (case ∷ []) true is one h =
@@ -195,12 +195,12 @@ formulas_joined c pick (e ∷ entries) at one =
     let symbols = coupled_symbols c in
     let counts = counts_one (entry_case_count e) (product (map entry_case_count entries)) one in
     let later = formulas_joined c (suc pick) entries (λ i. ap (slice_get c.entries) (next pick i) ∙ at (suc i)) counts.1 in
-    let here : cases_from c (Cases pick) ≡ cases_of (view e.0) e.1 = ap entry_cases (ap (slice_get c.entries) (same pick) ∙ at 0) in
-    let whole : map (bound_in symbols) (singles_from pick (e ∷ entries))
+    let here : cases_from c (whole pick) ≡ cases_of (view e.0) e.1 = ap (λ (o : Option Entry). entry_cases o []) (ap (slice_get c.entries) (same pick) ∙ at 0) in
+    let all : map (bound_in symbols) (singles_from pick (e ∷ entries))
     ≡ case_of symbols (single_case e) ++ map (bound_in symbols) (singles_from (suc pick) entries) =
     map-append (bound_in symbols) (singles_at pick (single_case e)) (singles_from (suc pick) entries)
     ∙ ap (λ bs. bs ++ map (bound_in symbols) (singles_from (suc pick) entries)) (singles_are_case symbols pick (single_case e)) in
-    subst (AreJoined (choices_from c (formula_origins pick (e ∷ entries)))) (sym whole)
+    subst (AreJoined (choices_from c (formula_origins pick (e ∷ entries)))) (sym all)
     (formula_joined c pick (formula_origins (suc pick) entries) (map (bound_in symbols) (singles_from (suc pick) entries))
     (cases_of (view e.0) e.1) (is_inside e) here counts.0 later)
   where
@@ -213,12 +213,12 @@ formulas_joined c pick (e ∷ entries) at one =
 -- where each inside formula has one case, its bounds and those of the ranges are those of all choices
 pub all_joined : (c : Condition) (old new : Singles) → formula_choices c ≡ 1
     → new.bounds.items ≡ old.bounds.items ++ map (λ s. bound_of (coupled_symbols c) s.bound) (singles c)
-    → AreSinglesOf c (map Ranges (coupled_symbols c)) old → AreSinglesOf c (origins_of c) new
+    → AreSinglesOf c (map Domain (coupled_symbols c)) old → AreSinglesOf c (origins_of c) new
 all_joined c old new one more h =
-    let ranges : List Origin = map Ranges (coupled_symbols c) in
+    let ranges : List Refute = map Domain (coupled_symbols c) in
     let formulas = formula_origins 0 c.entries in
     let both : choices_from c (origins_of c) ≡ choices_from c ranges ++ choices_from c formulas =
-    map-append (λ (o : Origin). choice_of (coupled_symbols c) (cases_from c o)) ranges formulas in
+    map-append (λ (o : Refute). choice_of (coupled_symbols c) (cases_from c o)) ranges formulas in
     subst (λ xs. AreJoined xs new.bounds.items) (sym both)
     (subst (AreJoined (choices_from c ranges ++ choices_from c formulas)) (sym more)
     (joined_both (choices_from c ranges) (choices_from c formulas) old.bounds.items (map (bound_in (coupled_symbols c)) (singles c)) h
@@ -229,9 +229,9 @@ all_joined c old new one more h =
 
 -- the ranges of all coupled symbols
 pub all_ranges : (c : Condition) (symbols : List SymId) (i : ℕ) (s : Singles) → length symbols ≤ i → symbols ≡ coupled_symbols c
-    → AreSinglesOf c (map Ranges (take i symbols)) s → AreSinglesOf c (map Ranges (coupled_symbols c)) s
+    → AreSinglesOf c (map Domain (take i symbols)) s → AreSinglesOf c (map Domain (coupled_symbols c)) s
 all_ranges c symbols i s le is h =
-    subst (λ (os : List Origin). AreSinglesOf c os s) (ap (λ (ss : List SymId). map Ranges ss) (take_all i symbols le ∙ is)) h
+    subst (λ (os : List Refute). AreSinglesOf c os s) (ap (λ (ss : List SymId). map Domain ss) (take_all i symbols le ∙ is)) h
 
 -- one choice, where that is the number that is kept
 pub capped_one : (n : ℕ) → capped n ≡ 1 → n ≡ 1

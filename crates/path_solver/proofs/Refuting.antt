@@ -9,6 +9,7 @@ use Rattle.difference_solver.specs.declared.bound.Bound.{Bound}
 use Rattle.path_cond.specs.Conditions.{Condition, AllTyped}
 use Rattle.path_formula.specs.Bounds.{Case}
 use Rattle.path_formula.specs.Cases.{with_bounds}
+use Rattle.path_formula.specs.View.{view}
 use Rattle.path_formula.specs.declared.sym_bound.SymBound.{SymBound}
 use Rattle.difference_solver.specs.Choices.{cases_at, with_each}
 use Rattle.difference_solver.specs.Steps as Search
@@ -18,11 +19,11 @@ use Rattle.path_cond.specs.Coupled.{coupled_symbols}
 use Rattle.refutation_check.specs.Accepted.{Leaves, Refutes, IsAccepted}
 use Rattle.refutation_check.specs.Cycles.{IsWalk, at_most_of, total, IsNegativeCycle}
 use Rattle.path_solver.specs.Bounds.{Passes, AreBetween, EachAreBetween}
-use Rattle.path_solver.specs.Origins.{cases_from, origins_of, choices_from, refute_of, refute_from, entry_cases}
+use Rattle.path_solver.specs.Origins.{cases_from, IsOrigin, AreOrigins, whole, choices_from, refute_from}
 use Rattle.path_solver.specs.Unknowns.{is_listed, unknown_of, bound_of, case_of, choice_of}
-use Rattle.path_solver.specs.declared.origin.Origin.{Origin}
-use Rattle.path_solver.specs.declared.origin.Origin.TheVariants.{Ranges, Cases}
-use Rattle.path_solver.proofs.Bridge.{IsOrigin, AreOrigins, origins_are, origin_between}
+use Rattle.refutation_check.specs.declared.steps.Refute.{Refute}
+use Rattle.refutation_check.specs.declared.steps.Refute.TheVariants.{Empty, Domain, Split, Cycle}
+use Rattle.path_solver.proofs.Bridge.{cases_there, origin_between}
 use Rattle.path_solver.specs.Laws.{Facts}
 use Rattle.path_solver.proofs.Entries.{listed_narrow, entry_splits, index_at, known_at}
 use Rattle.path_solver.proofs.Goodness.{each_append, each_with}
@@ -102,23 +103,24 @@ with_same symbols bounds (case ∷ cases) =
     (sym (map-append (bound_of symbols) bounds case))
     ∙ ap (λ (cs : List (List Bound)). case_of symbols (bounds ++ case) ∷ cs) (with_same symbols bounds cases)
 
-choice_there : (cond : Condition) (origins : List Origin) (k : ℕ) → k < length origins
+choice_there : (cond : Condition) (origins : List Refute) (k : ℕ) → k < length origins
     → cases_at (choices_from cond origins) k
-    ≡ choice_of (coupled_symbols cond) (cases_from cond (get_or origins k (Cases 0)))
+    ≡ choice_of (coupled_symbols cond) (cases_from cond (get_or origins k (whole 0)))
 choice_there cond [] k lt = absurd (omega arith)
 choice_there cond (o ∷ origins) zero lt = refl
 choice_there cond (o ∷ origins) (suc k) lt = choice_there cond origins k (omega arith)
 
-origin_there : (cond : Condition) (origins : List Origin) (k : ℕ) → AreOrigins cond origins → k < length origins
-    → IsOrigin cond (get_or origins k (Cases 0))
+origin_there : (cond : Condition) (origins : List Refute) (k : ℕ) → AreOrigins cond origins → k < length origins
+    → IsOrigin cond (get_or origins k (whole 0))
 origin_there cond [] k are lt = absurd (omega arith)
 origin_there cond (o ∷ origins) zero are lt = are.0
 origin_there cond (o ∷ origins) (suc k) are lt = origin_there cond origins k are.1 (omega arith)
 
 -- the step of a choice leaves its cases
-origin_leaves : Facts → (cond : Condition) (gathered : Case) (o : Origin) → AllTyped cond.widths cond.entries
-    → IsOrigin cond o → Leaves cond gathered (refute_of o) (cases_from cond o)
-origin_leaves facts cond gathered (Ranges s) typed h =
+origin_leaves : Facts → (cond : Condition) (gathered : Case) (o : Refute) → AllTyped cond.widths cond.entries
+    → IsOrigin cond o → Leaves cond gathered o (cases_from cond o)
+origin_leaves facts cond gathered (Empty s picks) typed h = absurd h
+origin_leaves facts cond gathered (Domain s) typed h =
     let narrow = listed_narrow facts cond s typed h in (
       record {
         known = known_at cond.widths s.0 narrow.width narrow.at;
@@ -126,58 +128,61 @@ origin_leaves facts cond gathered (Ranges s) typed h =
       },
       refl,
     )
-origin_leaves facts cond gathered (Cases pick) typed h =
+origin_leaves facts cond gathered (Split pick way) typed h =
     record {
       entry = h.entry;
       at = h.at;
-      splits = entry_splits facts cond pick h.entry typed h.at h.inside;
-      cases_are = ap entry_cases h.at;
+      member = h.member;
+      leads = h.leads;
+      splits = facts.member_splits (view h.entry.0) h.entry.1 way h.member h.leads (entry_splits facts cond pick h.entry typed h.at h.inside);
+      cases_are = cases_there cond pick way h;
     }
+origin_leaves facts cond gathered (Cycle bounds) typed h = absurd h
 
 -- what refutes the choices refutes the condition
-refutes_back : Facts → (cond : Condition) (left : List Case) (steps : List Step) → AllTyped cond.widths cond.entries
+refutes_back : Facts → (cond : Condition) (origins : List Refute) → AreOrigins cond origins → (left : List Case) (steps : List Step) → AllTyped cond.widths cond.entries
     → EachAreBetween (is_listed (coupled_symbols cond)) left
-    → Search.Refutes (choices_from cond (origins_of cond)) (choice_of (coupled_symbols cond) left) steps
-    → Refutes cond left (map (refute_from (origins_of cond)) steps)
-refutes_back facts cond [] [] typed between h = tt
-refutes_back facts cond [] (step ∷ steps) typed between h = absurd h
-refutes_back facts cond (g ∷ left) [] typed between h = absurd h
-refutes_back facts cond (g ∷ left) (SplitStep choice ∷ steps) typed between h =
-    let lt : choice < length (origins_of cond) =
+    → Search.Refutes (choices_from cond origins) (choice_of (coupled_symbols cond) left) steps
+    → Refutes cond left (map (refute_from origins) steps)
+refutes_back facts cond origins are [] [] typed between h = tt
+refutes_back facts cond origins are [] (step ∷ steps) typed between h = absurd h
+refutes_back facts cond origins are (g ∷ left) [] typed between h = absurd h
+refutes_back facts cond origins are (g ∷ left) (SplitStep choice ∷ steps) typed between h =
+    let lt : choice < length origins =
     omega (
       arith,
       h.0,
-      length-map (origins_of cond)
-          (λ (o : Origin). choice_of (coupled_symbols cond) (cases_from cond o)),
+      length-map origins
+          (λ (o : Refute). choice_of (coupled_symbols cond) (cases_from cond o)),
     ) in
-    let o : Origin = get_or (origins_of cond) choice (Cases 0) in
-    let is : IsOrigin cond o = origin_there cond (origins_of cond) choice (origins_are cond) lt in
+    let o : Refute = get_or origins choice (whole 0) in
+    let is : IsOrigin cond o = origin_there cond origins choice are lt in
     let cases : List Case = cases_from cond o in
     let more : EachAreBetween (is_listed (coupled_symbols cond)) (with_bounds cases g ++ left) =
     each_append (is_listed (coupled_symbols cond)) (with_bounds cases g) left
     (each_with (is_listed (coupled_symbols cond)) cases g between.0 (origin_between facts cond o typed is)) between.1 in
-    let same : with_each (case_of (coupled_symbols cond) g) (cases_at (choices_from cond (origins_of cond)) choice) ++
+    let same : with_each (case_of (coupled_symbols cond) g) (cases_at (choices_from cond origins) choice) ++
     choice_of (coupled_symbols cond) left ≡ choice_of (coupled_symbols cond) (with_bounds cases g ++ left) =
     ap (λ (cs : List (List Bound)). with_each (case_of (coupled_symbols cond) g) cs ++ choice_of (coupled_symbols cond)
-    left) (choice_there cond (origins_of cond) choice lt)
+    left) (choice_there cond origins choice lt)
     ∙ ap (λ (cs : List (List Bound)). cs ++ choice_of (coupled_symbols cond) left) (with_same (coupled_symbols cond) g cases)
     ∙ sym (map-append (case_of (coupled_symbols cond)) (with_bounds cases g) left) in (
       cases,
       origin_leaves facts cond g o typed is,
-      refutes_back facts cond (with_bounds cases g ++ left) steps typed more
-          (subst (λ (cs : List (List Bound)). Search.Refutes (choices_from cond (origins_of cond)) cs steps) same h.1),
+      refutes_back facts cond origins are (with_bounds cases g ++ left) steps typed more
+          (subst (λ (cs : List (List Bound)). Search.Refutes (choices_from cond origins) cs steps) same h.1),
     )
-refutes_back facts cond (g ∷ left) (CycleStep around ∷ steps) typed between h = (
+refutes_back facts cond origins are (g ∷ left) (CycleStep around ∷ steps) typed between h = (
   [],
   (cycle_back (coupled_symbols cond) g around.items between.0 h.0, refl),
-  refutes_back facts cond left steps typed between.1 h.1,
+  refutes_back facts cond origins are left steps typed between.1 h.1,
 )
 
 -- steps that refute the choices are accepted for the condition
-pub accepted : Facts → (cond : Condition) (steps : List Step) → AllTyped cond.widths cond.entries
-    → Search.Refutes (choices_from cond (origins_of cond)) ([] ∷ []) steps
-    → IsAccepted cond (map (refute_from (origins_of cond)) steps)
-accepted facts cond steps typed h = refutes_back facts cond ([] ∷ []) steps typed (tt, tt) h
+pub accepted : Facts → (cond : Condition) (origins : List Refute) → AreOrigins cond origins → (steps : List Step) → AllTyped cond.widths cond.entries
+    → Search.Refutes (choices_from cond origins) ([] ∷ []) steps
+    → IsAccepted cond (map (refute_from origins) steps)
+accepted facts cond origins are steps typed h = refutes_back facts cond origins are ([] ∷ []) steps typed (tt, tt) h
 
 -- each choice that is split is one of the first `count`
 abbrev pub SplitsWithin : ℕ → List Step → Type 0

@@ -184,14 +184,14 @@ constant_cases_none facts widths e typed h =
 
 -- the step that refutes a condition with a broken constant formula
 pub split_accepted : Facts → (cond : Condition) (pick : ℕ) → AllTyped cond.widths cond.entries
-    → first_broken cond ≡ Some pick → IsAccepted cond (Split pick ∷ [])
+    → first_broken cond ≡ Some pick → IsAccepted cond (Split pick [] ∷ [])
 split_accepted facts cond pick typed h =
     let r = broken_at cond.entries 0 pick h in
     let same : pick ≡ r.place = omega (arith, r.is) in
     let none =
     constant_cases_none facts cond.widths r.entry (typed_at cond.widths cond.entries r.place r.entry typed r.at)
     r.broken in
-    ([], record { entry = r.entry; at = ap (slice_get cond.entries) same ∙ r.at; splits = none.0; cases_are = sym none.1 }, tt)
+    ([], record { entry = r.entry; at = ap (slice_get cond.entries) same ∙ r.at; member = (view r.entry.0, r.entry.1); leads = refl; splits = none.0; cases_are = sym none.1 }, tt)
 
 picks_by : (c : Condition) (s : SymId) (n : ℕ) (e : Entry) (es : List Entry) (b : Bool) → slice_get c.entries n ≡ Some e
     → is_entry_on s e ≡ b → are_simple_picks s c (picks_from s (suc n) es) ≡ true

@@ -3,8 +3,8 @@
 ghost use Rattle.path_solver.specs.Laws.{Facts};
 
 use path_formula::case_laws::{
-    a_set_has_the_ranges_of_its_test, an_inside_formula_has_cases,
-    one_case_is_met_exactly_where_the_formula_has_the_truth,
+    a_member_of_a_formula_that_has_its_truth_has_its_own, a_set_has_the_ranges_of_its_test,
+    an_inside_formula_has_cases, one_case_is_met_exactly_where_the_formula_has_the_truth,
     one_range_is_met_exactly_where_the_value_passes,
 };
 use path_formula::laws::{
@@ -20,6 +20,7 @@ pub(crate) fn facts()
     an_inside_formula_has_cases();
     one_case_is_met_exactly_where_the_formula_has_the_truth();
     one_range_is_met_exactly_where_the_value_passes();
+    a_member_of_a_formula_that_has_its_truth_has_its_own();
     a_constant_formula_has_one_truth();
     a_simple_formula_has_a_known_symbol();
     a_simple_formula_may_stand_alone();

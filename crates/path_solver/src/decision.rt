@@ -10,6 +10,7 @@ ghost use Rattle.refutation_check.specs.Longer.{zeros};
 ghost use Rattle.refutation_check.specs.declared.outcome.Cause.{Cause as CauseOf};
 ghost use Rattle.path_cond.specs.Coupled.{coupled_symbols};
 ghost use Rattle.path_solver.specs.Bases.{IsBaseOf, IsExcessOf};
+ghost use Rattle.path_solver.specs.Origins.{whole};
 ghost use Rattle.path_solver.specs.Decisions.{IsDecisionOn, IsSat, IsUnsat, IsUndecided, IsSettled, IsInFragment, HasNoInside, HasLeastValues};
 
 use crate::base::{Base, OnBase, broken_on, values_on};
@@ -242,7 +243,7 @@ fn decide_in_order(alloc: Global, cond: &PathCond, domains: &Domains) -> Result<
     cond.formulas_are_typed();
     match decide_simple(alloc, cond, domains)? {
         SimpleVerdict::False { pick } => Ok(Decided::Unsat {
-            refutation: one_step(alloc, Refute::Split { pick })?,
+            refutation: split_whole(alloc, pick)?,
         }),
         SimpleVerdict::Empty { symbol, picks } => {
             let picks = Listed::from_vec(picks);
@@ -258,6 +259,14 @@ fn one_step(alloc: Global, step: Refute) -> Result<Refutation, AllocError>
     ensures { IfOk result (λ refutation. refutation ≡ step ∷ []) }
 {
     Ok(Listed::from_vec(vec![in alloc; step]?))
+}
+
+/// The refutation that splits the formula of the pick, which has no cases.
+fn split_whole(alloc: Global, pick: u32) -> Result<Refutation, AllocError>
+    ensures { IfOk result (λ refutation. refutation ≡ whole pick ∷ []) }
+{
+    let way = Listed::from_vec(Vec::new(alloc));
+    one_step(alloc, Refute::Split { pick, way })
 }
 
 /// The decision of a condition that the constant and the simple formulas do not refute.
@@ -299,7 +308,7 @@ fn decide_within(
         facts();
         each_formula_is_typed();
         cond.formulas_are_typed();
-        let refutation = one_step(alloc, Refute::Split { pick })?;
+        let refutation = split_whole(alloc, pick)?;
         return Ok(Decided::Unsat { refutation });
     }
     match solve_cases(alloc, cond, domains, symbols, leasts)? {

@@ -7,6 +7,7 @@ mod choices;
 mod decision;
 mod found;
 pub mod laws;
+mod members;
 mod moved;
 mod origin;
 mod outside;

@@ -1,6 +1,11 @@
-//! Where choices of cases come from.
+//! Where choices of one case come from.
 
+ghost use Rattle.std.specs.Prelude.{◌≡◌};
+ghost use Rattle.path_solver.specs.Origins.{refute_of};
+
+use refutation_check::{Listed, Refute};
 use sn_width::SymId;
+use std::alloc::Global;
 
 /// Where a choice of cases comes from.
 #[derive(Clone, Copy)]
@@ -9,4 +14,17 @@ pub enum Origin {
     Ranges { symbol: SymId },
     /// The cases of the formula of the pick.
     Cases { pick: u32 },
+}
+
+/// The step that splits it.
+pub(crate) fn refute_of(alloc: Global, origin: Origin) -> Refute
+    ensures { result ≡ refute_of origin }
+{
+    match origin {
+        Origin::Ranges { symbol } => Refute::Domain { symbol },
+        Origin::Cases { pick } => Refute::Split {
+            pick,
+            way: Listed::from_vec(Vec::new(alloc)),
+        },
+    }
 }

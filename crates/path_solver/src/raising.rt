@@ -8,9 +8,8 @@ ghost use Rattle.path_solver.specs.Solutions.{IsFound};
 
 use crate::below::facts;
 use crate::found::Found;
-use crate::origin::Origin;
+use crate::origin::{Origin, refute_of};
 use crate::singles::Singles;
-use crate::steps::refute_of;
 use difference_solver::laws::cycle_refutes;
 use difference_solver::{Raised, raise};
 use interval_solver::Domains;
@@ -66,7 +65,7 @@ fn refutation_around(
         if index < origins.len() {
             let origin = origins[index];
             let number = gathered.saturating_add(count_before(&origins[..index], origin));
-            steps.push(refute_of(origin))?;
+            steps.push(refute_of(alloc, origin))?;
             numbers.push(u32::try_from(number).unwrap_or(0))?;
             gathered = number.saturating_add(count_behind(&origins[index..], origin));
         }

@@ -6,11 +6,11 @@ ghost use Rattle.path_formula.specs.Bounds.{lists_of as cases_seen};
 ghost use Rattle.path_cond.specs.Coupled.{coupled_symbols};
 ghost use Rattle.path_cond.specs.Counts.{formula_choices};
 ghost use Rattle.interval_solver.specs.Domains.{AreDomainsOf};
-ghost use Rattle.path_solver.specs.Origins.{cases_from, origins_of};
+ghost use Rattle.path_solver.specs.Origins.{cases_from, origins_of, refute_of};
 ghost use Rattle.path_solver.specs.Singles.{AreSinglesOf};
 ghost use Rattle.path_solver.specs.Unknowns.{IsTableOf, bound_of, case_of};
 ghost use Rattle.sn_width.specs.declared.ids.SymId.{SymId as Symbol};
-ghost use Rattle.path_solver.specs.declared.origin.Origin.{Origin as OriginOf};
+ghost use Rattle.refutation_check.specs.declared.steps.Refute.{Refute as Step};
 
 use crate::origin::Origin;
 use crate::problem::ranges_of;
@@ -65,9 +65,9 @@ impl Singles {
         origin: Origin,
         cases: &[Vec<SymBound>],
     ) -> Result<bool, NoMemory>
-        ensures { IfOk result (λ yes. (cond : Condition) (origins : List OriginOf) → IsTrue yes
-            → IsTableOf (coupled_symbols cond) table.now → cases_seen cases.now ≡ cases_from cond origin
-            → AreSinglesOf cond origins self.old → AreSinglesOf cond (origins ++ origin ∷ []) self.new) }
+        ensures { IfOk result (λ yes. (cond : Condition) (origins : List Step) → IsTrue yes
+            → IsTableOf (coupled_symbols cond) table.now → cases_seen cases.now ≡ cases_from cond (refute_of origin)
+            → AreSinglesOf cond origins self.old → AreSinglesOf cond (origins ++ refute_of origin ∷ []) self.new) }
     {
         match only_case(cases) {
             None => Ok(false),

@@ -1,5 +1,5 @@
 -- What is said of a condition is said of the trees of its formulas.
-use Rattle.std.proofs.Common.{◌≡◌, ◌↔◌, ℕ, ◌+◌, ◌*◌, cond, Bool, ◌&&◌, ◌||◌, List, [], ◌∷◌, ◌++◌, map, length, Option, Some, None, refl, sym, ap, subst, ◌∙◌}
+use Rattle.std.proofs.Common.{◌≡◌, ◌↔◌, ℕ, ◌+◌, ◌*◌, cond, Bool, ◌&&◌, ◌||◌, List, [], ◌∷◌, ◌++◌, map, length, Option, Some, None, refl, sym, ap, ◌∙◌}
 use Rattle.std.specs.Prelude.{slice_get, slice_index}
 use Rattle.std.specs.List.{list_all, list_any, position_from}
 use Rattle.std.specs.Option.{option_map}
@@ -11,10 +11,10 @@ use Rattle.path_formula.specs.Formulas.{FormulaTree}
 use Rattle.path_formula.specs.Solutions.{alone}
 use Rattle.path_cond.specs.Seen.{ConditionOf, itself, entry_seen, seen, entry_holds, holds_at, is_entry_on, meets, in_domain, is_broken, first_broken, AllTyped}
 use Rattle.path_formula.specs.Bounds.{Case}
-use Rattle.path_formula.specs.Cases.{cases_of, single_cases, with_bounds}
+use Rattle.path_formula.specs.Cases.{single_cases, with_bounds}
 use Rattle.path_formula.specs.CaseCounts.{capped}
 use Rattle.sn_ranges.specs.Sets.{ranges_where}
-use Rattle.path_formula.specs.Splits.{CanSplit}
+use Rattle.path_formula.specs.Members.{member_of}
 use Rattle.path_cond.specs.Occurring.{symbols_from}
 use Rattle.path_cond.specs.Choices.{product, passes, couples, is_coupled, coupled_symbols, domain_cases, range_count, entry_case_count, choice_count, are_simple_picks, meets_picks, has_no_cases, first_without_cases}
 use Rattle.refutation_check.specs.Trees.{IsJudgedByTrees}
@@ -146,21 +146,23 @@ module _ {X : Type 0} (tree : X → FormulaTree) (c : ConditionOf X) where
   leaves_seen gathered (Empty s picks) cases h =
       (record { known = h.0.known; simple = simple_seen s picks ∙ h.0.simple; no_value = λ value. value_seen s picks value ∙ h.0.no_value value }, h.1)
   leaves_seen gathered (Domain s) cases h = (record { known = h.0.known; narrow = h.0.narrow }, h.1 ∙ sym (cases_seen s))
-  leaves_seen gathered (Split pick) cases h =
-      record { entry = entry_seen tree h.entry; at = entry_there c.entries pick h.entry h.at; splits = h.splits; cases_are = h.cases_are }
+  leaves_seen gathered (Split pick way) cases h =
+      record { entry = entry_seen tree h.entry; at = entry_there c.entries pick h.entry h.at; member = h.member; leads = h.leads; splits = h.splits; cases_are = h.cases_are }
   leaves_seen gathered (Cycle bounds) cases h = h
 
   seen_leaves : (gathered : Case) (step : Refute) (cases : List Case) → Leaves itself (seen tree c) gathered step cases → Leaves tree c gathered step cases
   seen_leaves gathered (Empty s picks) cases h =
       (record { known = h.0.known; simple = sym (simple_seen s picks) ∙ h.0.simple; no_value = λ value. sym (value_seen s picks value) ∙ h.0.no_value value }, h.1)
   seen_leaves gathered (Domain s) cases h = (record { known = h.0.known; narrow = h.0.narrow }, h.1 ∙ cases_seen s)
-  seen_leaves gathered (Split pick) cases h =
+  seen_leaves gathered (Split pick way) cases h =
       let back = entry_back c.entries pick h.entry h.at in
       record {
         entry = back.0;
         at = back.1;
-        splits = subst (λ (e : FormulaTree × Bool). CanSplit e.0) (sym back.2) h.splits;
-        cases_are = h.cases_are ∙ ap (λ (e : FormulaTree × Bool). cases_of e.0 e.1) (sym back.2);
+        member = h.member;
+        leads = ap (λ (e : FormulaTree × Bool). member_of e.0 e.1 way) back.2 ∙ h.leads;
+        splits = h.splits;
+        cases_are = h.cases_are;
       }
   seen_leaves gathered (Cycle bounds) cases h = h
 

@@ -18,6 +18,7 @@ use Rattle.path_formula.specs.declared.kinds.Kind.TheVariants.{Constant, Simple,
 use Rattle.path_cond.specs.Seen.{ConditionOf, AllTyped, entry_holds, holds_at, in_domain, is_entry_on, is_simple_on, meets}
 use Rattle.path_formula.specs.Bounds.{Case, AreValues, number, is_met, is_case_met, is_one_met}
 use Rattle.path_formula.specs.Cases.{cases_of, single_cases, with_bounds}
+use Rattle.path_formula.specs.Members.{Member, member_of}
 use Rattle.path_formula.specs.Splits.{CanSplit}
 use Rattle.path_formula.specs.declared.sym_bound.SymBound.{SymBound}
 use Rattle.path_cond.specs.Choices.{passes, is_simple_pick, pick_holds, are_simple_picks, meets_picks}
@@ -32,6 +33,8 @@ pub record Laws : Type 0 where
   pub alone_is : (f : FormulaTree) (s : SymId) (values : List ℕ) → kind_of f ≡ Simple s → truth_at f values ≡ truth_at f (alone s (slice_index values s.0))
   pub range_is : (s : SymId) (w : ℕ) (test : ℕ → Bool) (values : List ℕ) → FitsWidth w (slice_index values s.0) → is_one_met values (single_cases s w test) ≡ test (slice_index values s.0)
   pub case_is : (f : FormulaTree) (holds : Bool) (widths values : List ℕ) → CanSplit f → IsTyped widths f → AreValues widths values → is_one_met values (cases_of f holds) ≡ agrees holds (truth_at f values)
+  pub member_is : (f : FormulaTree) (holds : Bool) (way : List ℕ) (m : Member) (values : List ℕ) → member_of f holds way ≡ Some m → agrees holds (truth_at f values) ≡ true → agrees m.1 (truth_at m.0 values) ≡ true
+  pub member_typed : (f : FormulaTree) (holds : Bool) (way : List ℕ) (m : Member) (widths : List ℕ) → member_of f holds way ≡ Some m → IsTyped widths f → IsTyped widths m.0
   pub more_is : (bounds : Case) (cases : List Case) (values : List ℕ) → is_one_met values (with_bounds cases bounds) ≡ (is_case_met values bounds && is_one_met values cases)
 
 and_left : (a b : Bool) → (a && b) ≡ true → a ≡ true
@@ -152,9 +155,10 @@ module _ {X : Type 0} (tree : X → FormulaTree) (laws : Laws) (c : ConditionOf 
   step_sound g (Empty s picks) cases h met = absurd (no_empty s picks h.0)
   step_sound g (Domain s) cases h met =
       ap (is_one_met values) h.1 ∙ laws.range_is s (slice_index c.widths s.0) (in_domain tree s c) values (value_fits s h.0.known) ∙ domain_by s c.entries holds
-  step_sound g (Split pick) cases h met =
-      ap (is_one_met values) h.cases_are ∙ laws.case_is (tree h.entry.0) h.entry.1 c.widths values h.splits (typed_at tree c.widths c.entries pick h.entry typed h.at) fit
-      ∙ passes_at (entry_holds tree values) c.entries pick h.entry h.at holds
+  step_sound g (Split pick way) cases h met =
+      let typed_member = laws.member_typed (tree h.entry.0) h.entry.1 way h.member c.widths h.leads (typed_at tree c.widths c.entries pick h.entry typed h.at) in
+      ap (is_one_met values) h.cases_are ∙ laws.case_is h.member.0 h.member.1 c.widths values h.splits typed_member fit
+      ∙ laws.member_is (tree h.entry.0) h.entry.1 way h.member values h.leads (passes_at (entry_holds tree values) c.entries pick h.entry h.at holds)
   step_sound g (Cycle bounds) cases h met = absurd (no_cycle values g bounds met h.0)
 
   refutes_sound : (steps : List Refute) (alternatives : List Case) → Refutes tree c alternatives steps → is_one_met values alternatives ≡ false

@@ -1,12 +1,15 @@
 -- Steps of refutations, and the alternatives that the checker keeps.
-use Rattle.std.proofs.Common.{◌≡◌, ℕ, zero, suc, ◌≤◌, ◌+◌, ◌<◌, ◌↔◌, List, [], ◌∷◌, ◌++◌, length, length-append, take, map, refl, sym, ap, ap₂, ◌∙◌, subst, append_assoc, arith}
-use Rattle.std.specs.Prelude.{reverse}
+use Rattle.std.proofs.Common.{◌≡◌, ℕ, zero, suc, ◌≤◌, ◌+◌, ◌<◌, ◌↔◌, List, [], ◌∷◌, ◌++◌, length, length-append, take, map, Option, Some, None, Result, Ok, Err, IfOk, MatchOption, refl, sym, ap, ap₂, ◌∙◌, subst, append_assoc, arith}
+use Rattle.std.specs.Prelude.{reverse, slice_get}
 use Rattle.std.specs.Global.{Vec}
+use Rattle.sn_width.specs.declared.memory.NoMemory.{NoMemory}
 use Rattle.std.proofs.lemmas.List.{reverse-append, length-take, length-map, length-reverse}
 use Rattle.path_formula.specs.View.{view}
 use Rattle.path_cond.specs.Conditions.{Condition, Entry}
 use Rattle.path_formula.specs.Bounds.{Case, lists_of}
 use Rattle.path_formula.specs.Cases.{cases_of, with_bounds}
+use Rattle.path_formula.specs.Members.{Member, member_of}
+use Rattle.path_formula.specs.Splits.{CanSplit}
 use Rattle.path_formula.specs.declared.sym_bound.SymBound.{SymBound}
 use Rattle.refutation_check.specs.Accepted.{IsSplitInto, Leaves, Refutes, Advances, Reaches}
 use Rattle.refutation_check.specs.Agenda.{starts, AreNested, alternative_with}
@@ -16,17 +19,45 @@ use Rattle.refutation_check.specs.declared.steps.Refute.TheVariants.{Empty, Doma
 
 -- Steps
 
-same_split : (c : Condition) (pick : ℕ) (xs ys : List Case) → IsSplitInto c pick xs → IsSplitInto c pick ys → xs ≡ ys
-same_split c pick xs ys h k =
-    let at = h.at in
-    let other = k.at in
-    let same : h.entry ≡ k.entry = cc in
-    h.cases_are ∙ ap (λ (e : Entry). cases_of (view e.0) e.1) same ∙ sym k.cases_are
+one_found : {E : Type 0} (o : Option E) (x y : E) → o ≡ Some x → o ≡ Some y → x ≡ y
+one_found o x y h k = cc
+
+-- the member of a split is the one to which the way leads
+pub member_found : (c : Condition) (pick : ℕ) (way : List ℕ) (cases : List Case) (h : IsSplitInto c pick way cases) (e : Entry) → slice_get c.entries pick ≡ Some e → member_of (view e.0) e.1 way ≡ Some h.member
+member_found c pick way cases h e at =
+    ap (λ (d : Entry). member_of (view d.0) d.1 way) (one_found (slice_get c.entries pick) e h.entry at h.at) ∙ h.leads
+
+same_split : (c : Condition) (pick : ℕ) (way : List ℕ) (xs ys : List Case) → IsSplitInto c pick way xs → IsSplitInto c pick way ys → xs ≡ ys
+same_split c pick way xs ys h k =
+    let same = one_found (member_of (view k.entry.0) k.entry.1 way) h.member k.member (member_found c pick way xs h k.entry k.at) k.leads in
+    h.cases_are ∙ ap (λ (m : Member). cases_of m.0 m.1) same ∙ sym k.cases_are
+
+-- the member has no cases, or too many
+pub no_cases : (c : Condition) (pick : ℕ) (way : List ℕ) (cases : List Case) (e : Entry) (m : Member) (room : ℕ) → slice_get c.entries pick ≡ Some e → member_of (view e.0) e.1 way ≡ Some m
+    → (CanSplit m.0 → length (cases_of m.0 m.1) ≤ room → ⊥) → IsSplitInto c pick way cases → length cases ≤ room → ⊥
+no_cases c pick way cases e m room at leads none h few =
+    let same = one_found (member_of (view e.0) e.1 way) h.member m (member_found c pick way cases h e at) leads in
+    none (subst (λ (x : Member). CanSplit x.0) same h.splits) (subst (λ (x : Member). length (cases_of x.0 x.1) ≤ room) same (subst (λ cs. length cs ≤ room) h.cases_are few))
+
+-- what the cases of a member say of the split
+split_found : (c : Condition) (pick : ℕ) (way : List ℕ) (e : Entry) (m : Member) (room : ℕ) → slice_get c.entries pick ≡ Some e → member_of (view e.0) e.1 way ≡ Some m
+    → (found : Option (Vec (Vec SymBound)))
+    → MatchOption found (CanSplit m.0 → length (cases_of m.0 m.1) ≤ room → ⊥) (λ cases. CanSplit m.0 × (lists_of cases.items ≡ cases_of m.0 m.1))
+    → MatchOption found ((cases : List Case) → IsSplitInto c pick way cases → length cases ≤ room → ⊥) (λ cases. IsSplitInto c pick way (lists_of cases.items))
+split_found c pick way e m room at leads None h = λ cases is few. no_cases c pick way cases e m room at leads h is few
+split_found c pick way e m room at leads (Some cases) h = record { entry = e; at = at; member = m; leads = leads; splits = h.0; cases_are = h.1 }
+
+pub split_answer : (c : Condition) (pick : ℕ) (way : List ℕ) (e : Entry) (m : Member) (room : ℕ) → slice_get c.entries pick ≡ Some e → member_of (view e.0) e.1 way ≡ Some m
+    → (answer : Result (Option (Vec (Vec SymBound))) NoMemory)
+    → IfOk answer (λ found. MatchOption found (CanSplit m.0 → length (cases_of m.0 m.1) ≤ room → ⊥) (λ cases. CanSplit m.0 × (lists_of cases.items ≡ cases_of m.0 m.1)))
+    → IfOk answer (λ found. MatchOption found ((cases : List Case) → IsSplitInto c pick way cases → length cases ≤ room → ⊥) (λ cases. IsSplitInto c pick way (lists_of cases.items)))
+split_answer c pick way e m room at leads (Ok found) h = split_found c pick way e m room at leads found h
+split_answer c pick way e m room at leads (Err fault) h = tt
 
 leaves_same : (c : Condition) (g : Case) (step : Refute) (xs ys : List Case) → Leaves c g step xs → Leaves c g step ys → xs ≡ ys
 leaves_same c g (Empty s picks) xs ys h k = h.1 ∙ sym k.1
 leaves_same c g (Domain s) xs ys h k = h.1 ∙ sym k.1
-leaves_same c g (Split pick) xs ys h k = same_split c pick xs ys h k
+leaves_same c g (Split pick way) xs ys h k = same_split c pick way xs ys h k
 leaves_same c g (Cycle bounds) xs ys h k = h.1 ∙ sym k.1
 
 advances_same : (c : Condition) (before : List Case) (step : Refute) (xs ys : List Case) → Advances c before step xs → Advances c before step ys → xs ≡ ys

@@ -16,8 +16,9 @@ IsUnmeetable = any.IsUnmeetable view
 abbrev pub IsDivisible : Condition → SymId → Type 0
 IsDivisible = any.IsDivisible view
 
--- the condition has this formula of the pick, and it has these cases with the truth that it must have
-abbrev pub IsSplitInto : Condition → ℕ → List Case → Type 0
+-- the condition has this formula of the pick, the way leads to this member of it (the empty way to the formula itself), and
+-- the member has these cases with the truth that it must have
+abbrev pub IsSplitInto : Condition → ℕ → List ℕ → List Case → Type 0
 IsSplitInto = any.IsSplitInto view
 
 -- where these bounds are gathered the step is right, and these cases are left: values that make the condition true and

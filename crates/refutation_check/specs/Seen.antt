@@ -10,6 +10,7 @@ pub use Rattle.path_cond.specs.Seen.{is_possible}
 pub use Rattle.path_cond.specs.Kept.{is_outside_kind, is_outside}
 use Rattle.path_formula.specs.Bounds.{AreValues, Case}
 use Rattle.path_formula.specs.Cases.{cases_of, with_bounds}
+use Rattle.path_formula.specs.Members.{Member, member_of}
 use Rattle.path_formula.specs.Splits.{CanSplit}
 use Rattle.path_cond.specs.Choices.{are_simple_picks, choice_count, coupled_count, domain_cases, meets_picks}
 use Rattle.refutation_check.specs.Cycles.{IsNegativeCycle}
@@ -147,12 +148,15 @@ module _ {X : Type 0} (tree : X → FormulaTree) where
     pub simple : are_simple_picks tree s cond picks ≡ true
     pub no_value : (value : ℕ) → (fits_width (slice_index cond.widths s.0) value && meets_picks tree s cond picks value) ≡ false
 
-  -- the condition has this formula of the pick, and it has these cases with the truth that it must have
-  pub record IsSplitInto (cond : ConditionOf X) (pick : ℕ) (cases : List Case) : Type 0 where
+  -- the condition has this formula of the pick, the way leads to this member of it (the empty way to the formula itself), and
+  -- the member has these cases with the truth that it must have
+  pub record IsSplitInto (cond : ConditionOf X) (pick : ℕ) (way : List ℕ) (cases : List Case) : Type 0 where
     pub entry : X × Bool
     pub at : slice_get cond.entries pick ≡ Some entry
-    pub splits : CanSplit (tree entry.0)
-    pub cases_are : cases ≡ cases_of (tree entry.0) entry.1
+    pub member : Member
+    pub leads : member_of (tree entry.0) entry.1 way ≡ Some member
+    pub splits : CanSplit member.0
+    pub cases_are : cases ≡ cases_of member.0 member.1
 
   -- the symbol is one of the condition, of at most 64 bits
   pub record IsDivisible (cond : ConditionOf X) (s : SymId) : Type 0 where
@@ -164,7 +168,7 @@ module _ {X : Type 0} (tree : X → FormulaTree) where
   abbrev pub Leaves : ConditionOf X → Case → Refute → List Case → Type 0
   Leaves cond gathered (Empty s picks) cases = IsUnmeetable cond s picks × (cases ≡ [])
   Leaves cond gathered (Domain s) cases = IsDivisible cond s × (cases ≡ domain_cases tree cond s)
-  Leaves cond gathered (Split pick) cases = IsSplitInto cond pick cases
+  Leaves cond gathered (Split pick way) cases = IsSplitInto cond pick way cases
   Leaves cond gathered (Cycle bounds) cases = IsNegativeCycle gathered bounds × (cases ≡ [])
 
   -- the steps, read to their end, refute these alternatives one after another, each given by the bounds that are gathered

@@ -11,6 +11,7 @@ ghost use Rattle.refutation_check.specs.Trees.{AcceptedRefute, IsJudgedByTrees};
 ghost use Rattle.refutation_check.specs.declared.steps.Refute.{Refute as Step};
 
 use path_formula::case_laws::{
+    a_member_of_a_formula_that_has_its_truth_has_its_own,
     bounds_before_cases_are_met_with_one_of_them,
     one_case_is_met_exactly_where_the_formula_has_the_truth,
     one_range_is_met_exactly_where_the_value_passes,
@@ -28,6 +29,7 @@ pub fn an_accepted_refutation_refutes()
     a_simple_formula_may_stand_alone();
     one_range_is_met_exactly_where_the_value_passes();
     one_case_is_met_exactly_where_the_formula_has_the_truth();
+    a_member_of_a_formula_that_has_its_truth_has_its_own();
     bounds_before_cases_are_met_with_one_of_them();
 }
 
@@ -38,6 +40,7 @@ pub fn an_accepted_refutation_of_trees_refutes()
     a_simple_formula_may_stand_alone();
     one_range_is_met_exactly_where_the_value_passes();
     one_case_is_met_exactly_where_the_formula_has_the_truth();
+    a_member_of_a_formula_that_has_its_truth_has_its_own();
     bounds_before_cases_are_met_with_one_of_them();
 }
 

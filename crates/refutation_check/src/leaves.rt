@@ -2,6 +2,9 @@
 
 ghost use Rattle.std.specs.Prelude.{◌≡◌, ◌≤◌, length, ◌↔◌, true, false, [], List, IsTrue, IfOk, MatchOption};
 ghost use Rattle.path_formula.specs.Bounds.{Case, lists_of};
+ghost use Rattle.path_formula.specs.Cases.{cases_of};
+ghost use Rattle.path_formula.specs.Splits.{CanSplit};
+ghost use Rattle.path_formula.specs.View.{view};
 ghost use Rattle.path_cond.specs.Counts.{domain_cases};
 ghost use Rattle.path_cond.specs.Picks.{are_simple_picks, is_simple_pick};
 ghost use Rattle.refutation_check.specs.Accepted.{IsUnmeetable, IsDivisible, IsSplitInto, Leaves};
@@ -10,7 +13,7 @@ use crate::cycle::is_negative_cycle;
 use crate::steps::Refute;
 use path_cond::{PathCond, values_meeting};
 use path_formula::case_laws::a_set_has_the_ranges_of_its_test;
-use path_formula::{SymBound, can_split, case_count_of, cases, range_cases};
+use path_formula::{Formula, SymBound, can_split, case_count_of, cases, member_at, range_cases};
 use sn_width::{NoMemory, SymId};
 use std::alloc::Global;
 
@@ -80,29 +83,46 @@ fn cases_of_domain(
     Ok(Some(cases))
 }
 
-/// The cases of the formula of the pick; `None` where there is no such formula, or it has no cases.
+/// The cases of the formula; `None` where it has no cases, or more than there is room for.
 fn cases_of_formula(
     alloc: Global,
-    cond: &PathCond,
-    pick: u32,
+    formula: &Formula,
+    holds: bool,
     room: usize,
 ) -> Result<Option<Vec<Vec<SymBound>>>, NoMemory>
     ensures { IfOk result (λ found. MatchOption found
-        ((cases : List Case) → IsSplitInto cond.now pick cases → length cases ≤ room → ⊥)
-        (λ cases. IsSplitInto cond.now pick (lists_of cases.items))) }
+        (CanSplit (view formula.now) → length (cases_of (view formula.now) holds) ≤ room → ⊥)
+        (λ cases. CanSplit (view formula.now) × (lists_of cases.items ≡ cases_of (view formula.now) holds))) }
 {
-    match cond.entry(pick) {
+    if !can_split(formula) {
+        return Ok(None);
+    }
+    if case_count_of(alloc, formula, holds)? > room as u64 {
+        return Ok(None);
+    }
+    let found = cases(alloc, formula, holds)?;
+    Ok(Some(found))
+}
+
+/// The cases of the member to which the way leads in the formula of the pick; `None` where there is no such member, it has no
+/// cases, or more than there is room for.
+fn cases_of_member(
+    alloc: Global,
+    cond: &PathCond,
+    pick: u32,
+    way: &[u32],
+    room: usize,
+) -> Result<Option<Vec<Vec<SymBound>>>, NoMemory>
+    ensures { IfOk result (λ found. MatchOption found
+        ((cases : List Case) → IsSplitInto cond.now pick way.now cases → length cases ≤ room → ⊥)
+        (λ cases. IsSplitInto cond.now pick way.now (lists_of cases.items))) }
+{
+    let Some((formula, holds)) = cond.entry(pick) else {
+        return Ok(None);
+    };
+    match member_at(formula, holds, way) {
         None => Ok(None),
-        Some((formula, holds)) => {
-            if !can_split(formula) {
-                return Ok(None);
-            }
-            if case_count_of(alloc, formula, holds)? > room as u64 {
-                return Ok(None);
-            }
-            let found = cases(alloc, formula, holds)?;
-            Ok(Some(found))
-        }
+        Some((member, holds)) => cases_of_formula(alloc, member, holds, room),
     }
 }
 
@@ -131,7 +151,7 @@ pub(crate) fn cases_left(
             Ok(none_where(alloc, yes))
         }
         Refute::Domain { symbol } => cases_of_domain(alloc, cond, *symbol, room),
-        Refute::Split { pick } => cases_of_formula(alloc, cond, *pick, room),
+        Refute::Split { pick, way } => cases_of_member(alloc, cond, *pick, way.as_slice(), room),
         Refute::Cycle { bounds } => {
             let yes = is_negative_cycle(gathered, bounds.as_slice())?;
             Ok(none_where(alloc, yes))

@@ -19,3 +19,4 @@ pub use licence::{MOST_COUPLED, lawful};
 pub use list::Listed;
 pub use outcome::{Cause, Verdict};
 pub use steps::{Refutation, Refute, copy_of};
+pub use values::are_candidates;

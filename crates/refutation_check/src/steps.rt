@@ -14,8 +14,9 @@ pub enum Refute {
     Empty { symbol: SymId, picks: Listed<u32> },
     /// The symbol lies in one of the ranges of its domain.
     Domain { symbol: SymId },
-    /// One of the cases of the formula of this pick is met.
-    Split { pick: u32 },
+    /// One of the cases of a member of the formula of this pick is met: of the member to which the way leads, and of the
+    /// formula itself where the way is empty.
+    Split { pick: u32, way: Listed<u32> },
     /// The gathered bounds of these numbers, from 0, join head to tail, and their sum is below zero.
     Cycle { bounds: Listed<u32> },
 }
@@ -37,7 +38,10 @@ impl Refute {
                 })
             }
             Refute::Domain { symbol } => Ok(Refute::Domain { symbol: *symbol }),
-            Refute::Split { pick } => Ok(Refute::Split { pick: *pick }),
+            Refute::Split { pick, way } => {
+                let way = way.copy(alloc)?;
+                Ok(Refute::Split { pick: *pick, way })
+            }
             Refute::Cycle { bounds } => {
                 let bounds = bounds.copy(alloc)?;
                 Ok(Refute::Cycle { bounds })

@@ -40,7 +40,8 @@ fn holds_at(cond: &PathCond, pick: u32, values: &[Num]) -> bool
 {
     match cond.entry(pick) {
         None => unreachable!(),
-        Some((formula, holds)) => formula.kind().is_outside() || formula.agrees(holds, values),
+        // the kind, which takes longer, is asked of a broken formula alone
+        Some((formula, holds)) => formula.agrees(holds, values) || formula.kind().is_outside(),
     }
 }
 
@@ -57,7 +58,7 @@ fn all_hold(cond: &PathCond, values: &[Num]) -> Result<bool, NoMemory>
 }
 
 /// Whether there is one fitting number for each symbol, and they satisfy every formula that is not outside.
-pub(crate) fn are_candidates(cond: &PathCond, values: &[Num]) -> Result<bool, NoMemory>
+pub fn are_candidates(cond: &PathCond, values: &[Num]) -> Result<bool, NoMemory>
     ensures { IfOk result (λ yes. IsTrue yes ↔ AreCandidates cond.now values.now) }
 {
     if !are_fitting(cond, values) {

@@ -8,11 +8,11 @@ use Rattle.refutation_check.specs.declared.steps.Refute.TheVariants.{Empty}
 use Rattle.path_solver.proofs.Simple.{split_accepted, empty_accepted, broken_refuted, empty_refuted}
 use Rattle.path_solver.proofs.decision.decide_in_order.Goals as goal
 
-pub returns-in_ok-one_step-in-False : goal.returns-in_ok-one_step-in-False
-returns-in_ok-one_step-in-False c =
+pub returns-in_ok-split_whole-in-False : goal.returns-in_ok-split_whole-in-False
+returns-in_ok-split_whole-in-False c =
     let first = subst (λ (v : SimpleVerdict). IsVerdictOn c.args.cond.now v) c.in-False.is c.in_ok-pick.ensures.verdict in (
       broken_refuted c.args.cond.now c.in-False.pick first,
-      subst (λ (r : List Refute). IsAccepted c.args.cond.now r) (sym c.in_ok-one_step-in-False.ensures)
+      subst (λ (r : List Refute). IsAccepted c.args.cond.now r) (sym c.in_ok-split_whole-in-False.ensures)
           (split_accepted c.facts.ensures c.args.cond.now c.in-False.pick c.formulas_are_typed.ensures first),
     )
 

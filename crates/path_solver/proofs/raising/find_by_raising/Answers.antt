@@ -11,10 +11,11 @@ use Rattle.path_cond.specs.Coupled.{coupled_symbols}
 use Rattle.refutation_check.specs.Accepted.{IsAccepted}
 use Rattle.refutation_check.specs.declared.steps.Refute.{Refute}
 use Rattle.path_solver.specs.Origins.{choices_from, origins_of}
+use Rattle.path_solver.proofs.Bridge.{origins_are}
 use Rattle.path_solver.specs.Singles.{AreSinglesOf}
 use Rattle.path_solver.specs.declared.singles.Singles.{Singles}
 use Rattle.path_solver.proofs.Joining.{capped_one, least_single, unmet_single}
-use Rattle.path_solver.proofs.Solved.{are_in_range, unmet_none}
+use Rattle.path_solver.proofs.Solved.{choices_in_range, unmet_none}
 use Rattle.path_solver.proofs.raising.find_by_raising.Goals as goal
 
 -- what is said of the bounds as they are lent, and of the symbols that are handed over
@@ -34,7 +35,7 @@ raise-requires-clause-in_range c =
     subst (λ (o : Option Singles). IfSome o (AreSinglesOf cond (origins_of cond))) c.in-Some.is c.in_ok-singles.ensures in
     said (λ ss bs. All (IsInRange (length ss)) bs) (coupled_symbols cond) c.args.symbols.now c.in-Some.singles.bounds.items
     c.as_slice.result.now (sym c.requires.symbols) (sym c.as_slice.ensures.value)
-    (joined.in_range (length (coupled_symbols cond)) (are_in_range c.facts.ensures cond c.formulas_are_typed.ensures))
+    (joined.in_range (length (coupled_symbols cond)) (choices_in_range c.facts.ensures cond (origins_of cond) c.formulas_are_typed.ensures (origins_are cond)))
 
 pub returns-in-Ok-Least : goal.returns-in-Ok-Least
 returns-in-Ok-Least c =
@@ -71,6 +72,6 @@ returns c =
     let unmet =
     unmet_single c.cycle_refutes.ensures (length (coupled_symbols cond)) (choices_from cond (origins_of cond)) bounds indices
     joined cycle in (
-      unmet_none c.facts.ensures cond c.formulas_are_typed.ensures unmet,
+      unmet_none c.facts.ensures cond (origins_of cond) c.formulas_are_typed.ensures (origins_are cond) unmet,
       subst (λ (o : Option (List Refute)). IfSome o (IsAccepted cond)) c.in-Some-2.is c.in_ok-accepted_around-in-Ok-Cycle.ensures,
     )

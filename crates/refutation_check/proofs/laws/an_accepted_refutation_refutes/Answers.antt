@@ -8,6 +8,8 @@ returns c =
       alone_is = c.a_simple_formula_may_stand_alone.ensures;
       range_is = c.one_range_is_met_exactly_where_the_value_passes.ensures;
       case_is = c.one_case_is_met_exactly_where_the_formula_has_the_truth.ensures;
+      member_is = c.a_member_of_a_formula_that_has_its_truth_has_its_own.ensures.truth;
+      member_typed = c.a_member_of_a_formula_that_has_its_truth_has_its_own.ensures.typed;
       more_is = c.bounds_before_cases_are_met_with_one_of_them.ensures;
     } in
     accepted_refutes view laws

@@ -1,25 +1,35 @@
-use Rattle.std.proofs.Common.{◌≡◌, List, ◌++◌, map, take, sym, subst, ap, ◌∙◌, true, arith}
-use Rattle.path_cond.specs.Coupled.{coupled_symbols}
-use Rattle.path_cond.specs.Picks.{are_inside_picks}
-use Rattle.path_solver.specs.Problems.{IsProblem}
-use Rattle.path_solver.specs.declared.origin.Origin.{Origin}
-use Rattle.path_solver.specs.declared.origin.Origin.TheVariants.{Ranges, Cases}
-use Rattle.path_solver.proofs.Gathering.{next_formula, inside_at, whole_problem}
+use Rattle.std.proofs.Common.{◌≡◌, ◌∙◌, ℕ, List, map, take, ap, sym, subst, true, get_or, [], arith, rules}
+use Rattle.path_cond.specs.Conditions.{Condition}
+use Rattle.path_cond.specs.Picks.{is_inside_pick, are_inside_picks}
+use Rattle.path_solver.specs.Origins.{IsMemberAt, whole}
+use Rattle.std.specs.Prelude.{◌++◌, ◌∷◌}
+use Rattle.refutation_check.specs.declared.steps.Refute.TheVariants.{Split}
+use Rattle.path_solver.proofs.Gathering.{given_push, next_formula, inside_at, whole_member, whole_problem}
 use Rattle.path_solver.proofs.problem.Problem.of.Goals as goal
 
-pub add_formula-requires-clause-inside : goal.add_formula-requires-clause-inside
-add_formula-requires-clause-inside c =
+member_by : (cond : Condition) (pick : ℕ) (way : List ℕ) → [] ≡ way → is_inside_pick cond pick ≡ true → IsMemberAt cond pick way
+member_by cond pick way empty inside = subst (IsMemberAt cond pick) empty (whole_member cond pick inside)
+
+pub add_member-requires-clause-member : goal.add_member-requires-clause-member
+add_member-requires-clause-member c =
     let cond = c.args.cond.now in
     let inside : are_inside_picks cond c.deref-pick-items.result.now ≡ true = ap (are_inside_picks cond) c.deref-pick-items.ensures.value ∙ c.in_ok-picks.ensures.inside in
-    inside_at cond c.deref-pick-items.result.now c.loop-pick.pick-index inside c.loop-pick-test.true
+    let empty : [] ≡ c.from_vec-way.result = search rules in
+    member_by cond (get_or c.deref-pick-items.result.now c.loop-pick.pick-index 0) c.from_vec-way.result empty
+    (inside_at cond c.deref-pick-items.result.now c.loop-pick.pick-index inside c.loop-pick-test.true)
 
 pub loop-pick-preserved : goal.loop-pick-preserved
 loop-pick-preserved c =
-    let before : List Origin = map Ranges (coupled_symbols c.args.cond.now) in
+    let cond = c.args.cond.now in
     let picks = c.deref-pick-items.result.now in
-    subst (λ (os : List Origin). IsProblem c.args.cond.now os c.add_formula.new.self)
-    (sym (next_formula before picks c.loop-pick.pick-index c.loop-pick-test.true))
-    (c.in_ok-add_formula.ensures (before ++ map Cases (take c.loop-pick.pick-index picks)) c.loop-pick.invariant)
+    let pick = get_or picks c.loop-pick.pick-index 0 in
+    let inside : are_inside_picks cond picks ≡ true = ap (are_inside_picks cond) c.deref-pick-items.ensures.value ∙ c.in_ok-picks.ensures.inside in
+    let is = whole_member cond pick (inside_at cond picks c.loop-pick.pick-index inside c.loop-pick-test.true) in
+    let empty : [] ≡ c.from_vec-way.result = search rules in
+    next_formula cond picks c.loop-pick.pick-index c.add_member.new.self c.loop-pick-test.true
+    (given_push cond (map whole (take c.loop-pick.pick-index picks)) pick [] c.loop-pick.problem c.add_member.new.self is
+    (c.in_ok-add_member.ensures.steps ∙ ap (λ (way : List ℕ). c.loop-pick.problem.steps.items ++ Split pick way ∷ []) (sym empty))
+    c.in_ok-add_member.ensures.choices c.loop-pick.invariant)
 
 pub returns : goal.returns
 returns c =

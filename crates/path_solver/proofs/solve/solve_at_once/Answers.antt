@@ -7,7 +7,7 @@ use Rattle.path_solver.specs.Values.{with_integers}
 use Rattle.path_solver.specs.declared.found.Found.{Found}
 use Rattle.path_solver.proofs.Simple.{leasts_of}
 use Rattle.path_solver.proofs.Solved.{solved_least}
-use Rattle.path_solver.proofs.solve.solve_cases.Goals as goal
+use Rattle.path_solver.proofs.solve.solve_at_once.Goals as goal
 
 pub returns-in-Integers : goal.returns-in-Integers
 returns-in-Integers c =
