@@ -6,5 +6,5 @@ use Rattle.path_report.proofs.decoder.Decoder.formula_split.Goals as goal
 
 pub returns-clause-shown : goal.returns-clause-shown
 returns-clause-shown c =
-    let none : c.from_vec.result ≡ [] = search rules in
-    formula_shown (network c.args.self.now.net.now) (view c.args.value.now) (view c.item.result.now) c.requires.form c.requires.word c.item.ensures c.id.result c.from_vec.result c.id.ensures none
+    let none : c.from_vec-way.result ≡ [] = search rules in
+    formula_shown (network c.args.self.now.net.now) (view c.args.value.now) (view c.item.result.now) c.requires.form c.requires.word c.item.ensures c.id-pick.result c.from_vec-way.result c.id-pick.ensures none

@@ -11,4 +11,4 @@ ids-requires c = ids_there (network c.args.self.now.net.now) (view c.args.value.
 pub returns-clause-shown : goal.returns-clause-shown
 returns-clause-shown c =
     member_shown (network c.args.self.now.net.now) (view c.args.value.now) (view c.item-2.result.now) c.requires.form c.item-2.ensures (view c.item.result.now) c.requires.word c.item.ensures
-    c.id.result c.from_vec.result c.id.ensures (ap ids_data c.from_vec.ensures ∙ c.in_ok-way.ensures.shown)
+    c.id-pick.result c.from_vec.result c.id-pick.ensures (ap ids_data c.from_vec.ensures ∙ c.in_ok-way.ensures.shown)
