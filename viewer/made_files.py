@@ -103,6 +103,9 @@ SUMS_REPORT = report(SUMS_RECORDS)
 SUMS_BOUND = report([*SUMS_RECORDS, SUMS_RECORDS[0]], cases=1000000)
 SUMS_UNKNOWN = written({"answers": [{"answer": "unknown", "numbers": [0, 1, 4]}], "symnet": 1})
 
+# A refuted side whose steps split a test and a member of another one.
+SPLITS = report([{"before": None, "decisions": [], "kind": "pruned", "refutation": [["split", 2], ["split", 0, [1, 0]], ["cycle", [0, 1]]]}])
+
 # A net before and after a change, a packet that shows the difference, and what becomes of it in each.
 BEFORE = """symnet 2;
 node edge 1 -> 2 { in 0 { if head L3+128:32 in {167772160..184549375} { forward 0; } else { forward 1; } } }

@@ -102,11 +102,19 @@ fn push_step(rt: &impl Abort, steps: &mut Vec<Refute>, step: Refute) {
     steps.push(step).expect(rt, "memory");
 }
 
+/// A split of the first formula.
+fn first_split(alloc: Global) -> Refute {
+    Refute::Split {
+        pick: 0,
+        way: Listed::from_vec(Vec::new(alloc)),
+    }
+}
+
 /// `count` splits of the first formula.
 fn splits(rt: &impl Abort, alloc: Global, count: u32) -> Refutation {
     let mut steps = Vec::new(alloc);
     for _ in 0..count {
-        push_step(rt, &mut steps, Refute::Split { pick: 0 });
+        push_step(rt, &mut steps, first_split(alloc));
     }
     Listed::from_vec(steps)
 }

@@ -27,7 +27,10 @@ fn listed(rt: &impl Abort, alloc: Global, numbers: &[u32]) -> Listed<u32> {
 
 fn step_of(rt: &impl Abort, alloc: Global, plain: Plain<'_>) -> Refute {
     match plain {
-        Split(pick) => Refute::Split { pick },
+        Split(pick) => Refute::Split {
+            pick,
+            way: listed(rt, alloc, &[]),
+        },
         Cycle(numbers) => Refute::Cycle {
             bounds: listed(rt, alloc, numbers),
         },
@@ -264,9 +267,9 @@ fn long_circle(rt: &impl Abort, alloc: Global, count: u32) -> PathCond {
 fn long_refutation(rt: &impl Abort, alloc: Global, last: u32) -> Refutation {
     let mut steps = Vec::new(alloc);
     for pick in 0..last {
-        push(rt, &mut steps, Refute::Split { pick });
+        push(rt, &mut steps, step_of(rt, alloc, Split(pick)));
     }
-    push(rt, &mut steps, Refute::Split { pick: last });
+    push(rt, &mut steps, step_of(rt, alloc, Split(last)));
     push(rt, &mut steps, step_of(rt, alloc, Cycle(&[0, last])));
     Listed::from_vec(steps)
 }

@@ -170,22 +170,22 @@ pub record IsHeaded (ws : List (List ℕ)) (d : Data) : Type 0 where
   pub is : at 0 d ≡ Some (string text)
   pub among : IsAmong text ws
 
-abbrev heads_of : List (List ℕ × List Part) → List (List ℕ)
+abbrev heads_of : List (List ℕ × ℕ × List Part) → List (List ℕ)
 heads_of [] = []
 heads_of (h ∷ hs) = h.0 ∷ heads_of hs
 
 module _ (net : Network) where
-  step_by : (h : List ℕ × List Part) (hs : List (List ℕ × List Part)) (s : List ℕ) (count : ℕ) (ds : Items) (b : Bool) → bytes_eq h.0 s ≡ b →
+  step_by : (h : List ℕ × ℕ × List Part) (hs : List (List ℕ × ℕ × List Part)) (s : List ℕ) (count : ℕ) (ds : Items) (b : Bool) → bytes_eq h.0 s ≡ b →
       (picked (row_named hs s count) (λ parts. items_fault (knows net) parts 0 ds) ≡ None → IsAmong s (heads_of hs)) →
-      picked (if b then fits_row h.1 count else row_named hs s count) (λ parts. items_fault (knows net) parts 0 ds) ≡ None → IsAmong s (heads_of (h ∷ hs))
+      picked (if b then fits_row h.1 h.2 count else row_named hs s count) (λ parts. items_fault (knows net) parts 0 ds) ≡ None → IsAmong s (heads_of (h ∷ hs))
   step_by h hs s count ds true e next k = inl ((bytes_eq-Decides h.0 s).0 e)
   step_by h hs s count ds false e next k = inr (next k)
 
-  step_among : (hs : List (List ℕ × List Part)) (s : List ℕ) (count : ℕ) (ds : Items) → picked (row_named hs s count) (λ parts. items_fault (knows net) parts 0 ds) ≡ None → IsAmong s (heads_of hs)
+  step_among : (hs : List (List ℕ × ℕ × List Part)) (s : List ℕ) (count : ℕ) (ds : Items) → picked (row_named hs s count) (λ parts. items_fault (knows net) parts 0 ds) ≡ None → IsAmong s (heads_of hs)
   step_among [] s count ds k = cc
   step_among (h ∷ hs) s count ds k = step_by h hs s count ds (bytes_eq h.0 s) refl (step_among hs s count ds) k
 
-  headed_by : (hs : List (List ℕ × List Part)) (d : Data) (ds : Items) → picked (row_by_head hs (item d ds)) (λ parts. items_fault (knows net) parts 0 (item d ds)) ≡ None → IsHeaded (heads_of hs) (array (item d ds))
+  headed_by : (hs : List (List ℕ × ℕ × List Part)) (d : Data) (ds : Items) → picked (row_by_head hs (item d ds)) (λ parts. items_fault (knows net) parts 0 (item d ds)) ≡ None → IsHeaded (heads_of hs) (array (item d ds))
   headed_by hs null ds k = cc
   headed_by hs (boolean b) ds k = cc
   headed_by hs (number n) ds k = cc
@@ -200,7 +200,7 @@ module _ (net : Network) where
   step_word (string s) h = cc
   step_word (array no_items) h = cc
   step_word (array (item d ds)) h =
-      headed_by ((codes "empty", part.Word ∷ part.Count ∷ part.Ids ∷ []) ∷ (codes "domain", part.Word ∷ part.Count ∷ []) ∷ (codes "split", part.Word ∷ part.Id ∷ []) ∷ (codes "cycle", part.Word ∷ part.Ids ∷ []) ∷ [])
+      headed_by ((codes "empty", 3, part.Word ∷ part.Count ∷ part.Ids ∷ []) ∷ (codes "domain", 2, part.Word ∷ part.Count ∷ []) ∷ (codes "split", 2, part.Word ∷ part.Id ∷ part.Way ∷ []) ∷ (codes "cycle", 2, part.Word ∷ part.Ids ∷ []) ∷ [])
       d ds (neither (picked (list_parts (form part.Step).list (item d ds)) (λ parts. items_fault (knows net) parts 0 (item d ds))) None h).0
   step_word (object ms) h = cc
 

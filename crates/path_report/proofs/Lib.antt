@@ -4,6 +4,7 @@ pub mod Rows
 pub mod Atoms
 pub mod Deciding
 pub mod Reduces
+pub mod Splits
 pub mod Lists
 pub mod Whole
 pub mod PrintedLemmas

@@ -15,9 +15,9 @@ use Rattle.serde_json.specs.Written.{compact_text}
 use Rattle.run_text.specs.Plain.{AllAbove, IsSorted, IsPlainNumber, IsPlain, ArePlain, HasPlain}
 use Rattle.report_shape.specs.declared.part.Part.{Part}
 use Rattle.report_shape.specs.declared.part.Part.TheVariants as part
-use Rattle.report_shape.specs.Forms.{Parts, same, in_order, ListForm, no_list, list_of, rows, headed, ObjectForm, no_object, keyed, by_word, by_number, Field}
+use Rattle.report_shape.specs.Forms.{Parts, same, in_order, ListForm, no_list, list_of, one_or_more, rows, headed, ObjectForm, no_object, keyed, by_word, by_number, Field}
 use Rattle.report_shape.specs.Shape.{form}
-use Rattle.report_shape.specs.Faults.{fault, items_fault, members_fault, number_fits, list_parts, object_fields, row_of, row_named, fits_row, decided_by, by_member, with_keys, if_keys, for_word, for_number, keys_are, part_at, part_of, picked, under, unless, is_whole}
+use Rattle.report_shape.specs.Faults.{fault, items_fault, members_fault, number_fits, list_parts, one_or_more_parts, object_fields, row_of, row_named, fits_row, decided_by, by_member, with_keys, if_keys, for_word, for_number, keys_are, part_at, part_of, picked, under, unless, is_whole}
 
 both : (a b : Bool) → a && b ≡ true → (a ≡ true) × (b ≡ true)
 both true b h = (refl, h)
@@ -81,6 +81,7 @@ small part.Values = refl
 small part.Refutation = refl
 small part.Step = refl
 small part.Ids = refl
+small part.Way = refl
 small part.Id = refl
 small part.Count = refl
 small part.Nothing = refl
@@ -243,6 +244,7 @@ rank part.Values = 1
 rank part.Refutation = 3
 rank part.Step = 2
 rank part.Ids = 1
+rank part.Way = 1
 rank part.Id = 0
 rank part.Count = 0
 rank part.Nothing = 0
@@ -258,8 +260,9 @@ rows_below r row_of (x ∷ xs) = row_below r (row_of x) && rows_below r row_of x
 abbrev list_below : ℕ → ListForm → Bool
 list_below r no_list = true
 list_below r (list_of p) = nat_lt (rank p) r
+list_below r (one_or_more p) = nat_lt (rank p) r
 list_below r (rows rs) = nat_lt 0 r && rows_below r (λ row. row) rs
-list_below r (headed hs) = nat_lt 0 r && rows_below r (λ h. h.1) hs
+list_below r (headed hs) = nat_lt 0 r && rows_below r (λ h. h.2) hs
 
 abbrev fields_below : ℕ → List Field → Bool
 fields_below r [] = nat_lt 0 r
@@ -310,6 +313,7 @@ lists_lower part.Values = refl
 lists_lower part.Refutation = refl
 lists_lower part.Step = refl
 lists_lower part.Ids = refl
+lists_lower part.Way = refl
 lists_lower part.Id = refl
 lists_lower part.Count = refl
 lists_lower part.Nothing = refl
@@ -355,6 +359,7 @@ objects_good part.Values = refl
 objects_good part.Refutation = refl
 objects_good part.Step = refl
 objects_good part.Ids = refl
+objects_good part.Way = refl
 objects_good part.Id = refl
 objects_good part.Count = refl
 objects_good part.Nothing = refl
@@ -386,31 +391,36 @@ rows_lower r (row ∷ rs) count parts some h e =
 no_parts : (r : ℕ) (step : Option (List ℕ)) (parts : Parts) → (let x : Picked Parts = Err step in x) ≡ Ok parts → Lower r parts
 no_parts r step parts e = cc
 
-named_if : (r : ℕ) (row : List Part) (count : ℕ) (parts : Parts) (b : Bool) (later : Picked Parts) → 0 < r → row_below r row ≡ true → (later ≡ Ok parts → Lower r parts) →
-    (if b then fits_row row count else later) ≡ Ok parts → Lower r parts
-named_if r row count parts true later some h next e = lower_if r row parts (length row == count) (Err None) some h (no_parts r None parts) e
-named_if r row count parts false later some h next e = next e
+named_if : (r least : ℕ) (row : List Part) (count : ℕ) (parts : Parts) (b : Bool) (later : Picked Parts) → 0 < r → row_below r row ≡ true → (later ≡ Ok parts → Lower r parts) →
+    (if b then fits_row least row count else later) ≡ Ok parts → Lower r parts
+named_if r least row count parts true later some h next e = lower_if r row parts (nat_le least count && nat_le count (length row)) (Err None) some h (no_parts r None parts) e
+named_if r least row count parts false later some h next e = next e
 
-named_lower : (r : ℕ) (hs : List (List ℕ × List Part)) (s : List ℕ) (count : ℕ) (parts : Parts) → 0 < r → rows_below r (λ h. h.1) hs ≡ true → row_named hs s count ≡ Ok parts → Lower r parts
+named_lower : (r : ℕ) (hs : List (List ℕ × ℕ × List Part)) (s : List ℕ) (count : ℕ) (parts : Parts) → 0 < r → rows_below r (λ h. h.2) hs ≡ true → row_named hs s count ≡ Ok parts → Lower r parts
 named_lower r [] s count parts some h e = cc
 named_lower r (row ∷ hs) s count parts some h e =
-    let two = both (row_below r row.1) (rows_below r (λ h. h.1) hs) h in
-    named_if r row.1 count parts (bytes_eq row.0 s) (row_named hs s count) some two.0 (named_lower r hs s count parts some two.1) e
+    let two = both (row_below r row.2) (rows_below r (λ h. h.2) hs) h in
+    named_if r row.1 row.2 count parts (bytes_eq row.0 s) (row_named hs s count) some two.0 (named_lower r hs s count parts some two.1) e
 
-headed_lower : (r : ℕ) (hs : List (List ℕ × List Part)) (o : Option (List ℕ)) (count : ℕ) (step : List ℕ) (parts : Parts) → 0 < r → rows_below r (λ h. h.1) hs ≡ true →
+headed_lower : (r : ℕ) (hs : List (List ℕ × ℕ × List Part)) (o : Option (List ℕ)) (count : ℕ) (step : List ℕ) (parts : Parts) → 0 < r → rows_below r (λ h. h.2) hs ≡ true →
     decided_by step o (λ s. row_named hs s count) ≡ Ok parts → Lower r parts
 headed_lower r hs None count step parts some h e = cc
 headed_lower r hs (Some s) count step parts some h e = named_lower r hs s count parts some h e
 
+items_lower : (r : ℕ) (p : Part) (ds : Items) (parts : Parts) → rank p < r → one_or_more_parts p ds ≡ Ok parts → Lower r parts
+items_lower r p no_items parts h e = cc
+items_lower r p (item d ds) parts h e = let is : same p ≡ parts = cc in subst (Lower r) is (λ n. h)
+
 list_lower : (r : ℕ) (f : ListForm) (ds : Items) (parts : Parts) → list_below r f ≡ true → list_parts f ds ≡ Ok parts → Lower r parts
 list_lower r no_list ds parts h e = cc
 list_lower r (list_of p) ds parts h e = let is : same p ≡ parts = cc in subst (Lower r) is (λ n. below (rank p) r h)
+list_lower r (one_or_more p) ds parts h e = items_lower r p ds parts (below (rank p) r h) e
 list_lower r (rows rs) ds parts h e =
     let two = both (nat_lt 0 r) (rows_below r (λ row. row) rs) h in
     rows_lower r rs (items_len ds) parts (below 0 r two.0) two.1 e
 list_lower r (headed hs) no_items parts h e = cc
 list_lower r (headed hs) (item d ds) parts h e =
-    let two = both (nat_lt 0 r) (rows_below r (λ row. row.1) hs) h in
+    let two = both (nat_lt 0 r) (rows_below r (λ row. row.2) hs) h in
     headed_lower r hs (as_str d) (suc (items_len ds)) _ parts (below 0 r two.0) two.1 e
 
 field_lower : (r : ℕ) (p q : Part) (b : Bool) → rank p < r → rank q < r → rank (if b then p else q) < r
@@ -533,6 +543,7 @@ top part.Values = omega arith
 top part.Refutation = omega arith
 top part.Step = omega arith
 top part.Ids = omega arith
+top part.Way = omega arith
 top part.Id = omega arith
 top part.Count = omega arith
 top part.Nothing = omega arith

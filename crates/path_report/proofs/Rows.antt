@@ -1,6 +1,6 @@
 -- From the form of a list of fixed length to its items.
-use Rattle.std.proofs.Common.{◌≡◌, ◌⊎◌, inl, inr, ℕ, suc, List, [], ◌∷◌, length, Bool, true, false, Some, None, refl, sym, ap, ◌∙◌, subst, arith}
-use Rattle.std.specs.Prelude.{◌==◌, codes, decimal, Ok, Err, if◌then◌else◌}
+use Rattle.std.proofs.Common.{◌≡◌, ◌≤◌, ◌⊎◌, inl, inr, ℕ, suc, List, [], ◌∷◌, length, Bool, true, false, Some, None, refl, sym, ap, ◌∙◌, subst, arith}
+use Rattle.std.specs.Prelude.{◌==◌, ◌&&◌, codes, decimal, nat_le, Ok, Err, if◌then◌else◌}
 use Rattle.std.proofs.lemmas.Bool.Decides.{nat_tests}
 use Rattle.serde_json.specs.Data.{Data, null, boolean, number, string, array, object, Items, no_items, item}
 use Rattle.serde_json.specs.Find.{at, get_item}
@@ -14,7 +14,7 @@ use Rattle.report_shape.specs.Reduced.{is_reduced}
 use Rattle.report_shape.specs.Faults.{fault, items_fault, part_at, row_of, fits_row, list_parts, picked, under, unless}
 use Rattle.report_names.specs.Names.{knows}
 use Rattle.path_report.specs.Having.{HasForm, Lists, IsRow}
-use Rattle.path_report.proofs.Holding.{neither, none_under}
+use Rattle.path_report.proofs.Holding.{both, neither, none_under}
 
 -- in this row these parts stand from the place on
 abbrev pub StandAt : List Part → ℕ → List Part → Type 0
@@ -23,6 +23,9 @@ StandAt all n (p ∷ ps) = (part_at (in_order all) n ≡ p) × StandAt all (suc 
 
 same_length : (n m : ℕ) → (n == m) ≡ true → n ≡ m
 same_length n m h = grind (arith, nat_tests)
+
+up_to : (a b : ℕ) → nat_le a b ≡ true → a ≤ b
+up_to a b h = grind (arith, nat_tests)
 
 pub unless_true : (b : Bool) → unless b ≡ None → b ≡ true
 unless_true true h = refl
@@ -48,7 +51,7 @@ module _ (net : Network) where
   items_by ps ds false len stand h = cc
 
   -- a list whose form is this row has its parts
-  row_items : (ps : List Part) (ds : Items) → StandAt ps 0 ps → picked (fits_row ps (items_len ds)) (λ parts. items_fault (knows net) parts 0 ds) ≡ None → Lists net ps ds
+  row_items : (ps : List Part) (ds : Items) → StandAt ps 0 ps → picked (row_of (ps ∷ []) (items_len ds)) (λ parts. items_fault (knows net) parts 0 ds) ≡ None → Lists net ps ds
   row_items ps ds stand h = items_by ps ds (length ps == items_len ds) refl stand h
 
   pub row_form : (p : Part) (ps : List Part) → form p ≡ lists (rows (ps ∷ [])) → StandAt ps 0 ps → (d : Data) → HasForm net p d → IsRow net ps d
@@ -132,37 +135,89 @@ module _ (net : Network) where
 
   -- ---- steps of a refutation, by their first word
 
-  step_items : (word : List ℕ) (ps : List Part) (ds : Items) → StandAt ps 0 ps → HasForm net part.Step (array (item (string word) ds)) →
-      list_parts (form part.Step).list (item (string word) ds) ≡ fits_row ps (suc (items_len ds)) → Lists net ps (item (string word) ds)
-  step_items word ps ds stand h e =
-      let two = neither (picked (list_parts (form part.Step).list (item (string word) ds)) (λ parts. items_fault (knows net) parts 0 (item (string word) ds))) None h in
-      row_items ps (item (string word) ds) stand (rw e at two.0)
+  -- items of this row, of which the last ones may be left out
+  record IsBegun (least : ℕ) (ps : List Part) (ds : Items) : Type 0 where
+    low : least ≤ items_len ds
+    high : items_len ds ≤ length ps
+    none : items_fault (knows net) (in_order ps) 0 ds ≡ None
 
-  step_row : (word : List ℕ) (ps : List Part) → StandAt ps 0 ps →
-      ((ds : Items) → list_parts (form part.Step).list (item (string word) ds) ≡ fits_row ps (suc (items_len ds))) →
-      (d : Data) → HasForm net part.Step d → at 0 d ≡ Some (string word) → IsRow net ps d
-  step_row word ps stand e null h w = cc
-  step_row word ps stand e (boolean b) h w = cc
-  step_row word ps stand e (number n) h w = cc
-  step_row word ps stand e (string s) h w = cc
-  step_row word ps stand e (array no_items) h w = cc
-  step_row word ps stand e (array (item x ds)) h w =
+  begun_by : (least : ℕ) (ps : List Part) (ds : Items) (b : Bool) → (nat_le least (items_len ds) && nat_le (items_len ds) (length ps)) ≡ b →
+      picked (if b then Ok (in_order ps) else Err None) (λ parts. items_fault (knows net) parts 0 ds) ≡ None → IsBegun least ps ds
+  begun_by least ps ds true e h =
+      let two = both (nat_le least (items_len ds)) (nat_le (items_len ds) (length ps)) e in
+      record { low = up_to least (items_len ds) two.0; high = up_to (items_len ds) (length ps) two.1; none = h }
+  begun_by least ps ds false e h = cc
+
+  step_items : (word : List ℕ) (least : ℕ) (ps : List Part) (ds : Items) → HasForm net part.Step (array (item (string word) ds)) →
+      list_parts (form part.Step).list (item (string word) ds) ≡ fits_row least ps (suc (items_len ds)) → IsBegun least ps (item (string word) ds)
+  step_items word least ps ds h e =
+      let two = neither (picked (list_parts (form part.Step).list (item (string word) ds)) (λ parts. items_fault (knows net) parts 0 (item (string word) ds))) None h in
+      begun_by least ps (item (string word) ds) (nat_le least (suc (items_len ds)) && nat_le (suc (items_len ds)) (length ps)) refl (rw e at two.0)
+
+  -- a list of such items
+  record IsBegunRow (least : ℕ) (ps : List Part) (d : Data) : Type 0 where
+    items : Items
+    is : d ≡ array items
+    begun : IsBegun least ps items
+
+  -- this word has this row
+  abbrev HasRow : List ℕ → ℕ → List Part → Type 0
+  HasRow word least ps = (ds : Items) → list_parts (form part.Step).list (item (string word) ds) ≡ fits_row least ps (suc (items_len ds))
+
+  begun_row : (word : List ℕ) (least : ℕ) (ps : List Part) → HasRow word least ps → (d : Data) → HasForm net part.Step d → at 0 d ≡ Some (string word) → IsBegunRow least ps d
+  begun_row word least ps e null h w = cc
+  begun_row word least ps e (boolean b) h w = cc
+  begun_row word least ps e (number n) h w = cc
+  begun_row word least ps e (string s) h w = cc
+  begun_row word least ps e (array no_items) h w = cc
+  begun_row word least ps e (array (item x ds)) h w =
       let is : x ≡ string word = cc in
       record {
         items = item x ds;
         is = refl;
-        parts = subst (λ y. Lists net ps (item y ds)) (sym is) (step_items word ps ds stand (subst (λ y. HasForm net part.Step (array (item y ds))) is h) (e ds));
+        begun = subst (λ y. IsBegun least ps (item y ds)) (sym is) (step_items word least ps ds (subst (λ y. HasForm net part.Step (array (item y ds))) is h) (e ds));
       }
-  step_row word ps stand e (object ms) h w = cc
+  begun_row word least ps e (object ms) h w = cc
+
+  -- a step of which nothing may be left out
+  whole_row : (word : List ℕ) (ps : List Part) → StandAt ps 0 ps → HasRow word (length ps) ps → (d : Data) → HasForm net part.Step d → at 0 d ≡ Some (string word) → IsRow net ps d
+  whole_row word ps stand e d h w =
+      let s = begun_row word (length ps) ps e d h w in
+      record { items = s.items; is = s.is; parts = parts_from ps 0 ps stand s.items (omega (arith, s.begun.low, s.begun.high)) s.begun.none }
 
   pub empty_row : (d : Data) → HasForm net part.Step d → at 0 d ≡ Some (string (codes "empty")) → IsRow net (part.Word ∷ part.Count ∷ part.Ids ∷ []) d
-  empty_row d h w = step_row (codes "empty") (part.Word ∷ part.Count ∷ part.Ids ∷ []) (refl, (refl, (refl, tt))) (λ ds. refl) d h w
+  empty_row d h w = whole_row (codes "empty") (part.Word ∷ part.Count ∷ part.Ids ∷ []) (refl, (refl, (refl, tt))) (λ ds. refl) d h w
 
   pub domain_row : (d : Data) → HasForm net part.Step d → at 0 d ≡ Some (string (codes "domain")) → IsRow net (part.Word ∷ part.Count ∷ []) d
-  domain_row d h w = step_row (codes "domain") (part.Word ∷ part.Count ∷ []) (refl, (refl, tt)) (λ ds. refl) d h w
-
-  pub split_row : (d : Data) → HasForm net part.Step d → at 0 d ≡ Some (string (codes "split")) → IsRow net (part.Word ∷ part.Id ∷ []) d
-  split_row d h w = step_row (codes "split") (part.Word ∷ part.Id ∷ []) (refl, (refl, tt)) (λ ds. refl) d h w
+  domain_row d h w = whole_row (codes "domain") (part.Word ∷ part.Count ∷ []) (refl, (refl, tt)) (λ ds. refl) d h w
 
   pub cycle_row : (d : Data) → HasForm net part.Step d → at 0 d ≡ Some (string (codes "cycle")) → IsRow net (part.Word ∷ part.Ids ∷ []) d
-  cycle_row d h w = step_row (codes "cycle") (part.Word ∷ part.Ids ∷ []) (refl, (refl, tt)) (λ ds. refl) d h w
+  cycle_row d h w = whole_row (codes "cycle") (part.Word ∷ part.Ids ∷ []) (refl, (refl, tt)) (λ ds. refl) d h w
+
+  -- a split of a formula, and of a member of one
+  abbrev formula_parts : List Part
+  formula_parts = part.Word ∷ part.Id ∷ []
+
+  abbrev member_parts : List Part
+  member_parts = part.Word ∷ part.Id ∷ part.Way ∷ []
+
+  formula_items : (ds : Items) → IsBegun 2 member_parts ds → get_item 2 ds ≡ None → Lists net formula_parts ds
+  formula_items no_items b e = absurd (omega (arith, b.low))
+  formula_items (item x no_items) b e = absurd (omega (arith, b.low))
+  formula_items (item x (item y no_items)) b e = parts_from member_parts 0 formula_parts (refl, (refl, tt)) (item x (item y no_items)) refl b.none
+  formula_items (item x (item y (item z ds))) b e = cc
+
+  member_items : (ds : Items) (v : Data) → IsBegun 2 member_parts ds → get_item 2 ds ≡ Some v → Lists net member_parts ds
+  member_items no_items v b e = cc
+  member_items (item x no_items) v b e = cc
+  member_items (item x (item y no_items)) v b e = cc
+  member_items (item x (item y (item z ds))) v b e = parts_from member_parts 0 member_parts (refl, (refl, (refl, tt))) (item x (item y (item z ds))) (omega (arith, b.high)) b.none
+
+  split_row : (d : Data) → HasForm net part.Step d → at 0 d ≡ Some (string (codes "split")) → IsBegunRow 2 member_parts d
+  split_row d h w = begun_row (codes "split") 2 member_parts (λ ds. refl) d h w
+
+  pub formula_row : (d : Data) → HasForm net part.Step d → at 0 d ≡ Some (string (codes "split")) → at 2 d ≡ None → IsRow net formula_parts d
+  formula_row d h w e = let s = split_row d h w in record { items = s.items; is = s.is; parts = formula_items s.items s.begun (ap (at 2) (sym s.is) ∙ e) }
+
+  pub member_row : (d v : Data) → HasForm net part.Step d → at 0 d ≡ Some (string (codes "split")) → at 2 d ≡ Some v → IsRow net member_parts d
+  member_row d v h w e = let s = split_row d h w in record { items = s.items; is = s.is; parts = member_items s.items v s.begun (ap (at 2) (sym s.is) ∙ e) }

@@ -42,14 +42,43 @@ impl Decoder<'_> {
         Refute::Domain { symbol }
     }
 
-    fn split(&self, value: &Value) -> Refute
+    /// A split of a formula.
+    fn formula_split(&self, alloc: Global, value: &Value) -> Refute
         requires form { IsRow (network self.now.net.now) (part.Word ∷ part.Id ∷ []) (view value.now) }
         requires word { at 0 (view value.now) ≡ Some (string (codes "split")) }
         ensures shown { step_data result ≡ view value.now }
         ensures fits { StepFits result }
     {
         let pick = self.id(item(value, 1));
-        Refute::Split { pick }
+        let way = Listed::from_vec(Vec::new(alloc));
+        Refute::Split { pick, way }
+    }
+
+    /// A split of a member of a formula.
+    fn member_split(&self, alloc: Global, value: &Value) -> Result<Refute, NoMemory>
+        requires form { IsRow (network self.now.net.now) (part.Word ∷ part.Id ∷ part.Way ∷ []) (view value.now) }
+        requires word { at 0 (view value.now) ≡ Some (string (codes "split")) }
+        ensures shown { IfOk result (λ step. step_data step ≡ view value.now) }
+        ensures fits { IfOk result (λ step. StepFits step) }
+    {
+        let pick = self.id(item(value, 1));
+        let way = self.ids(alloc, item(value, 2))?;
+        Ok(Refute::Split {
+            pick,
+            way: Listed::from_vec(way),
+        })
+    }
+
+    fn split(&self, alloc: Global, value: &Value) -> Result<Refute, NoMemory>
+        requires form { HasForm (network self.now.net.now) part.Step (view value.now) }
+        requires word { at 0 (view value.now) ≡ Some (string (codes "split")) }
+        ensures shown { IfOk result (λ step. step_data step ≡ view value.now) }
+        ensures fits { IfOk result (λ step. StepFits step) }
+    {
+        match value.get(2) {
+            Some(_) => self.member_split(alloc, value),
+            None => Ok(self.formula_split(alloc, value)),
+        }
     }
 
     fn circle(&self, alloc: Global, value: &Value) -> Result<Refute, NoMemory>
@@ -75,7 +104,7 @@ impl Decoder<'_> {
         match word {
             "empty" => self.empty(alloc, value),
             "domain" => Ok(self.domain(value)),
-            "split" => Ok(self.split(value)),
+            "split" => self.split(alloc, value),
             "cycle" => self.circle(alloc, value),
             _ => unreachable!(),
         }

@@ -7,7 +7,7 @@ ghost use Rattle.path_records.specs.Shown.{fields_seen};
 ghost use Rattle.run_text.specs.Held.{held_meta};
 ghost use Rattle.report_names.specs.Names.{knows};
 ghost use Rattle.report_names.specs.Own.{IsOwnName, IsOwnPlace, IsOwnTag};
-ghost use Rattle.report_forms.specs.Fits.{BeforeFits, CauseFits, CellFits, DecisionFits, EndFits, FieldsFit, MetaFits, OwnerFits, RecordFits, StepFits, VerdictFits};
+ghost use Rattle.report_forms.specs.Fits.{BeforeFits, CauseFits, CellFits, DecisionFits, EndFits, FieldsFit, Fit32, MetaFits, OwnerFits, RecordFits, StepFits, VerdictFits};
 
 use crate::ends::failure_of;
 use crate::lasting::{LastItems, LastList, LastRecord, Member};
@@ -427,6 +427,17 @@ impl Direct<'_> {
         Ok(Some(self.verdict(text)?))
     }
 
+    /// The way to a member of a formula, which is left out where it leads to the formula itself.
+    fn way(&self, text: &mut Scanner<'_>) -> Result<Listed<u32>, Miss>
+        ensures { IfOk result Fit32 }
+    {
+        if text.passes_byte(b',') {
+            Ok(Listed::from_vec(self.list::<u32>(text)?))
+        } else {
+            Ok(Listed::from_vec(Vec::new(self.alloc)))
+        }
+    }
+
     /// A step of a refutation up to its closing bracket.
     fn step(&self, text: &mut Scanner<'_>) -> Result<Refute, Miss>
         ensures { IfOk result StepFits }
@@ -443,7 +454,8 @@ impl Direct<'_> {
         }
         if text.passes(b"[\"split\",") {
             let pick = text.id()?;
-            return Ok(Refute::Split { pick });
+            let way = self.way(text)?;
+            return Ok(Refute::Split { pick, way });
         }
         text.pass(b"[\"cycle\",")?;
         let bounds = Listed::from_vec(self.list::<u32>(text)?);

@@ -29,6 +29,15 @@ empty_data symbol picks = list (string (codes "empty") ∷ count symbol ∷ ids_
 abbrev pub numbered_data : List ℕ → ℕ → Data
 numbered_data word number = list (string word ∷ count number ∷ [])
 
+-- the pick of a formula, and the way to a member of it
+abbrev pub member_split_data : ℕ → List ℕ → Data
+member_split_data pick way = list (string (codes "split") ∷ count pick ∷ ids_data way ∷ [])
+
+-- the empty way, to the formula itself, is left out
+abbrev pub split_data : ℕ → List ℕ → Data
+split_data pick [] = numbered_data (codes "split") pick
+split_data pick (number ∷ way) = member_split_data pick (number ∷ way)
+
 abbrev pub cycle_data : List ℕ → Data
 cycle_data bounds = list (string (codes "cycle") ∷ ids_data bounds ∷ [])
 
@@ -36,7 +45,7 @@ cycle_data bounds = list (string (codes "cycle") ∷ ids_data bounds ∷ [])
 abbrev pub step_data : Refute → Data
 step_data (Empty symbol picks) = empty_data symbol.0 picks
 step_data (Domain symbol) = numbered_data (codes "domain") symbol.0
-step_data (Split pick) = numbered_data (codes "split") pick
+step_data (Split pick way) = split_data pick way
 step_data (Cycle bounds) = cycle_data bounds
 
 -- the steps in order

@@ -1,7 +1,7 @@
 //! Refutations.
 
 ghost use Rattle.run_text.specs.Tokens.{Gains};
-ghost use Rattle.record_text.specs.Records.{ids_data, empty_data, numbered_data, cycle_data, step_data, refutation_data};
+ghost use Rattle.record_text.specs.Records.{ids_data, empty_data, numbered_data, member_split_data, split_data, cycle_data, step_data, refutation_data};
 
 use refutation_check::Refute;
 use run_text::JsonText;
@@ -44,6 +44,30 @@ fn write_numbered(out: &mut JsonText, word: &str, number: u64) -> Result<(), NoM
     Ok(())
 }
 
+/// A split of the member of a formula to which the way leads.
+fn write_member_split(out: &mut JsonText, pick: u32, way: &[u32]) -> Result<(), NoMemory>
+    ensures { Gains (member_split_data pick way.now) result out.old out.new }
+{
+    lists_are_written();
+    out.begin_list()?;
+    out.string("split")?;
+    out.id(pick)?;
+    write_ids(out, way)?;
+    out.end_list()?;
+    Ok(())
+}
+
+/// A split: of the formula itself where the way is empty, which is then left out.
+#[tactic(auto, using(crate::proofs::Splits::of_formula, crate::proofs::Splits::of_member))]
+fn write_split(out: &mut JsonText, pick: u32, way: &[u32]) -> Result<(), NoMemory>
+    ensures { Gains (split_data pick way.now) result out.old out.new }
+{
+    match way {
+        [] => write_numbered(out, "split", u64::from(pick)),
+        [_, ..] => write_member_split(out, pick, way),
+    }
+}
+
 fn write_cycle(out: &mut JsonText, bounds: &[u32]) -> Result<(), NoMemory>
     ensures { Gains (cycle_data bounds.now) result out.old out.new }
 {
@@ -61,7 +85,7 @@ fn write_step(out: &mut JsonText, step: &Refute) -> Result<(), NoMemory>
     match step {
         Refute::Empty { symbol, picks } => write_empty(out, *symbol, picks.as_slice()),
         Refute::Domain { symbol } => write_numbered(out, "domain", symbol.0),
-        Refute::Split { pick } => write_numbered(out, "split", u64::from(*pick)),
+        Refute::Split { pick, way } => write_split(out, *pick, way.as_slice()),
         Refute::Cycle { bounds } => write_cycle(out, bounds.as_slice()),
     }
 }

@@ -161,11 +161,15 @@ verdict_back d = verdict_by (get (codes "sat") d) d
 abbrev before_back : Data → Option Verdict
 before_back d = option_map (λ (ms : Members). verdict_back d) (as_object d)
 
+abbrev way_back : Option Data → List ℕ
+way_back None = []
+way_back (Some d) = values_back d
+
 abbrev step_by : List ℕ → Data → Refute
 step_by s d =
     if bytes_eq s (codes "empty") then Empty (record { 0 = number_in (item_back 1 d) }) (values_back (item_back 2 d))
     else (if bytes_eq s (codes "domain") then Domain (record { 0 = number_in (item_back 1 d) })
-    else (if bytes_eq s (codes "split") then Split (number_in (item_back 1 d)) else Cycle (values_back (item_back 1 d))))
+    else (if bytes_eq s (codes "split") then Split (number_in (item_back 1 d)) (way_back (at 2 d)) else Cycle (values_back (item_back 1 d))))
 
 abbrev step_back : Data → Refute
 step_back d = step_by (text_back (item_back 0 d)) d
@@ -342,7 +346,8 @@ module _ (net : Network) (digits : HasDigits) (places : FindsPlaces) where
   step_is : (s : Refute) → StepFits s → step_back (step_data s) ≡ s
   step_is (Empty symbol picks) h = ap (Empty symbol) (ids_is picks h.1)
   step_is (Domain symbol) h = refl
-  step_is (Split pick) h = refl
+  step_is (Split pick []) h = refl
+  step_is (Split pick (number ∷ way)) h = ap (Split pick) (ids_is (number ∷ way) h.1)
   step_is (Cycle bounds) h = ap Cycle (ids_is bounds h)
 
   refutation_is : (steps : List Refute) → AllByRecursion StepFits steps → list_back step_back (refutation_data steps) ≡ steps

@@ -2,6 +2,7 @@
 use Rattle.std.proofs.Common.{◌≡◌, ◌^◌, ◌-◌, ◌<◌, ◌≤◌, ℕ, ℤ, suc, List, [], ◌∷◌, ◌++◌, map, Bool, true, false, Option, Some, None, nat_lt, refl, sym, ap, subst, arith}
 use Rattle.std.specs.Prelude.{codes, decimal, pos, negsuc, int_lt, nat_le, if◌then◌else◌, is_some, unwrap_or}
 use Rattle.std.specs.List.{AllByRecursion}
+use Rattle.std.specs.Option.{option_or}
 use Rattle.std.specs.Str.Parse.{digits_value}
 use Rattle.std.proofs.lemmas.Bool.Decides.{nat_tests}
 use Rattle.std.proofs.lemmas.Int.{ints}
@@ -168,6 +169,10 @@ module _ (net : Network) (digits : HasDigits) (places : FindsPlaces) where
   unfolding ids_data
   ids_form ns h = rw (all_have_form part.Id count (λ n. n < 2 ^ 32) id_form 0 ns h) refl
 
+  way_form : (n : ℕ) (ns : List ℕ) → Fit32 (n ∷ ns) → HasForm net part.Way (ids_data (n ∷ ns))
+  unfolding ids_data
+  way_form n ns h = ap (λ o. option_or o None) (all_have_form part.Id count (λ n. n < 2 ^ 32) id_form 0 (n ∷ ns) h)
+
   decision_form : (d : Decision) → DecisionFits d → HasForm net part.Decision (decision_data d)
   decision_form Then h = refl
   decision_form Else h = refl
@@ -307,7 +312,8 @@ module _ (net : Network) (digits : HasDigits) (places : FindsPlaces) where
   step_form : (s : Refute) → StepFits s → HasForm net part.Step (step_data s)
   step_form (Empty symbol picks) h = rw (count_form symbol.0 h.0, ids_form picks h.1) refl
   step_form (Domain symbol) h = rw (count_form symbol.0 h) refl
-  step_form (Split pick) h = rw (id_form pick h) refl
+  step_form (Split pick []) h = rw (id_form pick h.0) refl
+  step_form (Split pick (number ∷ way)) h = rw (id_form pick h.0, way_form number way h.1) refl
   step_form (Cycle bounds) h = rw (ids_form bounds h) refl
 
   refutation_form : (steps : List Refute) → AllByRecursion StepFits steps → HasForm net part.Refutation (refutation_data steps)

@@ -99,7 +99,7 @@ BeforeFits (Some verdict) = VerdictFits verdict
 abbrev pub StepFits : Refute → Type 0
 StepFits (Empty symbol picks) = (symbol.0 < 2 ^ 64) × Fit32 picks
 StepFits (Domain symbol) = symbol.0 < 2 ^ 64
-StepFits (Split pick) = pick < 2 ^ 32
+StepFits (Split pick way) = (pick < 2 ^ 32) × Fit32 way
 StepFits (Cycle bounds) = Fit32 bounds
 
 pub record PathFits (net : Network) (decisions : List Decision) (places : List Place) (ended : End) (fields : Fields LinearTerm) (verdict : Verdict) : Type 0 where

@@ -52,8 +52,9 @@ fn step_fits(step: &Refute)
         Refute::Domain { symbol } => {
             let _number = number_of_symbol(*symbol);
         }
-        Refute::Split { pick } => {
+        Refute::Split { pick, way } => {
             let _pick = *pick;
+            ids_fit(way.as_slice());
         }
         Refute::Cycle { bounds } => ids_fit(bounds.as_slice()),
     }

@@ -1,7 +1,7 @@
 -- What a value holds, and what the program finds in it.
 use denote.Ref.{Bor}
-use Rattle.std.proofs.Common.{◌≡◌, ◌≤◌, ℕ, zero, suc, List, [], ◌∷◌, length, drop, map, get_or, nat_eq, false, Some, sym, ap, ◌∙◌, arith}
-use Rattle.std.specs.Prelude.{codes}
+use Rattle.std.proofs.Common.{◌≡◌, ◌≤◌, ℕ, zero, suc, List, [], ◌∷◌, length, drop, map, get_or, nat_eq, false, Some, refl, sym, ap, ◌∙◌, arith}
+use Rattle.std.specs.Prelude.{codes, Ok}
 use Rattle.std.proofs.lemmas.Bool.Decides.{nat_tests}
 use Rattle.serde_json.specs.Data.{no_members}
 use Rattle.serde_json.specs.Find.{as_str}
@@ -10,11 +10,16 @@ use Rattle.serde_json.specs.View.{view, items_view}
 use Rattle.serde_json.specs.declared.value.Value.{Value}
 use Rattle.serde_json.proofs.Views.{items_len-items_view}
 use Rattle.report_shape.specs.declared.part.Part.{Part}
+use Rattle.report_shape.specs.Forms.{same}
 use Rattle.report_shape.specs.Held.{field_of}
-use Rattle.report_shape.specs.Faults.{keys_are, decided_by, row_named, row_by_head}
+use Rattle.report_shape.specs.Faults.{keys_are, decided_by, one_or_more_parts, row_named, row_by_head}
 
 pub count_items : (vs : List Value) → items_len (items_view vs) ≡ length vs
 count_items vs = items_len-items_view vs
+
+pub one_or_more_of_these : (p : Part) (vs : List Value) → 1 ≤ length vs → Ok (same p) ≡ one_or_more_parts p (items_view vs)
+one_or_more_of_these p [] some = absurd (omega arith)
+one_or_more_of_these p (v ∷ vs) some = refl
 
 zero_apart : (n : ℕ) → false ≡ nat_eq 0 (suc n)
 zero_apart n = grind (arith, nat_tests)
@@ -28,7 +33,7 @@ keys_end [] (suc n) h = absurd (omega arith)
 keys_end (f ∷ fs) zero h = zero_apart (length fs)
 keys_end (f ∷ fs) (suc n) h = keys_end fs n (omega arith) ∙ both_next n (length fs)
 
-pub head_named : (hs : List (List ℕ × List Part)) (vs : List Value) (v : Value) (s : List ℕ) → 1 ≤ length vs → v ≡ get_or vs 0 v → Some s ≡ as_str (view v) →
+pub head_named : (hs : List (List ℕ × ℕ × List Part)) (vs : List Value) (v : Value) (s : List ℕ) → 1 ≤ length vs → v ≡ get_or vs 0 v → Some s ≡ as_str (view v) →
     row_by_head hs (items_view vs) ≡ row_named hs s (length vs)
 head_named hs [] v s some is e = absurd (omega arith)
 head_named hs (x ∷ xs) v s some is e =

@@ -5,7 +5,7 @@ use Rattle.std.specs.Str.{bytes_eq}
 use Rattle.serde_json.specs.Data.{Num, unsigned, negative, float, Data, null, boolean, number, string, array, object, Items, no_items, item, Members, no_members, member}
 use Rattle.serde_json.specs.Find.{as_number, as_str, as_u64, get_member}
 use Rattle.serde_json.specs.Events.{items_len}
-use Rattle.report_shape.specs.Forms.{TextForm, no_text, any_text, words, large, known, ListForm, no_list, list_of, rows, headed, ObjectForm, no_object, keyed, by_word, by_number, Field, Parts, same, in_order}
+use Rattle.report_shape.specs.Forms.{TextForm, no_text, any_text, words, large, known, ListForm, no_list, list_of, one_or_more, rows, headed, ObjectForm, no_object, keyed, by_word, by_number, Field, Parts, same, in_order}
 use Rattle.report_shape.specs.Shape.{form}
 use Rattle.report_shape.specs.Numbers.{is_large}
 use Rattle.report_shape.specs.Reduced.{is_reduced}
@@ -42,29 +42,35 @@ number_fits (Some r) (float x) = false
 
 -- ---- lists: what the items are, or the step at which the list is refused
 
+abbrev pub one_or_more_parts : Part → Items → Result Parts (Option (List ℕ))
+one_or_more_parts p no_items = Err None
+one_or_more_parts p (item d ds) = Ok (same p)
+
 abbrev pub row_of : List (List Part) → ℕ → Result Parts (Option (List ℕ))
 row_of [] n = Err None
 row_of (r ∷ rs) n = if length r == n then Ok (in_order r) else row_of rs n
 
-abbrev pub fits_row : List Part → ℕ → Result Parts (Option (List ℕ))
-fits_row row n = if length row == n then Ok (in_order row) else Err None
+-- no fewer items than the least number, and no more than the row has
+abbrev pub fits_row : ℕ → List Part → ℕ → Result Parts (Option (List ℕ))
+fits_row least row n = if nat_le least n && nat_le n (length row) then Ok (in_order row) else Err None
 
-abbrev pub row_named : List (List ℕ × List Part) → List ℕ → ℕ → Result Parts (Option (List ℕ))
+abbrev pub row_named : List (List ℕ × ℕ × List Part) → List ℕ → ℕ → Result Parts (Option (List ℕ))
 row_named [] s n = Err (Some (codes "0"))
-row_named (h ∷ hs) s n = if bytes_eq h.0 s then fits_row h.1 n else row_named hs s n
+row_named (h ∷ hs) s n = if bytes_eq h.0 s then fits_row h.1 h.2 n else row_named hs s n
 
 -- what decides, at this step, is of another kind, or decides
 abbrev pub decided_by : {A B : Type 0} → List ℕ → Option A → (A → Result B (Option (List ℕ))) → Result B (Option (List ℕ))
 decided_by step None go = Err (Some step)
 decided_by step (Some a) go = go a
 
-abbrev pub row_by_head : List (List ℕ × List Part) → Items → Result Parts (Option (List ℕ))
+abbrev pub row_by_head : List (List ℕ × ℕ × List Part) → Items → Result Parts (Option (List ℕ))
 row_by_head hs no_items = Err None
 row_by_head hs (item d ds) = decided_by (codes "0") (as_str d) (λ s. row_named hs s (suc (items_len ds)))
 
 abbrev pub list_parts : ListForm → Items → Result Parts (Option (List ℕ))
 list_parts no_list ds = Err None
 list_parts (list_of p) ds = Ok (same p)
+list_parts (one_or_more p) ds = one_or_more_parts p ds
 list_parts (rows rs) ds = row_of rs (items_len ds)
 list_parts (headed hs) ds = row_by_head hs ds
 

@@ -16,12 +16,14 @@ pub data Parts : Type 0 where
   same : Part → Parts
   in_order : List Part → Parts
 
--- any number of one part; one of these rows, by its length; a row by its first item, a text
+-- any number of one part; one or more; one of these rows, by its length; by its first item, a text, a row, and how many of its items
+-- come at least: the last ones may be left out
 pub data ListForm : Type 0 where
   no_list : ListForm
   list_of : Part → ListForm
+  one_or_more : Part → ListForm
   rows : List (List Part) → ListForm
-  headed : List (List ℕ × List Part) → ListForm
+  headed : List (List ℕ × ℕ × List Part) → ListForm
 
 -- a key, and what it holds
 abbrev pub Field : Type 0

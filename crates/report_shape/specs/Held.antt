@@ -1,7 +1,7 @@
 -- The forms that the program holds.
 use denote.Ref.{Bor}
 use Rattle.std.specs.Prelude.{ℕ, List, map, option_map, Option, Result, Ok, Err}
-use Rattle.report_shape.specs.Forms.{TextForm, no_text, any_text, words, large, known, ListForm, no_list, list_of, rows, headed, ObjectForm, no_object, keyed, by_word, by_number, Form, Field, Parts, same, in_order}
+use Rattle.report_shape.specs.Forms.{TextForm, no_text, any_text, words, large, known, ListForm, no_list, list_of, one_or_more, rows, headed, ObjectForm, no_object, keyed, by_word, by_number, Form, Field, Parts, same, in_order}
 use Rattle.report_shape.specs.declared.part.Part.{Part}
 use Rattle.report_shape.specs.declared.form.Texts.{Texts}
 use Rattle.report_shape.specs.declared.form.Texts.TheVariants as texts
@@ -19,8 +19,8 @@ lent_words = map (λ (w : Bor (List ℕ)). w.now)
 abbrev pub row_of_held : Bor (List Part) → List Part
 row_of_held r = r.now
 
-abbrev pub named_of : Bor (List ℕ) × Bor (List Part) → List ℕ × List Part
-named_of h = (h.0.now, h.1.now)
+abbrev pub named_of : Bor (List ℕ) × ℕ × Bor (List Part) → List ℕ × ℕ × List Part
+named_of h = (h.0.now, h.1, h.2.now)
 
 abbrev pub text_form : Texts → TextForm
 text_form texts.Refused = no_text
@@ -36,6 +36,7 @@ parts_of (parts.InOrder ps) = in_order ps.now
 abbrev pub list_form : Lists → ListForm
 list_form lists.Refused = no_list
 list_form (lists.Of p) = list_of p
+list_form (lists.OneOrMore p) = one_or_more p
 list_form (lists.Rows rs) = rows (map row_of_held rs.now)
 list_form (lists.Headed hs) = headed (map named_of hs.now)
 

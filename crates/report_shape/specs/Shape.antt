@@ -1,8 +1,8 @@
 -- The shape of a report: the form of each of its parts.
 use Rattle.std.specs.Prelude.{ℤ, pos, negsuc, List, [], ◌∷◌, true, false, codes, Some, None}
 use Rattle.report_shape.specs.declared.part.Part.{Part}
-use Rattle.report_shape.specs.declared.part.Part.TheVariants.{Report, Cases, Hops, Limit, Records, Record, State, Version, Word, Decisions, Decision, Places, Place, End, Text, Fields, Heads, Head, Metas, Meta, Owner, MetaName, Tags, Tag, TagName, Address, Cells, Cell, Width, Value, Terms, Term, Verdict, Before, Cause, Values, Refutation, Step, Ids, Id, Count, Nothing}
-use Rattle.report_shape.specs.Forms.{TextForm, no_text, any_text, words, large, known, ListForm, no_list, list_of, rows, headed, ObjectForm, no_object, keyed, by_word, by_number, Form, Field}
+use Rattle.report_shape.specs.declared.part.Part.TheVariants.{Report, Cases, Hops, Limit, Records, Record, State, Version, Word, Decisions, Decision, Places, Place, End, Text, Fields, Heads, Head, Metas, Meta, Owner, MetaName, Tags, Tag, TagName, Address, Cells, Cell, Width, Value, Terms, Term, Verdict, Before, Cause, Values, Refutation, Step, Ids, Way, Id, Count, Nothing}
+use Rattle.report_shape.specs.Forms.{TextForm, no_text, any_text, words, large, known, ListForm, no_list, list_of, one_or_more, rows, headed, ObjectForm, no_object, keyed, by_word, by_number, Form, Field}
 
 abbrev pub nothing : Form
 nothing = record { nullable = false; number = None; text = no_text; list = no_list; reduced = false; object = no_object }
@@ -103,12 +103,13 @@ form Cause = objects (by_word (codes "cause") ((codes "cases", counted_fields) �
 form Values = lists (list_of Value)
 form Refutation = lists (list_of Step)
 form Step = lists (headed
-    ((codes "empty", Word ∷ Count ∷ Ids ∷ [])
-    ∷ (codes "domain", Word ∷ Count ∷ [])
-    ∷ (codes "split", Word ∷ Id ∷ [])
-    ∷ (codes "cycle", Word ∷ Ids ∷ [])
+    ((codes "empty", 3, Word ∷ Count ∷ Ids ∷ [])
+    ∷ (codes "domain", 2, Word ∷ Count ∷ [])
+    ∷ (codes "split", 2, Word ∷ Id ∷ Way ∷ [])
+    ∷ (codes "cycle", 2, Word ∷ Ids ∷ [])
     ∷ []))
 form Ids = lists (list_of Id)
+form Way = lists (one_or_more Id)
 form Id = numbers (pos 0) (pos 4294967295)
 form Count = numbers (pos 0) (pos 18446744073709551615)
 form Nothing = nothing

@@ -28,10 +28,12 @@ pub enum Lists {
     Refused,
     /// Any number of these.
     Of(Part),
+    /// One or more of these.
+    OneOrMore(Part),
     /// One of these rows, by the number of items.
     Rows(&'static [&'static [Part]]),
-    /// A row by its first item, which is a text.
-    Headed(&'static [(&'static str, &'static [Part])]),
+    /// A row by its first item, which is a text, and how many of its items come at least: the last ones may be left out.
+    Headed(&'static [(&'static str, usize, &'static [Part])]),
 }
 
 /// A member of an object: its key, and what it holds.

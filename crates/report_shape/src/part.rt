@@ -55,6 +55,8 @@ pub enum Part {
     Refutation,
     Step,
     Ids,
+    /// The way to a member of a formula.
+    Way,
     /// A number of 32 bits.
     Id,
     /// A number of 64 bits.

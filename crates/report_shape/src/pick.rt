@@ -5,7 +5,7 @@ ghost use Rattle.serde_json.specs.View.{view, items_view, members_view};
 ghost use Rattle.serde_json.specs.Find.{get_member};
 ghost use Rattle.report_shape.specs.Forms.{by_word, by_number};
 ghost use Rattle.report_shape.specs.Held.{list_form, parts_of, object_form, fields_of, field_of, row_of_held, named_of, word_of, number_of, lent_words, told_fields, told_parts};
-ghost use Rattle.report_shape.specs.Faults.{is_one_of, row_of, fits_row, row_named, row_by_head, list_parts, part_at, keys_are, with_keys, if_keys, for_word, for_number, object_fields, part_of};
+ghost use Rattle.report_shape.specs.Faults.{is_one_of, one_or_more_parts, row_of, fits_row, row_named, row_by_head, list_parts, part_at, keys_are, with_keys, if_keys, for_word, for_number, object_fields, part_of};
 
 use crate::form::{Field, Lists, Objects, Parts};
 use crate::part::Part;
@@ -25,6 +25,16 @@ pub(crate) fn is_one_of(text: &str, words: &[&'static str]) -> bool
     false
 }
 
+#[tactic(auto, using(crate::proofs::Views::one_or_more_of_these))]
+fn one_or_more_parts(part: Part, items: &[Value]) -> Result<Parts, Refused>
+    ensures { told_parts result ≡ one_or_more_parts part (items_view items.now) }
+{
+    match items {
+        [] => Err(None),
+        [_, ..] => Ok(Parts::Same(part)),
+    }
+}
+
 fn row_of(rows: &'static [&'static [Part]], count: usize) -> Result<Parts, Refused>
     ensures { told_parts result ≡ row_of (map row_of_held rows.now) count }
 {
@@ -37,10 +47,10 @@ fn row_of(rows: &'static [&'static [Part]], count: usize) -> Result<Parts, Refus
     Err(None)
 }
 
-fn fits_row(row: &'static [Part], count: usize) -> Result<Parts, Refused>
-    ensures { told_parts result ≡ fits_row row.now count }
+fn fits_row(least: usize, row: &'static [Part], count: usize) -> Result<Parts, Refused>
+    ensures { told_parts result ≡ fits_row least row.now count }
 {
-    if row.len() == count {
+    if least <= count && count <= row.len() {
         Ok(Parts::InOrder(row))
     } else {
         Err(None)
@@ -48,15 +58,15 @@ fn fits_row(row: &'static [Part], count: usize) -> Result<Parts, Refused>
 }
 
 fn row_named(
-    rows: &'static [(&'static str, &'static [Part])],
+    rows: &'static [(&'static str, usize, &'static [Part])],
     name: &str,
     count: usize,
 ) -> Result<Parts, Refused>
     ensures { told_parts result ≡ row_named (map named_of rows.now) name.now count }
 {
-    for (word, row) in rows {
+    for (word, least, row) in rows {
         if *word == name {
-            return fits_row(row, count);
+            return fits_row(*least, row, count);
         }
     }
     Err(Some("0"))
@@ -64,7 +74,7 @@ fn row_named(
 
 #[tactic(auto, using(crate::proofs::Views::count_items))]
 fn row_by_head(
-    rows: &'static [(&'static str, &'static [Part])],
+    rows: &'static [(&'static str, usize, &'static [Part])],
     items: &[Value],
 ) -> Result<Parts, Refused>
     ensures { told_parts result ≡ row_by_head (map named_of rows.now) (items_view items.now) }
@@ -85,6 +95,7 @@ pub(crate) fn list_parts(form: Lists, items: &[Value]) -> Result<Parts, Refused>
     match form {
         Lists::Refused => Err(None),
         Lists::Of(part) => Ok(Parts::Same(part)),
+        Lists::OneOrMore(part) => one_or_more_parts(part, items),
         Lists::Rows(rows) => row_of(rows, items.len()),
         Lists::Headed(rows) => row_by_head(rows, items),
     }

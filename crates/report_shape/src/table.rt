@@ -130,10 +130,10 @@ const CAUSE: Objects = Objects::ByWord(
 );
 
 const STEP: Lists = Lists::Headed(&[
-    ("empty", &[Part::Word, Part::Count, Part::Ids]),
-    ("domain", &[Part::Word, Part::Count]),
-    ("split", &[Part::Word, Part::Id]),
-    ("cycle", &[Part::Word, Part::Ids]),
+    ("empty", 3, &[Part::Word, Part::Count, Part::Ids]),
+    ("domain", 2, &[Part::Word, Part::Count]),
+    ("split", 2, &[Part::Word, Part::Id, Part::Way]),
+    ("cycle", 2, &[Part::Word, Part::Ids]),
 ]);
 
 const CELL: Lists = Lists::Rows(&[&[Part::Width], &[Part::Width, Part::Value, Part::Terms]]);
@@ -206,6 +206,7 @@ pub(crate) fn form_for(part: Part) -> Form
         Part::Refutation => list(Lists::Of(Part::Step)),
         Part::Step => list(STEP),
         Part::Ids => list(Lists::Of(Part::Id)),
+        Part::Way => list(Lists::OneOrMore(Part::Id)),
         Part::Id => number(0, 4_294_967_295),
         Part::Count => number(0, 18_446_744_073_709_551_615),
         Part::Nothing => NO,

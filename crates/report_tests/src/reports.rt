@@ -3,7 +3,7 @@
 use crate::jobs::accepted;
 use crate::texts::{
     ALL, ALL_JOB, BOUNDED, CARRIED, CASES, CELLS, HEAD, ODD, OTHER_ORDER, OTHERS, READ_BACK,
-    RECORDS, Row, TTL, TTL_JOB, TTL_ROWS, VERDICTS,
+    RECORDS, Row, SPLITS, TTL, TTL_JOB, TTL_ROWS, VERDICTS,
 };
 use net_check::Net;
 use path_report::{Report, ReportFault, read_report, report_text};
@@ -129,6 +129,11 @@ fn broken_cells_have_their_place(rt: HostRuntime) {
 #[test]
 fn broken_verdicts_have_their_place(rt: HostRuntime) {
     assert_all(&rt, rt.alloc(), VERDICTS);
+}
+
+#[test]
+fn splits_of_members_are_told(rt: HostRuntime) {
+    assert_all(&rt, rt.alloc(), SPLITS);
 }
 
 #[test]

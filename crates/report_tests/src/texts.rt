@@ -438,6 +438,48 @@ pub const VERDICTS: &[Row] = &[
     ),
 ];
 
+/// Splits of members of a formula: the way has one number of 32 bits or more.
+pub const SPLITS: &[Row] = &[
+    (r#"["split",2]"#, r#"["split",2,[0,4294967295]]"#, "same"),
+    (r#"["split",2]"#, r#"["split", 2, [0, 1]]"#, "good"),
+    (
+        r#"["split",2]"#,
+        r#"["split",2,[]]"#,
+        "/records/2/refutation/2/2",
+    ),
+    (
+        r#"["split",2]"#,
+        r#"["split",2,0]"#,
+        "/records/2/refutation/2/2",
+    ),
+    (
+        r#"["split",2]"#,
+        r#"["split",2,["0"]]"#,
+        "/records/2/refutation/2/2/0",
+    ),
+    (
+        r#"["split",2]"#,
+        r#"["split",2,[-1]]"#,
+        "/records/2/refutation/2/2/0",
+    ),
+    (
+        r#"["split",2]"#,
+        r#"["split",2,[0,4294967296]]"#,
+        "/records/2/refutation/2/2/1",
+    ),
+    (
+        r#"["split",2]"#,
+        r#"["split",2,[0],[1]]"#,
+        "/records/2/refutation/2",
+    ),
+    (r#"["split",2]"#, r#"["split"]"#, "/records/2/refutation/2"),
+    (
+        r#"["domain",18446744073709551615]"#,
+        r#"["domain",0,[0]]"#,
+        "/records/2/refutation/1",
+    ),
+];
+
 /// Values that a writer of JSON may make.
 pub const ODD: &[Row] = &[
     // A key that comes twice has its last value; blanks and another order of keys change nothing.

@@ -4,7 +4,7 @@ use Rattle.serde_json.specs.Find.{at, as_str}
 use Rattle.serde_json.specs.View.{view}
 use Rattle.net_check.specs.Network.{network}
 use Rattle.path_report.proofs.Deciding.{no_step}
-use Rattle.path_report.proofs.Rows.{empty_row, domain_row, split_row, cycle_row}
+use Rattle.path_report.proofs.Rows.{empty_row, domain_row, cycle_row}
 use Rattle.path_report.proofs.decoder.Decoder.step.Goals as goal
 
 pub empty-requires-clause-form : goal.empty-requires-clause-form
@@ -16,11 +16,6 @@ pub domain-requires-clause-form : goal.domain-requires-clause-form
 domain-requires-clause-form c =
     let word : at 0 (view c.args.value.now) ≡ Some (string (codes "domain")) = search rules in
     domain_row (network c.args.self.now.net.now) (view c.args.value.now) c.requires word
-
-pub split-requires-clause-form : goal.split-requires-clause-form
-split-requires-clause-form c =
-    let word : at 0 (view c.args.value.now) ≡ Some (string (codes "split")) = search rules in
-    split_row (network c.args.self.now.net.now) (view c.args.value.now) c.requires word
 
 pub circle-requires-clause-form : goal.circle-requires-clause-form
 circle-requires-clause-form c =
