@@ -120,6 +120,8 @@ const optionOf = (options, name) => options.filter((word, index) => word === nam
 const hopsOf = (options) => optionOf(options, "--hops");
 // The bounds of an exploration, so that two commands number the same records.
 const boundsOf = (options) => ["--hops", "--limit", "--cases"].flatMap((name) => optionOf(options, name));
+// The options, with all choices of cases where no bound on them is said: `--cases 4096` is the bound of the program itself.
+const withCases = (options) => (optionOf(options, "--cases").length === 0 ? [...options, "--cases", "all"] : options);
 const hasQuestions = (text) => /\bask\s+(reach|invariant|visible)\b/.test(text);
 
 // Each command: which files it takes, and its plan. A plan runs the program by `call`, and gives the ends of its runs, the command's own first, and what the
@@ -130,7 +132,7 @@ const COMMANDS = {
   loops: {
     takes: [isJobName],
     async plan(call, { names, options, textOf }) {
-      const given = options;
+      const given = withCases(options);
       const found = await call(["loops", names[0], ...given]);
       const report = wrote(found) ? [await call(["explore", names[0], ...boundsOf(given)])] : [];
       return { ends: [found, ...report], shown: [[names[0], textOf(names[0])], ...report.map(({ output }) => ["report.json", output]), ["loops.json", found.output]] };
@@ -146,7 +148,7 @@ const COMMANDS = {
   compare: {
     takes: [isJobName, isJobName],
     async plan(call, { names, options, textOf }) {
-      const compared = await call(["compare", ...names, ...options]);
+      const compared = await call(["compare", ...names, ...withCases(options)]);
       const answer = wrote(compared) ? readJson(compared.output) : {};
       // The packet that shows a difference is walked in both networks.
       const packet = "difference.packet", walks = [];
@@ -166,7 +168,7 @@ const COMMANDS = {
 
 // The paths of a job, and the answers to its questions where it has some: they are shown together, whichever was asked for.
 async function exploredAndAsked(call, { names, options, textOf }, command) {
-  const [job] = names, given = options;
+  const [job] = names, given = withCases(options);
   const own = await call([command, job, ...given]);
   const isMore = wrote(own) && (command === "ask" || hasQuestions(textOf(job)));
   const more = isMore ? [await call([command === "ask" ? "explore" : "ask", job, ...boundsOf(given)])] : [];
@@ -262,7 +264,7 @@ const desk = { files: new Map(), open: "", names: [], place: null, answers: new 
 const DESK_PARTS = `
   <div class="row"><label>example <select id="example"></select></label><label>open files <input type="file" id="opened" multiple></label></div>
   <div class="row"><select id="command" aria-label="command"></select><span id="taken" class="row"></span>
-    <input id="options" aria-label="options" placeholder="options, as --hops 32 or --cases all"><button id="run">run</button></div>
+    <input id="options" aria-label="options" placeholder="options, as --hops 32 or --limit 100"><button id="run">run</button></div>
   <div class="row" id="tabs"></div>
   <div id="editor"><div id="gutter"><pre></pre></div><div id="paper"><pre id="colours" aria-hidden="true"></pre>
     <textarea id="text" spellcheck="false" autocapitalize="off" aria-label="the open file"></textarea></div></div>

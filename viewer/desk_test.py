@@ -218,6 +218,20 @@ def test_broken_engine(expect, page, name):
     expect(f"{name}: the whole engine again", run_of(page, begun), "")
 
 
+def test_cases(expect, page, name):
+    """All choices of cases are tried where no bound on them is said, and what is said goes."""
+    for command in ("explore", "ask", "loops"):
+        for options, wanted in (("", "--cases all"), ("--hops 8", "--hops 8 --cases all"), ("--cases=7 --hops 8", "--cases=7 --hops 8"), ("--cases 4096", "--cases 4096")):
+            page.value("desk.files.clear()")
+            page.value(f"byId('options').value = {json.dumps(options)}; byId('command').value = '{command}'")
+            expect(f"{name}: {command} {options}", run_of(page, f"addFiles([['mine.sefl', {json.dumps(JOB)}]])"), "")
+            expect(f"{name}: {command} {options}: it ran", page.value("byId('ran').textContent").startswith(f"{command} mine.sefl {wanted}"), True)
+    page.value("byId('options').value = ''; byId('command').value = 'compare'")
+    expect(f"{name}: a comparison", run_of(page, f"addFiles([['other.sefl', {json.dumps(JOB)}]])"), "")
+    expect(f"{name}: a comparison: it ran", page.value("byId('ran').textContent").split(":")[0].split(" ", 3)[3], "--cases all")
+    page.value("byId('command').value = 'explore'")
+
+
 def test_stop(expect, page, name):
     """A run is stopped, and the next one goes on as if there had been none."""
     page.value("(() => { byId('example').value = [...byId('example').options].find((it) => it.text.startsWith('ask fabric')).value; byId('example').dispatchEvent(new Event('change')); })()")
@@ -252,6 +266,7 @@ def test_desk(expect, page, name, unproved):
             expect(f"{name}: the walks of the packet in both networks", page.value("[...document.querySelectorAll('#both .side > p')].map((it) => it.textContent)"),
                    ['fail "partner" (item 17) at in filter.0', "delivered at out filter.0"])
     test_typing(expect, page, name)
+    test_cases(expect, page, name)
     test_bad_inputs(expect, page, name)
     if page.value("DESK.engine") == "module":
         test_broken_engine(expect, page, name)

@@ -1,7 +1,8 @@
 """The commands over texts in memory. docs/questions.md, docs/formats.md and docs/language.md of the repository say what each asks and answers.
 
 A text is `str` or `bytes`. `files` has what a job names in its text, its tables, by those names; nothing is read from the disk. An option that is not
-given has the value of the command line. Each command raises `Refusal` where it ends without a whole text.
+given has the value of the command line, except `cases`: here it is "all". With `cases=None` no bound is said, and the program takes its own, 4,096. Each
+command raises `Refusal` where it ends without a whole text.
 """
 
 import json
@@ -16,7 +17,7 @@ from .refusal import PARTIAL, written
 from .report import Report, read_report, read_written
 
 Files = Mapping[str, Text]
-# A bound on choices of cases: a number from 1 to 2^64 - 1, or all of them.
+# A bound on choices of cases: a number from 1 to 2^64 - 1, or all of them; None is the program's own, 4,096.
 Cases = Union[int, Literal["all"]]
 
 
@@ -96,7 +97,7 @@ def _counts(text: bytes) -> Dict[str, int]:
 
 
 def explore(job: Text, *, files: Optional[Files] = None, hops: Optional[int] = None, limit: Optional[int] = None,
-            cases: Optional[Cases] = None, pruned: Optional[Literal["all", "count"]] = None) -> Report:
+            cases: Optional[Cases] = "all", pruned: Optional[Literal["all", "count"]] = None) -> Report:
     """The report of all packets of a job."""
     whole, names = _with(files, job=job)
     text = written(run(["explore", names["job"], *_options(hops=hops, limit=limit, cases=cases, pruned=pruned)], whole))
@@ -118,7 +119,7 @@ def replay(job: Text, report: Union[Text, Report], *, files: Optional[Files] = N
     return Confirmed(**_counts(written(run(["replay", names["job"], names["report"]], whole))))
 
 
-def ask(job: Text, *, files: Optional[Files] = None, hops: Optional[int] = None, limit: Optional[int] = None, cases: Optional[Cases] = None) -> Asked:
+def ask(job: Text, *, files: Optional[Files] = None, hops: Optional[int] = None, limit: Optional[int] = None, cases: Optional[Cases] = "all") -> Asked:
     """The answers to the questions of a job."""
     whole, names = _with(files, job=job)
     ended = run(["ask", names["job"], *_options(hops=hops, limit=limit, cases=cases)], whole)
@@ -126,7 +127,7 @@ def ask(job: Text, *, files: Optional[Files] = None, hops: Optional[int] = None,
     return Asked(tuple(read_asked(read_written(text))), ended.status != PARTIAL, _shown({"answer": text, "job": job}))
 
 
-def loops(job: Text, *, files: Optional[Files] = None, hops: Optional[int] = None, limit: Optional[int] = None, cases: Optional[Cases] = None,
+def loops(job: Text, *, files: Optional[Files] = None, hops: Optional[int] = None, limit: Optional[int] = None, cases: Optional[Cases] = "all",
           open: Optional[Literal["numbers", "visits"]] = None) -> Loops:
     """Which paths of a job that are cut go round for ever."""
     whole, names = _with(files, job=job)
@@ -136,7 +137,7 @@ def loops(job: Text, *, files: Optional[Files] = None, hops: Optional[int] = Non
 
 
 def compare(job: Text, other: Text, *, files: Optional[Files] = None, hops: Optional[int] = None, limit: Optional[int] = None,
-            cases: Optional[Cases] = None) -> Compared:
+            cases: Optional[Cases] = "all") -> Compared:
     """Whether two jobs deliver the same, or a packet that shows a difference."""
     whole, names = _with(files, job=job, other=other)
     text = written(run(["compare", names["job"], names["other"], *_options(hops=hops, limit=limit, cases=cases)], whole))

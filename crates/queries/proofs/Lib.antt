@@ -1,3 +1,4 @@
+mod Ending
 mod Every
 mod FoundLemmas
 mod KeepLemmas

@@ -1,5 +1,6 @@
 -- The states of a path that a question speaks of.
-use Rattle.std.proofs.Common.{◌≡◌, ℕ, inl, inr, Bool, true, false, true≢false, List, [], ◌∷◌, ◌++◌, map, refl, sym, ap, subst, ◌∙◌, Some, None, if◌then◌else◌}
+use Rattle.std.proofs.Common.{◌≡◌, ℕ, inl, inr, Bool, true, false, true≢false, List, [], ◌∷◌, ◌++◌, map, refl, sym, ap, subst, ◌∙◌, Some, None, Result, Ok, Err, IfOk, Vec, if◌then◌else◌}
+use Rattle.std.specs.Global.{Global}
 use Rattle.sefl_meaning.specs.declared.walk.Decision.{Decision}
 use Rattle.sefl_meaning.specs.declared.walk.End.{End}
 use Rattle.sefl_meaning.specs.declared.walk.End.TheVariants.{Stopped, Delivered, Failed, Cut}
@@ -19,9 +20,25 @@ use Rattle.path_questions.specs.Asked.{look_of}
 use Rattle.path_questions.specs.declared.looking.Look.TheVariants.{AtEnd, OnArrivals}
 use Rattle.queries.specs.declared.states.PathRun.{PathRun}
 use Rattle.queries.specs.declared.states.Stop.{Stop}
-use Rattle.queries.specs.Paths.{AreNoted, ArriveAt, AreStatesOf, IsPathRun, delivered_at, ends_with, has_place, noted_at, state_at_end}
+use Rattle.queries.specs.Paths.{AreNoted, ArriveAt, AreStatesOf, IsBare, IsPathRun, StaysAt, delivered_at, ends_with, has_place, noted_at, state_at_end}
+use Rattle.queries.proofs.Ending.{LastIs, over_as_it_arrives}
 use Rattle.queries.proofs.PlaceLemmas.{by_test, else_false, is_same, not_true, same_is, then_false}
 use Rattle.queries.proofs.Ways.{none_some, same_way, some_same, start_is}
+
+-- ---- lists
+
+nil_cons : {A : Type 0} {x : A} {xs : List A} → [] ≡ x ∷ xs → ⊥
+nil_cons e = cc e
+
+first_same : {A : Type 0} {x y : A} {xs ys : List A} → x ∷ xs ≡ y ∷ ys → x ≡ y
+first_same e = cc e
+
+rest_same : {A : Type 0} {x y : A} {xs ys : List A} → x ∷ xs ≡ y ∷ ys → xs ≡ ys
+rest_same e = cc e
+
+no_rest : {A : Type 0} {x : A} (xs : List A) → [] ≡ xs ++ x ∷ [] → ⊥
+no_rest [] e = nil_cons e
+no_rest (y ∷ xs) e = nil_cons e
 
 -- ---- states on arrivals
 
@@ -56,6 +73,24 @@ module _ (place : Place) where
       let rest : has_place place (map (λ x. x.0) arrivals) ≡ false = else_false (same_place place a.0) (has_place place (map (λ x. x.0) arrivals)) e in
       left_out (same_place place a.0) a.1.state (states_at place arrivals) (then_false (same_place place a.0) (has_place place (map (λ x. x.0) arrivals)) e)
       ∙ none_there arrivals rest
+
+  -- one, where the place is the last of the ports, and none before it
+  pub last_there : (before : List Place) (arrivals : List (Place × Progress LinearTerm)) (P : Place → Progress LinearTerm → Type 0) (q : Progress LinearTerm)
+      → map (λ a. a.0) arrivals ≡ before ++ place ∷ [] → has_place place before ≡ false → LastIs P arrivals → ((p : Progress LinearTerm) → P place p → p ≡ q)
+      → states_at place arrivals ≡ q.state ∷ []
+  last_there [] [] P q e none last is = absurd (nil_cons e)
+  last_there (b ∷ before) [] P q e none last is = absurd (nil_cons e)
+  last_there [] (a ∷ []) P q e none last is =
+      let here : a.0 ≡ place = first_same e in
+      kept_at (same_place place a.0) a.1.state [] (is_same place a.0 (sym here))
+      ∙ ap (λ (p : Progress LinearTerm). p.state ∷ []) (is a.1 (subst (λ at. P at a.1) here last))
+  last_there (b ∷ before) (a ∷ []) P q e none last is = absurd (no_rest before (rest_same e))
+  last_there [] (a ∷ c ∷ arrivals) P q e none last is = absurd (nil_cons (sym (rest_same e)))
+  last_there (b ∷ before) (a ∷ c ∷ arrivals) P q e none last is =
+      let other : same_place place a.0 ≡ false =
+      ap (same_place place) (first_same e) ∙ then_false (same_place place b) (has_place place before) none in
+      left_out (same_place place a.0) a.1.state (states_at place (c ∷ arrivals)) other
+      ∙ last_there before (c ∷ arrivals) P q (rest_same e) (else_false (same_place place b) (has_place place before) none) last is
 
 -- ---- the state at the end
 
@@ -132,6 +167,20 @@ module _ (net : Network) (i : Entry) (hops : ℕ) where
     arrive_nowhere place none = λ way leads.
         let same = same_way net i hops run.decisions.now r.way way r.leads leads in
         sym (none_there place way.arrivals (sym (ap (has_place place) (r.places ∙ ap places_on same)) ∙ none))
+
+    -- where it ends as it arrives at the place
+    pub arrive_last : (place : Place) → StaysAt net place run.places.items → ArriveAt net i hops place run.decisions.now (run.state ∷ [])
+    arrive_last place stays = λ way leads.
+        let same = same_way net i hops run.decisions.now r.way way r.leads leads in
+        let there : states_at place r.way.arrivals ≡ r.progress.state ∷ [] =
+        last_there place stays.0.before r.way.arrivals (λ at p. IsBare net at → p ≡ r.progress) r.progress (sym r.places ∙ stays.0.is) stays.0.sooner
+        (over_as_it_arrives net i hops (explored net i hops) r.is run.decisions.now r.way r.leads r.progress run.how r.ended) (λ p h. h stays.1) in
+        ap (λ c. c ∷ []) (sym r.carries) ∙ (sym there ∙ ap (λ (w : SymRoute). states_at place w.arrivals) same)
+
+    pub own_states : {E : Type 0} (place : Place) → StaysAt net place run.places.items → (result : Result (Vec Symbolic Global) E)
+        → IfOk result (λ states. states.items ≡ run.state ∷ []) → IfOk result (λ states. ArriveAt net i hops place run.decisions.now states.items)
+    own_states place stays (Ok states) is = subst (ArriveAt net i hops place run.decisions.now) (sym is) (arrive_last place stays)
+    own_states place stays (Err error) is = tt
 
     ends_where : (place : Place) (field : Field) (states : List Symbolic) → states ≡ state_at_end run place
         → AreStatesOf net i hops (invariant place field) run.decisions.now states

@@ -1,8 +1,9 @@
 -- Paths as the code follows them, and the states of them that questions speak of.
-use Rattle.std.specs.Prelude.{ℕ, ◌≡◌, Bool, true, false, List, [], ◌∷◌, map, Option, None, Some, if◌then◌else◌}
+use Rattle.std.specs.Prelude.{ℕ, ◌≡◌, Bool, true, false, List, [], ◌∷◌, ◌++◌, map, Option, None, Some, if◌then◌else◌}
 use Rattle.std.specs.List.{AllByRecursion}
 use Rattle.lin_term.specs.Terms.{LinearTerm}
-use Rattle.net_check.specs.Network.{Network, Entry}
+use Rattle.sefl_syntax.specs.Trees.{no_code}
+use Rattle.net_check.specs.Network.{Network, Entry, code_at}
 use Rattle.sefl_meaning.specs.declared.walk.Decision.{Decision}
 use Rattle.sefl_meaning.specs.declared.walk.End.{End}
 use Rattle.sefl_meaning.specs.declared.walk.End.TheVariants.{Stopped, Delivered, Failed, Cut}
@@ -44,6 +45,20 @@ abbrev pub ends_with : Place → List Place → Bool
 ends_with place [] = false
 ends_with place (p ∷ []) = same_place place p
 ends_with place (p ∷ q ∷ places) = ends_with place (q ∷ places)
+
+-- the port is the last of these, and none before it is the port
+pub record ComesLast (place : Place) (places : List Place) : Type 0 where
+  pub before : List Place
+  pub is : places ≡ before ++ place ∷ []
+  pub sooner : has_place place before ≡ false
+
+-- the port has no code
+abbrev pub IsBare : Network → Place → Type 0
+IsBare net place = code_at net place.node place.side place.port ≡ no_code
+
+-- a run with these ports comes to the port once, last of all, and meets no code there
+abbrev pub StaysAt : Network → Place → List Place → Type 0
+StaysAt net place places = ComesLast place places × IsBare net place
 
 -- a run that ends so, with these ports, is delivered at this one
 abbrev pub delivered_at : End → Place → List Place → Bool

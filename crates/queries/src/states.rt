@@ -1,10 +1,11 @@
 //! The states of a path that questions speak of.
 
-ghost use Rattle.std.specs.Prelude.{◌≡◌, IfOk, option_map};
+ghost use Rattle.std.specs.Prelude.{◌≡◌, ◌∷◌, [], true, IfOk, option_map};
 ghost use Rattle.net_check.specs.Sound.{AreOfOneJob};
 ghost use Rattle.path_questions.specs.Deciding.{entry_of, net_of};
-ghost use Rattle.queries.specs.Paths.{ArriveAt, IsPathRun, delivered_at, end_of, has_place, noted_at, state_at_end};
+ghost use Rattle.queries.specs.Paths.{ArriveAt, ComesLast, IsBare, IsPathRun, StaysAt, delivered_at, end_of, has_place, noted_at, state_at_end};
 
+use cell_values::code_of;
 use lin_term::Term;
 use path_exec::FollowFault;
 use path_questions::Subject;
@@ -58,7 +59,44 @@ pub(crate) fn comes_to(places: &[Place], place: Place) -> bool
     false
 }
 
-/// The states on each arrival of a path at a port, which its run is followed for.
+/// Whether a path comes to the port once, and last of all.
+fn comes_last(places: &[Place], place: Place) -> bool
+    ensures { result ≡ true → ComesLast place places.now }
+{
+    match places.split_last() {
+        None => false,
+        Some((last, before)) => *last == place && !comes_to(before, place),
+    }
+}
+
+/// Whether the port has no code, so that what comes there is carried on as it is.
+fn is_bare(subject: &Subject<'_>, place: Place) -> bool
+    ensures { result ≡ true → IsBare (net_of subject.now) place }
+{
+    code_of(subject.net, place.node, place.side, place.port).is_empty()
+}
+
+/// Whether a path comes to the port once, last of all, and meets no code there: then it ends there as it arrives.
+fn stays_at(subject: &Subject<'_>, run: &PathRun<'_>, place: Place) -> bool
+    ensures { result ≡ true → StaysAt (net_of subject.now) place run.now.places.items }
+{
+    if !comes_last(&run.places, place) {
+        return false;
+    }
+    is_bare(subject, place)
+}
+
+/// The state of a path at its end.
+fn own_state(alloc: Global, run: &PathRun<'_>) -> Result<Vec<SymState>, NoMemory>
+    ensures { IfOk result (λ states. states.items ≡ run.now.state ∷ []) }
+{
+    let mut states = Vec::new(alloc);
+    states.push(run.state.fork()?)?;
+    Ok(states)
+}
+
+/// The states on each arrival of a path at a port. Where it ends there as it arrives, that is its state at the end; else its run is followed
+/// for them.
 pub(crate) fn states_at(
     alloc: Global,
     subject: &Subject<'_>,
@@ -70,10 +108,28 @@ pub(crate) fn states_at(
     ensures { IfOk result (λ states. ArriveAt (net_of subject.now) (entry_of subject.now) subject.now.hops place
         run.now.decisions.now states.items) }
 {
-    the_first_closed_decision_is_one::<Term, Formulas>();
     if !comes_to(&run.places, place) {
         return Ok(Vec::new(alloc));
     }
+    if stays_at(subject, run, place) {
+        return own_state(alloc, run);
+    }
+    followed_to(alloc, subject, run, place)
+}
+
+/// The states on each arrival of a path at a port, which its run is followed for from the beginning.
+fn followed_to(
+    alloc: Global,
+    subject: &Subject<'_>,
+    run: &PathRun<'_>,
+    place: Place,
+) -> Result<Vec<SymState>, NoMemory>
+    requires job { AreOfOneJob (net_of subject.now) (entry_of subject.now) }
+    requires path { IsPathRun (net_of subject.now) (entry_of subject.now) subject.now.hops run.now }
+    ensures { IfOk result (λ states. ArriveAt (net_of subject.now) (entry_of subject.now) subject.now.hops place
+        run.now.decisions.now states.items) }
+{
+    the_first_closed_decision_is_one::<Term, Formulas>();
     match arrivals(
         alloc,
         subject.net,
@@ -126,11 +182,10 @@ pub(crate) fn state_at_end(
 ) -> Result<Vec<SymState>, NoMemory>
     ensures { IfOk result (λ states. states.items ≡ state_at_end run.now place) }
 {
-    let mut states = Vec::new(alloc);
     if is_delivered_at(run, place) {
-        states.push(run.state.fork()?)?;
+        return own_state(alloc, run);
     }
-    Ok(states)
+    Ok(Vec::new(alloc))
 }
 
 /// How a run is over, where nothing waits.

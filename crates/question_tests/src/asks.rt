@@ -82,6 +82,32 @@ const ROWS: &[Row] = &[
             Wanted::Yes(None),
         ],
     },
+    // Two paths end at a port without code, each with the value that it has there.
+    Row {
+        job: r#"symnet 1; node a 1 -> 1 { in 0 { if global x:8 < 5 { set global x:8 = global x:8 + 1; } else { } forward 0; } } node b 1 -> 0 { } link a.0 -> b.0; inject a.0 { field global x:8; } ask reach in b.0 with global x:8 == 5; ask reach in b.0 with global x:8 == 0; ask visible global x:8 at in b.0;"#,
+        limit: 10_000,
+        answers: &[
+            Wanted::Yes(Some((0, &[4]))),
+            Wanted::No(None),
+            Wanted::No(Some((0, &[0]))),
+        ],
+    },
+    // The path ends at a port whose code changes the value.
+    Row {
+        job: r#"symnet 1; node a 1 -> 1 { in 0 { forward 0; } } node b 1 -> 0 { in 0 { set global x:8 = 3; } } link a.0 -> b.0; inject a.0 { field global x:8; } ask reach in b.0 with global x:8 == 4; ask visible global x:8 at in b.0;"#,
+        limit: 10_000,
+        answers: &[Wanted::Yes(Some((0, &[4]))), Wanted::Yes(None)],
+    },
+    // The path comes to each port again and again, and is cut at the one by which it entered.
+    Row {
+        job: r#"symnet 1; node a 1 -> 1 { in 0 { set global x:8 = global x:8 + 1; forward 0; } } link a.0 -> a.0; inject a.0 { field global x:8; } ask reach in a.0 with global x:8 == 0; ask reach out a.0 with global x:8 == 0; ask visible global x:8 at out a.0;"#,
+        limit: 10_000,
+        answers: &[
+            Wanted::Yes(Some((0, &[0]))),
+            Wanted::Yes(Some((0, &[255]))),
+            Wanted::No(Some((0, &[0]))),
+        ],
+    },
 ];
 
 fn is_hit(found: &Option<Hit>, wanted: &Shown) -> bool {
