@@ -4,7 +4,6 @@ use Rattle.sn_width.specs.declared.faults.LayoutFault.{LayoutFault}
 use Rattle.sn_width.specs.declared.ids.NodeId.{NodeId}
 use Rattle.lin_term.specs.Terms.{LinearTerm}
 use Rattle.path_formula.specs.Formulas.{FormulaTree}
-use Rattle.sefl_syntax.specs.declared.net.Side.{Side}
 use Rattle.sefl_syntax.specs.declared.net.Side.TheVariants.{Inward, Outward}
 use Rattle.sefl_syntax.specs.Trees.{CodeTree, no_code}
 use Rattle.net_check.specs.Network.{Network, Entry}
@@ -19,7 +18,7 @@ use Rattle.sefl_meaning.specs.Courses.{Progress, Course, ends, asks, course_code
 use Rattle.sefl_meaning.specs.Injected.{injected, unknown_count, unknown_widths}
 use Rattle.sefl_meaning.specs.Runs.{Exit, off, go, forked, failed, starting}
 use Rattle.sefl_meaning.specs.Routes.{Route, arriving, by_number, by_truth, copy_route, number_of, route, truth_of}
-use Rattle.sefl_meaning.specs.Start.{progress_of, start_from, start_of, tests_in, tree_from}
+use Rattle.sefl_meaning.specs.Start.{progress_of, start_from, tests_in, tree_from}
 use Rattle.sefl_meaning.specs.Trees.{Tree, over, arrives, tests, splits, Copies, no_copies, copy_and, Onward, copies, crossed, enter, leave, passed, port_course, then_tree}
 use Rattle.term_values.specs.TermValues.{terms}
 use Rattle.exact_records.specs.Packets.{IsExplored}

@@ -36,9 +36,9 @@ first_same e = cc e
 rest_same : {A : Type 0} {x y : A} {xs ys : List A} → x ∷ xs ≡ y ∷ ys → xs ≡ ys
 rest_same e = cc e
 
-no_rest : {A : Type 0} {x : A} (xs : List A) → [] ≡ xs ++ x ∷ [] → ⊥
-no_rest [] e = nil_cons e
-no_rest (y ∷ xs) e = nil_cons e
+no_rest : {A : Type 0} (xs : List A) (x : A) → [] ≡ xs ++ x ∷ [] → ⊥
+no_rest [] x e = nil_cons e
+no_rest (y ∷ xs) x e = nil_cons e
 
 -- ---- states on arrivals
 
@@ -84,7 +84,7 @@ module _ (place : Place) where
       let here : a.0 ≡ place = first_same e in
       kept_at (same_place place a.0) a.1.state [] (is_same place a.0 (sym here))
       ∙ ap (λ (p : Progress LinearTerm). p.state ∷ []) (is a.1 (subst (λ at. P at a.1) here last))
-  last_there (b ∷ before) (a ∷ []) P q e none last is = absurd (no_rest before (rest_same e))
+  last_there (b ∷ before) (a ∷ []) P q e none last is = absurd (no_rest before place (rest_same e))
   last_there [] (a ∷ c ∷ arrivals) P q e none last is = absurd (nil_cons (sym (rest_same e)))
   last_there (b ∷ before) (a ∷ c ∷ arrivals) P q e none last is =
       let other : same_place place a.0 ≡ false =
