@@ -49,10 +49,14 @@ def lanes():
     return 1
 
 
+def cache():
+    """The folder of the user's cache for all builds."""
+    return Path(os.environ.get("XDG_CACHE_HOME") or Path.home() / ".cache").absolute() / "symnet-build"
+
+
 def room_of(top):
     """The folder for the copy of this checkout."""
-    cache = Path(os.environ.get("XDG_CACHE_HOME") or Path.home() / ".cache")
-    return cache / "symnet-build" / hashlib.sha256(str(top).encode()).hexdigest()[:16]
+    return cache() / hashlib.sha256(str(top).encode()).hexdigest()[:16]
 
 
 def copy(top, to, below):
@@ -183,7 +187,7 @@ def build(crate, room, lock, product="program", make=take):
     below = build_plan.closure(build_plan.crates((TOP / "crates.txt").read_text()), crate)
     progress = build_plan.Progress(below, build_plan.measured(build_plan.SECONDS.read_text()), lanes())
     say(f"building the {product}: its {len(below)} crates are proved, {progress.lanes} at a time. What is proved is kept, so a build that")
-    say("is interrupted goes on where it was. `symnet --unproved WORDS` answers in minutes, without any proof.")
+    say("is interrupted goes on where it was.")
     copy(TOP, room / "repo", below)
     with open(room / "log", "w+", encoding="utf-8") as log:
         status, most = gate(room / "repo", log, progress, lock)
