@@ -21,7 +21,7 @@ from pathlib import Path
 
 import build_plan
 import build_program
-from kit_module import Stop, as_text, fetch_proved, keep_unproved, kit, run, without_checks, without_marks
+from kit_module import Stop, as_text, fetch_proved, keep_unproved, kit, run, without_checks
 
 TOP = Path(__file__).resolve().parent.parent
 CRATE = TOP / "crates/symnet_c"
@@ -97,7 +97,7 @@ def unproved():
         say(f"the module is made, after {time.monotonic() - started:.0f} s")
         as_text(rattle, module, text)
         with open(text, errors="surrogateescape") as lines, open(ready, "w", errors="surrogateescape") as out:
-            out.writelines(for_callers(without_marks(without_checks(lines))))
+            out.writelines(for_callers(without_checks(lines)))
         words = [rattle / "toolchain/bin/clang", "--target=x86_64-unknown-linux-gnu", f"--sysroot={rattle}/toolchain", "--no-default-config", "-march=x86-64"]
         words += ["-ffunction-sections", "-fdata-sections", "-fPIC", "-O1", "-mllvm", "-trap-unreachable"]
         run([*words, "-c", "-x", "ir", ready, "-o", code], "compiling")

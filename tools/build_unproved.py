@@ -7,7 +7,8 @@ Programs stand in a folder of the user's cache, each under a sum of its sources,
 is disturbed. One is compiled at a time, of a copy of the sources, and moved to its place once it answers. Nothing of it is proved.
 
 How: `rt try` compiles a program with no proof, and with checks before each operation that may go wrong. This compiles in the same way as far as the module that
-goes to the kit's clang, takes the checks out, and compiles and links the module as a proved program is compiled and linked.
+goes to the kit's clang, takes the checks of memory out, and compiles and links the module as a proved program is compiled and linked. The other checks stay: a sum
+past its type, an index out of range, a failed unwrap ends the program (SIGILL).
 """
 
 import contextlib
@@ -26,7 +27,7 @@ from typing import Iterator, List, TextIO
 
 import build_program
 from checkout import TOP
-from kit_module import Stop, as_text, keep_unproved, kit, run, without_checks, without_marks
+from kit_module import Stop, as_text, keep_unproved, kit, run, without_memory_checks
 
 CRATE = "symnet_cli"
 # What the program is compiled by, which counts as its sources do.
@@ -79,7 +80,7 @@ def compiled(repo: Path, work: Path) -> Path:
     keep_unproved(rattle, repo / "crates" / CRATE, "src/main.rt", work, module)
     as_text(rattle, module, text)
     with open(text, errors="surrogateescape") as lines, open(ready, "w", errors="surrogateescape") as out:
-        out.writelines(without_marks(without_checks(lines)))
+        out.writelines(without_memory_checks(lines))
     tools = rattle / "toolchain"
     words = [tools / "bin/clang", "--target=x86_64-unknown-linux-gnu", f"--sysroot={tools}", "--no-default-config", "-march=x86-64"]
     words += ["-ffunction-sections", "-fdata-sections", "-fPIE", "-O2", "-mllvm", "-trap-unreachable", "-mllvm", "-no-trap-after-noreturn"]
