@@ -105,7 +105,7 @@ def shown(started: float) -> Iterator[None]:
     def show() -> None:
         while not is_done.is_set():
             now = time.monotonic()
-            line.show(f"symnet: compiling the program without its proofs: {int(now - started) // 60} of about {MINUTES} minutes gone", now)
+            line.show(f"symnet: compiling the program without its proofs; {int(now - started) // 60} minutes gone", now)
             is_done.wait(build_program.EVERY)
 
     shower = threading.Thread(target=show, daemon=True)
