@@ -179,7 +179,7 @@ def main(words: List[str]) -> int:
         signal.signal(it, build_program.interrupted)
     try:
         print(program())
-    except (Stop, OSError) as reason:
+    except (Stop, OSError, subprocess.SubprocessError) as reason:
         say(f"the program could not be compiled: {reason}")
         return 1
     return 0
