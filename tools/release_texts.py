@@ -62,6 +62,15 @@ def summaries() -> Dict[str, str]:
     return found
 
 
+def first_words(of: Usage) -> Dict[str, str]:
+    """The first word of each command, with what it writes."""
+    told, found = summaries(), {}
+    for form in of.forms:
+        texts = [told[" ".join(it.name)] for it in of.forms if it.name[0] == form.name[0]]
+        found[form.name[0]] = "; ".join(dict.fromkeys(texts))
+    return found
+
+
 def statuses() -> List[List[str]]:
     """The number of each status, and where it comes, without the words of its text."""
     return [[cells[0], re.sub(r"; [A-Z]+ .*", "", plain(cells[2]))] for cells in rows((TOP / "docs/statuses.md").read_text(), "The statuses")]
@@ -132,10 +141,6 @@ def kinds(of: Usage) -> Dict[str, List[str]]:
     return found
 
 
-def first_words(of: Usage) -> List[str]:
-    return list(dict.fromkeys(form.name[0] for form in of.forms))
-
-
 def bash(of: Usage) -> str:
     """The completion of bash. It splits `--hops=5` at the sign."""
     lines = ["# Completion of symnet for bash.", "_symnet() {", "    local word=${COMP_WORDS[COMP_CWORD]} flag=${COMP_WORDS[COMP_CWORD - 1]} command=${COMP_WORDS[1]} given=",
@@ -183,10 +188,9 @@ def zsh_words(form: Form) -> List[str]:
 
 def zsh(of: Usage) -> str:
     """The completion of zsh."""
-    told = summaries()
     lines = ["#compdef symnet", "_symnet() {", "    local command=$words[2]", "    local -a names", "    if (( CURRENT == 2 )); then", "        names=("]
-    for name in first_words(of):
-        lines.append(f"            {quoted(f'{name}:{bracketed(told.get(name, TITLE))}')}")
+    for name, told in first_words(of).items():
+        lines.append(f"            {quoted(f'{name}:{bracketed(told)}')}")
     lines += ["        )", "        _describe command names", "        return", "    fi"]
     for name, words in kinds(of).items():
         lines += [f"    if [[ $command == {name} ]]; then", "        if (( CURRENT == 3 )); then", f"            compadd {' '.join(words)}", "            return", "        fi",
@@ -200,10 +204,9 @@ def zsh(of: Usage) -> str:
 
 def fish(of: Usage) -> str:
     """The completion of fish."""
-    told = summaries()
     lines = ["# Completion of symnet for fish.", "complete -c symnet -f", "complete -c symnet -n __fish_use_subcommand -l version -d 'the version and the commit'"]
-    for name in first_words(of):
-        lines.append(f"complete -c symnet -n __fish_use_subcommand -a {name} -d {fish_quoted(told.get(name, TITLE))}")
+    for name, told in first_words(of).items():
+        lines.append(f"complete -c symnet -n __fish_use_subcommand -a {name} -d {fish_quoted(told)}")
     for name, words in kinds(of).items():
         lines.append(f"complete -c symnet -n '__fish_seen_subcommand_from {name}; and not __fish_seen_subcommand_from {' '.join(words)}' -a {fish_quoted(' '.join(words))}")
     for form in of.forms:
