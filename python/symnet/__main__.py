@@ -9,6 +9,7 @@ import sys
 from typing import Dict, List, Optional
 
 from .library import Ended, NotBuilt, call
+from .plain import plain
 
 USAGE, NO_FILE, CANNOT_READ, CANNOT_WRITE = 2, 3, 4, 5
 # One byte more than the largest file that the program reads, that of a report: what is longer is refused in any case.
@@ -38,7 +39,7 @@ def run(words: List[bytes]) -> Ended:
         except FileNotFoundError:
             return ended
         except OSError as error:
-            return Ended(CANNOT_READ, b"", f"symnet: cannot read {os.fsdecode(name)}\n{error.strerror}\n")
+            return Ended(CANNOT_READ, b"", f"symnet: cannot read {plain(os.fsdecode(name))}\n{error.strerror}\n")
         except ValueError:
             return ended
 

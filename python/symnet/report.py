@@ -12,6 +12,7 @@ digits; a value above 2^64 - 1, which is written as a text of digits, becomes a 
     symnet rules border.acl | tools/symnet_report.py - border.acl
 """
 
+import io
 import json
 import signal
 import sys
@@ -23,6 +24,7 @@ from .answers import (NotAnswer, Written, asked_lines, columns, compared_lines, 
 from .causes import ALL_CASES, COUPLED, OUTSIDE, USUAL_CASES, too_many, undecided_lines
 from .inputs import Job, NotInput, Rule, is_list, read_job, read_list
 from .picture import Pictured, Texts
+from .plain import laid_out, plain
 
 FAULTS = {
     1: "no such tag", 2: "address out of range", 3: "no field at the address", 4: "field of another width",
@@ -197,7 +199,7 @@ def table(report: Report, with_pruned: bool = False, job: Optional[Job] = None) 
             lines.append((str(number), "unexplored", " ".join(map(str, record.decisions)), "", ""))
         elif with_pruned:
             lines.append((str(number), "pruned", " ".join(map(str, record.decisions)), "", ""))
-    return "\n".join(columns([("record", "end", "decisions", "places", "packet"), *lines]))
+    return laid_out(columns([("record", "end", "decisions", "places", "packet"), *lines]))
 
 
 def _packet(path: Path, job: Optional[Job]) -> str:
@@ -278,22 +280,27 @@ class Inputs:
         return None if report is None else lambda numbers: open_lines(report, numbers, job)
 
 
-def shown(text: Union[str, bytes], inputs: Inputs, with_pruned: bool = False) -> str:
-    """What is written, in words; NotReport or NotAnswer where it is nothing that symnet writes, or not of these inputs."""
+def shown_lines(text: Union[str, bytes], inputs: Inputs, with_pruned: bool = False) -> List[str]:
+    """What is written, in words, line by line; NotReport or NotAnswer where it is nothing that symnet writes, or not of these inputs."""
     whole = read_written(text)
     if "answers" in whole:
-        return "\n".join(asked_lines(read_asked(whole), inputs.job, inputs.why()))
+        return asked_lines(read_asked(whole), inputs.job, inputs.why())
     if "rules" in whole:
-        return "\n".join(rules_lines(read_rules(whole, inputs.list_of(0)), inputs.list_of(0)))
+        return rules_lines(read_rules(whole, inputs.list_of(0)), inputs.list_of(0))
     if "loops" in whole:
-        return "\n".join(loops_lines(read_loops(whole), inputs.cut_paths(), inputs.job))
+        return loops_lines(read_loops(whole), inputs.cut_paths(), inputs.job)
     if is_of_lists(whole):
         left, right = inputs.list_of(0), inputs.list_of(1)
-        return "\n".join(compared_rules_lines(read_compared_rules(whole, left, right), left, right))
+        return compared_rules_lines(read_compared_rules(whole, left, right), left, right)
     if "answer" in whole:
-        return "\n".join(compared_lines(read_compared(whole), inputs.job))
+        return compared_lines(read_compared(whole), inputs.job)
     report = _report(whole)
-    return "\n".join([table(report, with_pruned, inputs.job), *undecided(report, inputs.job)])
+    return [*table(report, with_pruned, inputs.job).split("\n"), *undecided(report, inputs.job)]
+
+
+def shown(text: Union[str, bytes], inputs: Inputs, with_pruned: bool = False) -> str:
+    """What is written, in words, as it may be printed."""
+    return laid_out(shown_lines(text, inputs, with_pruned))
 
 
 def _bytes_of(name: str) -> bytes:
@@ -301,6 +308,13 @@ def _bytes_of(name: str) -> bytes:
         return sys.stdin.buffer.read()
     with open(name, "rb") as file:
         return file.read()
+
+
+def _print(text: str) -> None:
+    """Prints the text, with a question mark for what the encoding of the output does not have."""
+    if isinstance(sys.stdout, io.TextIOWrapper):
+        sys.stdout.reconfigure(errors="replace")
+    print(text)
 
 
 def main(words: List[str]) -> int:
@@ -314,12 +328,12 @@ def main(words: List[str]) -> int:
         for name in names[1:]:
             inputs.add(name, _bytes_of(name))
         name = names[0]
-        print(shown(_bytes_of(name), inputs, "--pruned" in words))
+        _print(shown(_bytes_of(name), inputs, "--pruned" in words))
     except OSError as error:
-        print(f"symnet_report: {error}", file=sys.stderr)
+        print(plain(f"symnet_report: {error}"), file=sys.stderr)
         return 3
     except (NotReport, NotAnswer, NotInput) as error:
-        print(f"symnet_report: {name}: {error}", file=sys.stderr)
+        print(plain(f"symnet_report: {name}: {error}"), file=sys.stderr)
         return 14
     return 0
 
