@@ -1,15 +1,20 @@
-"""Tests of the reader for python/test: that it prints nothing which a terminal could read as a command."""
+"""Tests of the reader for python/test: that it prints nothing which a terminal could read as a command, and that what has a wrong shape gives a message."""
 
 import io
+import json
+import random
 import subprocess
 import sys
 import tempfile
 from pathlib import Path
 
-from symnet import report
+from symnet import answers, report
 from symnet.plain import plain
 
 TOP = Path(__file__).resolve().parent.parent
+sys.path.append(str(TOP / "viewer"))
+import made_files  # noqa: E402
+
 # Each character that may not reach a terminal, by its number, and some beside them that may.
 UNSEEN = [*range(0x20), *range(0x7f, 0xa0), 0x61c, 0x200e, 0x200f, *range(0x2028, 0x202f), *range(0x2066, 0x206a), 0xd800, 0xdfff]
 SEEN = "a~\u00a0\u00e9\u200d\u2030\u2065\u206a\ud7ff\ue000\U0001f600"
@@ -36,18 +41,29 @@ def is_plain(text):
     return all(plain(line) == line for line in text.decode().split("\n"))
 
 
+def path(text, decision='"then"', place='"in a.0"', verdict='{"sat":[1]}'):
+    """A path with a text wherever one may stand."""
+    fields = f'{{"heads":[],"metas":[[{text},{text},[]]],"tags":[[{text},1]]}}'
+    return f'{{"decisions":[{decision}],"end":{{"fault":9,"site":1,"text":{text}}},"fields":{fields},"kind":"path","places":[{place}],"verdict":{verdict}}}'
+
+
+def listed(*records):
+    return f'{{"hops":1,"limit":1,"records":[{",".join(records)}],"refuted":0,"state":"partial","symnet":1}}'
+
+
 # What strangers write: of each its bytes and the files beside it, all of them with escapes.
 def forged():
-    message = report.json.dumps(ESCAPES + "\n")
-    path = f'{{"decisions":[{message}],"end":{{"fault":9,"site":1,"text":{message}}},"fields":{{"heads":[],"metas":[[{message},{message},[]]],"tags":[[{message},1]]}},"kind":"path","places":[{message}],"verdict":{{"sat":[1]}}}}'
-    undecided = path.replace('{"sat":[1]}', f'{{"undecided":{{"cause":{message}}}}}')
-    listed = f'{{"hops":1,"limit":1,"records":[{path},{undecided},{{"decisions":[{message}],"kind":"unexplored"}}],"refuted":0,"state":"partial","symnet":1}}'
+    message = json.dumps(ESCAPES + "\n")
     job = f"symnet 2; node a 1 -> 1 {{ }} inject a.0 {{ field head 0:8; }}\n// {ESCAPES.replace(chr(0x2028), '')}\nask reach in a.0;"
-    yield "a report", listed, {}
-    yield "a report with a job", listed, {"job.sefl": job}
+    yield "a report", listed(path(message)), {}
+    yield "a report with a job", listed(path(message)), {"job.sefl": job}
+    yield "a decision", listed(path('""', decision=message)), {}
+    yield "a port", listed(path('""', place=message)), {}
+    yield "a cause", listed(path('""', verdict=f'{{"undecided":{{"cause":{message}}}}}')), {}
+    yield "a value", listed(path('""', verdict=f'{{"sat":[{message}]}}')), {}
     yield "a comment of a job", '{"answers":[{"answer":"yes","number":0,"values":[1]}],"symnet":1}', {"job.sefl": job}
     yield "an answer that is none", f'{{"answers":[{{"answer":{message}}}],"symnet":1}}', {}
-    yield "a kind that is none", listed.replace('"kind":"path"', f'"kind":{message}'), {}
+    yield "a kind that is none", f'{{"symnet":1,"records":[{{"kind":{message}}}]}}', {}
     yield "a cause of a visit", f'{{"loops":[],"open":[{{"number":3,"visits":[{{"cause":{message},"place":4,"why":"unknown"}}]}}],"symnet":1}}', {}
     yield "a key that is missing", f'{{"loops":[{{{message}:1}}],"open":[],"symnet":1}}', {}
     yield "no JSON", ESCAPES, {}
@@ -69,8 +85,74 @@ def check_plain(expect):
             expect(f"{what}: what is printed", is_plain(printed) and is_plain(said), True)
     status, printed, said = ran(f"absent{ESCAPES}.json")
     expect("a file that is not there", (status, is_plain(said), b"absent" in said), (3, True, True))
-    answer = b'{"hops":1,"limit":1,"records":[{"decisions":[],"end":{"fault":9,"site":1,"text":"caf\\u00e9 \\ud83d"},"fields":{"heads":[],"metas":[],"tags":[]},"kind":"path","places":["in a.0"],"verdict":{"sat":[]}}],"refuted":0,"state":"done","symnet":1}'
+    answer = listed(path('"caf\\u00e9 \\ud83d"')).encode()
     expect("a terminal that knows no such letter", ran("-", given=answer, encoding="ascii")[0], 0)
+
+
+# ---------------------------------------------------------------- wrong shapes
+
+
+# What may stand anywhere in place of what should: of each kind of JSON, and past each bound.
+ODD = (None, True, -1, 0, 7, 2**64, 10**45, 1.5, float("inf"), float("nan"), "", "x", "9" * 50, "\ud800", [], [[]], [0], {}, {"fault": 9}, {"a": []}, "then", "in a.0", 9)
+
+
+def places_of(value, way=()):
+    """The way to each part of a value of JSON."""
+    yield way
+    for key, part in value.items() if isinstance(value, dict) else enumerate(value) if isinstance(value, list) else ():
+        yield from places_of(part, (*way, key))
+
+
+def with_odd(value, way, odd):
+    """The value with another one at the end of a way; without the part, where that is no value."""
+    if not way:
+        return odd
+    made = dict(value) if isinstance(value, dict) else list(value)
+    if odd is ODD and len(way) == 1:
+        del made[way[0]]
+    else:
+        made[way[0]] = with_odd(value[way[0]], way[1:], odd)
+    return made
+
+
+def written():
+    """What the program writes, with the files that it is of: made by hand, and of the examples."""
+    ring, listed_ring = ["ring.sefl"], ["ring.json"]
+    for text, names in ((made_files.RING_REPORT, ring), (made_files.RING_LOOPS, listed_ring), (made_files.RING_VISITS, ring), (made_files.RULES, ["list.acl"]), (made_files.RULES, []), (made_files.LISTS_DIFFER, ["list.acl"]),
+                        (made_files.LISTS_ARE_SAME, []), (made_files.OTHER, []), (made_files.SUMS_REPORT, ["sums.sefl"]), (made_files.SUMS_UNKNOWN, ["sums.sefl", "sums.json"]), (made_files.SPLITS, []), (made_files.WALK_AFTER, []),
+                        ((TOP / "examples/ttl.json").read_text(), []), ('{"answer":"unknown","left":[1],"right":[],"symnet":1}', []), ((TOP / "examples/branch-office/office.answers").read_text(), ["office.sefl"])):
+        yield json.loads(text), names
+
+
+def files_named(names):
+    texts = {"ring.sefl": made_files.RING, "ring.json": made_files.RING_REPORT, "list.acl": made_files.LIST, "sums.sefl": made_files.SUMS, "sums.json": made_files.SUMS_REPORT,
+             "office.sefl": (TOP / "examples/branch-office/office.sefl").read_text()}
+    inputs = report.Inputs()
+    for name in names:
+        inputs.add(name, texts[name].encode())
+    return inputs
+
+
+def check_shapes(expect):
+    """Each part of what the program writes stands aside for other values: what comes of it is words or a message, and nothing else."""
+    draw, count = random.Random(7), 0
+    for whole, names in written():
+        inputs, ways = files_named(names), list(places_of(whole))
+        for way in ways if len(ways) < 60 else draw.sample(ways, 60):
+            for odd in (ODD, *ODD):
+                if not way and odd is ODD:
+                    continue
+                text = json.dumps(with_odd(whole, way, odd))
+                count += 1
+                for with_pruned in (False, True):
+                    try:
+                        report.shown(text, inputs, with_pruned)
+                    except (report.NotReport, answers.NotAnswer) as error:
+                        if len(str(error)) > 300:
+                            expect(f"{text[:200]}: a long message", len(str(error)), 300)
+                    except Exception as error:  # noqa: BLE001
+                        expect(f"{text[:300]} at {way}", repr(error), "a message")
+    expect(f"{count} odd values", count > 10000, True)
 
 
 def check_program(expect):
@@ -81,4 +163,5 @@ def check_program(expect):
 
 def check(expect):
     check_plain(expect)
+    check_shapes(expect)
     check_program(expect)

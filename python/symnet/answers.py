@@ -1,16 +1,13 @@
 """Reads the answers of `symnet ask`, `rules`, `loops` and `compare`, and shows them in words, with names for fields and values as people write them."""
 
 from dataclasses import dataclass, field
-from typing import Any, Callable, Dict, List, Optional, Sequence, Tuple, TypeVar
+from typing import Any, Callable, Dict, List, Optional, Sequence, Tuple
 
 from .causes import HINT, visit_cause
 from .fields import code_text, kind_of, name_of, range_text, value_text
 from .inputs import LIST_FIELDS, Job, Ranges, Rule, has_packet, has_part
 from .picture import Pictured, Texts
-
-Made = TypeVar("Made")
-# An object of JSON.
-Written = Dict[str, Any]
+from .shape import Made, Misshaped, Written, a_count, a_list, a_text, a_value, an_object, member, named, one_of, some
 
 
 class NotAnswer(Exception):
@@ -101,105 +98,84 @@ class ComparedRules:
     covers: int = 0
 
 
-def _count(value: object) -> int:
-    if isinstance(value, int) and not isinstance(value, bool) and value >= 0:
-        return value
-    raise NotAnswer(f"{value!r} is no count")
-
-
-def _counts(values: object) -> Tuple[int, ...]:
-    if not isinstance(values, list):
-        raise NotAnswer(f"{values!r} is no list of counts")
-    return tuple(_count(value) for value in values)
-
-
-def _values(values: object) -> Tuple[int, ...]:
-    """Values of a packet: numbers, and past 2^64 - 1 texts of their digits."""
-    if not isinstance(values, list):
-        raise NotAnswer(f"{values!r} is no list of values")
-    return tuple(int(value) if isinstance(value, str) and value.isdecimal() else _count(value) for value in values)
-
-
-def _asked(answer: Written) -> Answer:
-    said = answer["answer"]
+def _asked(value: object) -> Answer:
+    answer = an_object(value)
+    said = one_of(member(answer, "answer"), ("yes", "no", "unknown"))
     if said == "unknown":
-        return Answer(said, open=_counts(answer["numbers"]))
-    if said not in ("yes", "no"):
-        raise NotAnswer(f"{said!r} is none of yes, no and unknown")
-    return Answer(said, _count(answer["number"]), _values(answer["values"])) if "number" in answer else Answer(said)
+        return Answer(said, open=some(a_count, member(answer, "numbers")))
+    return Answer(said, a_count(answer["number"]), some(a_value, member(answer, "values"))) if "number" in answer else Answer(said)
 
 
 def read_asked(whole: Written) -> List[Answer]:
     """The answers of `ask`, one for each question."""
-    return [_each("answer", number, _asked, answer) for number, answer in enumerate(_list(whole["answers"]))]
+    return [_numbered("answer", number, _asked, answer) for number, answer in enumerate(_listed(whole, "answers"))]
 
 
-def _visit(visit: Written) -> Visit:
-    place, why = _count(visit["place"]), visit["why"]
-    if why in ("choice", "layout"):
-        return Visit(place, why)
+def _visit(value: object) -> Visit:
+    visit = an_object(value)
+    place, why = a_count(member(visit, "place")), one_of(member(visit, "why"), ("choice", "layout", "cell", "unknown"))
     if why == "cell":
-        return Visit(place, why, values=_values(visit["values"]))
-    if why == "unknown" and isinstance(visit["cause"], str):
-        return Visit(place, why, cause=visit["cause"])
-    raise NotAnswer(f"{why!r} is none of choice, layout, cell and unknown")
+        return Visit(place, why, values=some(a_value, member(visit, "values")))
+    return Visit(place, why, cause=a_text(member(visit, "cause"))) if why == "unknown" else Visit(place, why)
 
 
 def _open(path: object) -> Tuple[int, Tuple[Visit, ...]]:
     """A path without a loop: its number alone, or with its visits."""
     if isinstance(path, dict):
-        return _count(path["number"]), tuple(_visit(visit) for visit in _list(path["visits"]))
-    return _count(path), ()
+        return a_count(member(path, "number")), some(_visit, member(path, "visits"))
+    return a_count(path), ()
+
+
+def _loop(value: object) -> Tuple[int, int]:
+    loop = an_object(value)
+    return a_count(member(loop, "number")), a_count(member(loop, "first"))
 
 
 def read_loops(whole: Written) -> Loops:
     """The answer of `loops`."""
     try:
-        first = {_count(loop["number"]): _count(loop["first"]) for loop in _list(whole["loops"])}
-        return Loops(first, dict(_open(path) for path in _list(whole["open"])))
-    except (KeyError, TypeError, NotAnswer) as error:
-        raise NotAnswer(f"the answer of loops has not its form: {error!r}") from None
+        return Loops(dict(some(_loop, member(whole, "loops"))), dict(some(_open, member(whole, "open"))))
+    except Misshaped as error:
+        raise NotAnswer(f"the answer of loops has not its form: {error}") from None
 
 
 def read_compared(whole: Written) -> Compared:
     """The answer of `compare`."""
-    said = whole["answer"]
     try:
-        if said in ("same", "partial"):
-            return Compared(said)
+        said = one_of(member(whole, "answer"), ("same", "other", "unknown", "partial"))
         if said == "unknown":
-            return Compared(said, left=_counts(whole["left"]), right=_counts(whole["right"]))
-        if said == "other" and whole["side"] in ("left", "right"):
-            return Compared(said, whole["side"], _count(whole["number"]), _values(whole["values"]))
-    except KeyError as error:
-        raise NotAnswer(f"the answer of compare has no {error}") from None
-    raise NotAnswer("the answer of compare is none of same, other, unknown and partial")
+            return Compared(said, left=some(a_count, member(whole, "left")), right=some(a_count, member(whole, "right")))
+        if said == "other":
+            side = one_of(member(whole, "side"), ("left", "right"))
+            return Compared(said, side, a_count(member(whole, "number")), some(a_value, member(whole, "values")))
+        return Compared(said)
+    except Misshaped as error:
+        raise NotAnswer(f"the answer of compare has not its form: {error}") from None
 
 
 def read_rules(whole: Written, rules: Optional[Sequence[Rule]] = None) -> List[Fate]:
     """The answer of `rules`; with the filter list, if it is given, NotAnswer where the answer is of another list."""
-    fates = _list(whole["rules"])
+    fates = _listed(whole, "rules")
     if rules is not None and len(rules) != len(fates):
         raise NotAnswer(f"the answer has {len(fates)} rules, and the filter list {len(rules)}")
-    return [_each("rule", number, _fate, fate, number, rules) for number, fate in enumerate(fates)]
+    return [_numbered("rule", number, lambda fate, at=number: _fate(an_object(fate), at, rules), fate) for number, fate in enumerate(fates)]
 
 
 def _list_packet(values: object) -> Tuple[int, ...]:
     """The five values of a packet that filter lists read."""
-    packet = _counts(values)
+    packet = some(a_count, values)
     if len(packet) != len(LIST_FIELDS):
         raise NotAnswer(f"its packet has {len(packet)} values")
     for value, (name, _, greatest) in zip(packet, LIST_FIELDS):
         if value > greatest:
-            raise NotAnswer(f"{value} is no {name}")
+            raise NotAnswer(f"{named(value)} is no {name}")
     return packet
 
 
-def _list_side(side: Written, values: Tuple[int, ...], rules: Optional[Sequence[Rule]]) -> ListSide:
-    action, rule = side["action"], side["rule"]
-    if action not in ("permit", "deny"):
-        raise NotAnswer(f"{action!r} is neither permit nor deny")
-    number = None if rule is None else _count(rule)
+def _list_side(value: object, values: Tuple[int, ...], rules: Optional[Sequence[Rule]]) -> ListSide:
+    side = an_object(value)
+    action, rule = one_of(member(side, "action"), ("permit", "deny")), member(side, "rule")
+    number = None if rule is None else a_count(rule)
     if rules is not None and next((at for at, it in enumerate(rules) if has_packet(it.ranges, values)), None) != number:
         raise NotAnswer("the answer is of another filter list: in this one the rule does not decide the packet that is shown")
     return ListSide(action == "permit", number)
@@ -207,16 +183,14 @@ def _list_side(side: Written, values: Tuple[int, ...], rules: Optional[Sequence[
 
 def read_compared_rules(whole: Written, left: Optional[Sequence[Rule]] = None, right: Optional[Sequence[Rule]] = None) -> ComparedRules:
     """The answer of `rules` on two filter lists; with these, if they are given, NotAnswer where the answer is of others. Covers are counted only."""
-    said = whole.get("answer")
     try:
+        said = one_of(member(whole, "answer"), ("same", "other"))
         if said == "same":
-            return ComparedRules(said, covers=len(_list(whole["covers"])))
-        if said == "other":
-            values = _list_packet(whole["values"])
-            return ComparedRules(said, values, _list_side(whole["left"], values, left), _list_side(whole["right"], values, right))
-    except (KeyError, TypeError) as error:
-        raise NotAnswer(f"the answer of rules has not the form of one: {error!r}") from None
-    raise NotAnswer("the answer of rules on two lists is neither same nor other")
+            return ComparedRules(said, covers=len(a_list(member(whole, "covers"))))
+        values = _list_packet(member(whole, "values"))
+        return ComparedRules(said, values, _list_side(member(whole, "left"), values, left), _list_side(member(whole, "right"), values, right))
+    except Misshaped as error:
+        raise NotAnswer(f"the answer of rules on two lists has not its form: {error}") from None
 
 
 def is_of_lists(whole: Written) -> bool:
@@ -225,15 +199,13 @@ def is_of_lists(whole: Written) -> bool:
 
 
 def _fate(fate: Written, number: int, rules: Optional[Sequence[Rule]]) -> Fate:
-    if fate["rule"] == "decides":
-        values = _list_packet(fate["values"])
+    if one_of(member(fate, "rule"), ("decides", "hidden")) == "decides":
+        values = _list_packet(member(fate, "values"))
         if rules is not None and next((at for at, rule in enumerate(rules) if has_packet(rule.ranges, values)), None) != number:
             raise NotAnswer("the answer is of another filter list: in this one the rule does not decide the packet that is shown for it")
         return Fate(values)
-    if fate["rule"] != "hidden":
-        raise NotAnswer("it neither decides a packet nor is hidden")
     whole = rules[number].ranges if rules is not None else tuple((0, greatest) for _, _, greatest in LIST_FIELDS)
-    parts = _parts(_list(fate["cover"]), whole, number)
+    parts = _parts(a_list(member(fate, "cover")), whole, number)
     for part in parts:
         if rules is not None and not has_part(rules[part.rule].ranges, part.ranges):
             raise NotAnswer(f"the answer is of another filter list: in this one rule {part.rule} does not hide what its cover says")
@@ -249,7 +221,7 @@ def _parts(cover: List[Any], whole: Ranges, number: int) -> Tuple[Part, ...]:
         part = left.pop()
         if not isinstance(step, list) or not step:
             raise NotAnswer("a step of its cover is no list")
-        kind, numbers = step[0], _counts(step[1:])
+        kind, numbers = step[0], some(a_count, step[1:])
         if kind == "inside" and len(numbers) == 1:
             if numbers[0] >= number:
                 raise NotAnswer(f"its cover names rule {numbers[0]}, which is no earlier one")
@@ -271,20 +243,19 @@ def _side(part: Ranges, field: int, low: int, high: int) -> Ranges:
     return part[:field] + ((low, high),) + part[field + 1:]
 
 
-def _list(value: object) -> List[Any]:
-    if isinstance(value, list):
-        return value
-    raise NotAnswer(f"{type(value).__name__} where a list should be")
+def _listed(whole: Written, name: str) -> List[Any]:
+    """The list of this name that an answer has."""
+    listed = whole.get(name)
+    if not isinstance(listed, list):
+        raise NotAnswer(f"{named(listed)} where the list of {name} should be")
+    return listed
 
 
-def _each(what: str, number: int, read: Callable[..., Made], *parts: object) -> Made:
-    """What `read` makes of one of several; the number of the one that has not its form is told."""
+def _numbered(what: str, number: int, read: Callable[[Any], Made], value: object) -> Made:
     try:
-        return read(*parts)
-    except NotAnswer as error:
+        return read(value)
+    except (Misshaped, NotAnswer) as error:
         raise NotAnswer(f"{what} {number}: {error}") from None
-    except (KeyError, TypeError) as error:
-        raise NotAnswer(f"{what} {number} has not the form of one: {error!r}") from None
 
 
 # ---------------------------------------------------------------- in words

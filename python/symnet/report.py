@@ -13,180 +13,19 @@ digits; a value above 2^64 - 1, which is written as a text of digits, becomes a 
 """
 
 import io
-import json
 import signal
 import sys
 from dataclasses import dataclass, field
-from typing import Any, Callable, Dict, List, Optional, Sequence, Tuple, Union
+from typing import Callable, Dict, List, Optional, Sequence, Tuple, Union
 
-from .answers import (NotAnswer, Written, asked_lines, columns, compared_lines, compared_rules_lines, is_of_lists, loops_lines, packet_words, read_asked,
+from .answers import (NotAnswer, asked_lines, columns, compared_lines, compared_rules_lines, is_of_lists, loops_lines, packet_words, read_asked,
                       read_compared, read_compared_rules, read_loops, read_rules, rules_lines)
-from .causes import ALL_CASES, COUPLED, OUTSIDE, USUAL_CASES, too_many, undecided_lines
+from .causes import ALL_CASES, COUPLED, OUTSIDE, too_many, undecided_lines
 from .inputs import Job, NotInput, Rule, is_list, read_job, read_list
-from .picture import Pictured, Texts
 from .plain import laid_out, plain
+from .records import Cell, Fields, NotReport, Path, Pruned, Record, Report, Unexplored, read_report, read_written, report_of
 
-FAULTS = {
-    1: "no such tag", 2: "address out of range", 3: "no field at the address", 4: "field of another width",
-    5: "fields that overlap", 6: "field that is not set", 7: "no such metadata", 8: "constraint not met", 9: "fail",
-}
-
-
-class NotReport(Exception):
-    """The text is no report and no list of walks; the message says where."""
-
-
-@dataclass(frozen=True)
-class Cell:
-    """A cell of `width` bits: unset where `constant` is None, else constant + sum of coefficient * symbol, modulo 2^width."""
-
-    width: int
-    constant: Optional[int]
-    parts: Tuple[Tuple[int, int], ...] = ()
-
-    def value(self, values: List[int]) -> Optional[int]:
-        """The number that it holds for the packet with these numbers, one for each symbol."""
-        if self.constant is None:
-            return None
-        total = self.constant + sum(coefficient * values[symbol] for symbol, coefficient in self.parts)
-        return total % (1 << self.width)
-
-
-@dataclass(frozen=True)
-class Fields:
-    """What is carried at the end: tags with bit addresses, header cells by address, metadata by owner (None: global) and name."""
-
-    tags: Tuple[Tuple[str, int], ...]
-    heads: Tuple[Tuple[int, Tuple[Cell, ...]], ...]
-    metas: Tuple[Tuple[Optional[str], str, Tuple[Cell, ...]], ...]
-
-
-@dataclass(frozen=True)
-class Path:
-    """A path, or a walk of one packet; `values` are those of its least packet, None where it is undecided or a walk. `undecided` is the cause, "cases",
-    "coupled" or "outside"; `count` is the number of its choices of cases, or of its coupled values, and `pick` the number of the test that is outside."""
-
-    decisions: Tuple[Union[str, int], ...]
-    places: Tuple[str, ...]
-    end: str
-    fields: Fields
-    values: Optional[Tuple[int, ...]] = None
-    undecided: Optional[str] = None
-    count: Optional[int] = None
-    pick: Optional[int] = None
-
-
-@dataclass(frozen=True)
-class Pruned:
-    """A side that no packet takes, with the refutation's steps as they are written."""
-
-    decisions: Tuple[Union[str, int], ...]
-    refutation: Tuple[List[Any], ...]
-
-
-@dataclass(frozen=True)
-class Unexplored:
-    """A decision that was open when the limit was reached."""
-
-    decisions: Tuple[Union[str, int], ...]
-
-
-Record = Union[Path, Pruned, Unexplored]
-
-
-@dataclass(frozen=True)
-class Report(Pictured):
-    """All records in order; `refuted` is how many refuted sides are only counted, and `complete` says that nothing was left unexplored. Walks have none
-    of hops, limit and refuted sides. `cases` is the bound on choices of cases, 4,096 where the text says none. `text` is what was read, as `replay` takes it, where it is kept."""
-
-    records: Tuple[Record, ...]
-    hops: Optional[int] = None
-    limit: Optional[int] = None
-    refuted: int = 0
-    complete: bool = True
-    cases: Optional[int] = None
-    text: bytes = field(default=b"", repr=False, compare=False)
-    shown: Optional[Texts] = field(default=None, repr=False, compare=False)
-
-    @property
-    def paths(self) -> List[Path]:
-        return [record for record in self.records if isinstance(record, Path)]
-
-
-def _cell(parts: List[Any]) -> Cell:
-    width = int(parts[0])
-    if len(parts) == 1:
-        return Cell(width, None)
-    members = tuple((int(symbol), int(coefficient)) for symbol, coefficient in (parts[2] if len(parts) == 3 else []))
-    return Cell(width, int(parts[1]), members)
-
-
-def _fields(whole: Written) -> Fields:
-    return Fields(
-        tags=tuple((name, int(address)) for name, address in whole["tags"]),
-        heads=tuple((int(address), tuple(_cell(cell) for cell in cells)) for address, cells in whole["heads"]),
-        metas=tuple((owner, name, tuple(_cell(cell) for cell in cells)) for owner, name, cells in whole["metas"]),
-    )
-
-
-def _end(end: Union[str, Written]) -> str:
-    if isinstance(end, str):
-        return end
-    if end["fault"] == 9:
-        return f'failed at {end["site"]}: {end["text"]}'
-    return f'failed at {end["site"]}: {FAULTS.get(end["fault"], "unknown fault")}'
-
-
-def _path(record: Written) -> Path:
-    verdict = record.get("verdict") or {}
-    values = tuple(int(value) for value in verdict["sat"]) if "sat" in verdict else None
-    why = verdict.get("undecided") or {}
-    count, pick = (int(why[key]) if key in why else None for key in ("count", "pick"))
-    return Path(tuple(record["decisions"]), tuple(record["places"]), _end(record["end"]), _fields(record["fields"]), values, why["cause"] if why else None, count, pick)
-
-
-def _record(record: Written) -> Record:
-    kind = record.get("kind", "path")
-    if kind == "path":
-        return _path(record)
-    if kind == "pruned":
-        return Pruned(tuple(record["decisions"]), tuple(record["refutation"]))
-    if kind == "unexplored":
-        return Unexplored(tuple(record["decisions"]))
-    raise NotReport(f"a record of the unknown kind {kind!r}")
-
-
-def read_written(text: Union[str, bytes]) -> Written:
-    try:
-        whole = json.loads(text)
-    except (ValueError, RecursionError) as error:
-        raise NotReport(f"no JSON: {error}") from None
-    if not isinstance(whole, dict) or whole.get("symnet") != 1:
-        raise NotReport("no report: it is no object with the key symnet 1")
-    return whole
-
-
-def read_report(text: Union[str, bytes]) -> Report:
-    """The report, or the walks, of this text; NotReport where it is neither."""
-    return _report(read_written(text))
-
-
-def _report(whole: Written) -> Report:
-    listed = whole.get("records", whole.get("walks"))
-    if not isinstance(listed, list):
-        raise NotReport("no report: it has neither records nor walks")
-    records = tuple(_numbered(number, record) for number, record in enumerate(listed))
-    cases = whole.get("cases", USUAL_CASES) if "records" in whole else None
-    if cases is not None and not (isinstance(cases, int) and not isinstance(cases, bool) and cases >= 1):
-        raise NotReport("no report: its bound on choices of cases is no number from 1 on")
-    return Report(records, whole.get("hops"), whole.get("limit"), whole.get("refuted", 0), whole.get("state", "done") == "done", cases)
-
-
-def _numbered(number: int, record: Written) -> Record:
-    try:
-        return _record(record)
-    except (KeyError, IndexError, TypeError, ValueError, AttributeError) as error:
-        raise NotReport(f"record {number} has not the form of one: {error!r}") from None
+__all__ = ["Cell", "Fields", "Inputs", "NotReport", "Path", "Pruned", "Record", "Report", "Unexplored", "main", "open_lines", "read_report", "read_written", "shown", "table", "undecided"]
 
 
 def table(report: Report, with_pruned: bool = False, job: Optional[Job] = None) -> str:
@@ -294,7 +133,7 @@ def shown_lines(text: Union[str, bytes], inputs: Inputs, with_pruned: bool = Fal
         return compared_rules_lines(read_compared_rules(whole, left, right), left, right)
     if "answer" in whole:
         return compared_lines(read_compared(whole), inputs.job)
-    report = _report(whole)
+    report = report_of(whole)
     return [*table(report, with_pruned, inputs.job).split("\n"), *undecided(report, inputs.job)]
 
 

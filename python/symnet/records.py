@@ -1,0 +1,212 @@
+"""Reports and walks as plain objects, read of what `symnet explore` and `symnet walk` write. Whole numbers keep all their digits; a value above 2^64 - 1, which
+is written as a text of digits, becomes a number too."""
+
+import json
+from dataclasses import dataclass, field
+from typing import Any, List, Optional, Sequence, Tuple, Union
+
+from .causes import USUAL_CASES
+from .picture import Pictured, Texts
+from .shape import Misshaped, Written, a_count, a_list, a_number, a_place, a_text, a_value, an_object, member, named, one_of, parts_of, some
+
+FAULTS = {
+    1: "no such tag", 2: "address out of range", 3: "no field at the address", 4: "field of another width",
+    5: "fields that overlap", 6: "field that is not set", 7: "no such metadata", 8: "constraint not met", 9: "fail",
+}
+FAIL = 9
+ENDS = ("delivered", "stopped", "cut")
+CHOSEN = ("then", "else", "pass", "broken")
+CAUSES = ("cases", "coupled", "outside")
+
+Decision = Union[str, int]
+
+
+class NotReport(Exception):
+    """The text is no report and no list of walks; the message says where."""
+
+
+@dataclass(frozen=True)
+class Cell:
+    """A cell of `width` bits: unset where `constant` is None, else constant + sum of coefficient * symbol, modulo 2^width."""
+
+    width: int
+    constant: Optional[int]
+    parts: Tuple[Tuple[int, int], ...] = ()
+
+    def value(self, values: Sequence[int]) -> Optional[int]:
+        """The number that it holds for the packet with these numbers, one for each symbol."""
+        if self.constant is None:
+            return None
+        total = self.constant + sum(coefficient * values[symbol] for symbol, coefficient in self.parts)
+        return total % (1 << self.width)
+
+
+@dataclass(frozen=True)
+class Fields:
+    """What is carried at the end: tags with bit addresses, header cells by address, metadata by owner (None: global) and name."""
+
+    tags: Tuple[Tuple[str, int], ...]
+    heads: Tuple[Tuple[int, Tuple[Cell, ...]], ...]
+    metas: Tuple[Tuple[Optional[str], str, Tuple[Cell, ...]], ...]
+
+
+@dataclass(frozen=True)
+class Path:
+    """A path, or a walk of one packet; `values` are those of its least packet, None where it is undecided or a walk. `undecided` is the cause, "cases",
+    "coupled" or "outside"; `count` is the number of its choices of cases, or of its coupled values, and `pick` the number of the test that is outside."""
+
+    decisions: Tuple[Decision, ...]
+    places: Tuple[str, ...]
+    end: str
+    fields: Fields
+    values: Optional[Tuple[int, ...]] = None
+    undecided: Optional[str] = None
+    count: Optional[int] = None
+    pick: Optional[int] = None
+
+
+@dataclass(frozen=True)
+class Pruned:
+    """A side that no packet takes, with the refutation's steps as they are written."""
+
+    decisions: Tuple[Decision, ...]
+    refutation: Tuple[List[Any], ...]
+
+
+@dataclass(frozen=True)
+class Unexplored:
+    """A decision that was open when the limit was reached."""
+
+    decisions: Tuple[Decision, ...]
+
+
+Record = Union[Path, Pruned, Unexplored]
+
+
+@dataclass(frozen=True)
+class Report(Pictured):
+    """All records in order; `refuted` is how many sides were refuted, so that no packet takes them, and `complete` says that nothing was left unexplored. Walks have
+    none of hops, limit and refuted sides. `cases` is the bound on choices of cases, 4,096 where the text says none. `text` is what was read, as `replay` takes it, where it is kept."""
+
+    records: Tuple[Record, ...]
+    hops: Optional[int] = None
+    limit: Optional[int] = None
+    refuted: int = 0
+    complete: bool = True
+    cases: Optional[int] = None
+    text: bytes = field(default=b"", repr=False, compare=False)
+    shown: Optional[Texts] = field(default=None, repr=False, compare=False)
+
+    @property
+    def paths(self) -> List[Path]:
+        return [record for record in self.records if isinstance(record, Path)]
+
+
+def _decision(value: object) -> Decision:
+    return one_of(value, CHOSEN) if isinstance(value, str) else a_count(value)
+
+
+def _cell(value: object) -> Cell:
+    width, *rest = parts_of(value, 1, 3)
+    if not 1 <= a_count(width) <= 128:
+        raise Misshaped(f"a cell of {named(width)} bits")
+    if not rest:
+        return Cell(width, None)
+    members = [parts_of(it, 2, 2) for it in a_list(rest[1])] if len(rest) == 2 else []
+    return Cell(width, a_value(rest[0]), tuple((a_count(symbol), a_value(coefficient)) for symbol, coefficient in members))
+
+
+def _cells(value: object) -> Tuple[Cell, ...]:
+    return some(_cell, value)
+
+
+def _tag(value: object) -> Tuple[str, int]:
+    name, address = parts_of(value, 2, 2)
+    return a_text(name), a_number(address)
+
+
+def _head(value: object) -> Tuple[int, Tuple[Cell, ...]]:
+    address, cells = parts_of(value, 2, 2)
+    return a_number(address), _cells(cells)
+
+
+def _meta(value: object) -> Tuple[Optional[str], str, Tuple[Cell, ...]]:
+    owner, name, cells = parts_of(value, 3, 3)
+    return None if owner is None else a_text(owner), a_text(name), _cells(cells)
+
+
+def _fields(value: object) -> Fields:
+    whole = an_object(value)
+    return Fields(some(_tag, member(whole, "tags")), some(_head, member(whole, "heads")), some(_meta, member(whole, "metas")))
+
+
+def _end(value: object) -> str:
+    if not isinstance(value, dict):
+        return one_of(value, ENDS)
+    fault, site = a_count(member(value, "fault")), a_count(member(value, "site"))
+    if fault not in FAULTS:
+        raise Misshaped(f"{named(fault)} is no fault")
+    return f"failed at {site}: {a_text(member(value, 'text')) if fault == FAIL else FAULTS[fault]}"
+
+
+def _path(record: Written) -> Path:
+    parts = (some(_decision, member(record, "decisions")), some(a_place, member(record, "places")), _end(member(record, "end")), _fields(member(record, "fields")))
+    if "kind" not in record:
+        return Path(*parts)
+    verdict = an_object(member(record, "verdict"))
+    if "sat" in verdict:
+        return Path(*parts, some(a_value, verdict["sat"]))
+    why = an_object(member(verdict, "undecided"))
+    count, pick = (a_count(why[key]) if key in why else None for key in ("count", "pick"))
+    return Path(*parts, None, one_of(member(why, "cause"), CAUSES), count, pick)
+
+
+def _record(value: object) -> Record:
+    record = an_object(value)
+    kind = one_of(record.get("kind", "path"), ("path", "pruned", "unexplored"))
+    if kind == "path":
+        return _path(record)
+    decisions = some(_decision, member(record, "decisions"))
+    return Pruned(decisions, some(a_list, member(record, "refutation"))) if kind == "pruned" else Unexplored(decisions)
+
+
+def read_written(text: Union[str, bytes]) -> Written:
+    """The object that a command wrote; NotReport where the text is none."""
+    try:
+        whole = json.loads(text)
+    except (ValueError, RecursionError) as error:
+        raise NotReport(f"no JSON: {error}") from None
+    version = whole.get("symnet") if isinstance(whole, dict) else None
+    if not isinstance(whole, dict) or version != 1 or isinstance(version, (bool, float)):
+        raise NotReport("no report: it is no object with the key symnet 1")
+    return whole
+
+
+def read_report(text: Union[str, bytes]) -> Report:
+    """The report, or the walks, of this text; NotReport where it is neither."""
+    return report_of(read_written(text))
+
+
+def report_of(whole: Written) -> Report:
+    """The report, or the walks, that this object is."""
+    listed = whole.get("records", whole.get("walks"))
+    if not isinstance(listed, list):
+        raise NotReport("no report: it has neither records nor walks")
+    records = tuple(_numbered(number, record) for number, record in enumerate(listed))
+    if "records" not in whole:
+        return Report(records)
+    try:
+        hops, limit, refuted = (a_count(member(whole, key)) for key in ("hops", "limit", "refuted"))
+        cases = a_count(whole.get("cases", USUAL_CASES))
+        if cases == 0:
+            raise Misshaped("its bound on choices of cases is 0")
+        return Report(records, hops, limit, refuted, one_of(member(whole, "state"), ("done", "partial")) == "done", cases)
+    except Misshaped as error:
+        raise NotReport(f"no report: {error}") from None
+
+
+def _numbered(number: int, record: object) -> Record:
+    try:
+        return _record(record)
+    except Misshaped as error:
+        raise NotReport(f"record {number} has not the form of one: {error}") from None
