@@ -11,7 +11,8 @@ from typing import Dict, List, Literal, Mapping, Optional, Sequence, Tuple, Unio
 
 from .answers import Answer, Compared, ComparedRules, Fate, Loops, read_asked, read_compared, read_compared_rules, read_loops, read_rules
 from .inputs import read_list
-from .library import Ended, Files as AnyFiles, Text, as_bytes, call
+from .engine import call
+from .library import Ended, Files as AnyFiles, Text, as_bytes
 from .picture import Pictured, Texts
 from .refusal import PARTIAL, written
 from .report import Report, read_report, read_written
