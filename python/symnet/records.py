@@ -3,7 +3,7 @@ is written as a text of digits, becomes a number too."""
 
 import json
 from dataclasses import dataclass, field
-from typing import Any, List, Optional, Sequence, Tuple, Union
+from typing import Any, Dict, List, Optional, Sequence, Tuple, Union
 
 from .causes import USUAL_CASES
 from .picture import Pictured, Texts
@@ -63,6 +63,15 @@ class Path:
     undecided: Optional[str] = None
     count: Optional[int] = None
     pick: Optional[int] = None
+    # Of a path that failed: the number of its fault and that of the item of the text, and why.
+    fault: Optional[int] = None
+    site: Optional[int] = None
+    message: str = ""
+
+    @property
+    def last(self) -> str:
+        """The port where it ends."""
+        return self.places[-1] if self.places else "the injection"
 
 
 @dataclass(frozen=True)
@@ -140,25 +149,29 @@ def _fields(value: object) -> Fields:
     return Fields(some(_tag, member(whole, "tags")), some(_head, member(whole, "heads")), some(_meta, member(whole, "metas")))
 
 
-def _end(value: object) -> str:
-    if not isinstance(value, dict):
-        return one_of(value, ENDS)
-    fault, site = a_count(member(value, "fault")), a_count(member(value, "site"))
+def _failure(end: Written) -> Dict[str, Any]:
+    """What a path has of its failure."""
+    fault, site = a_count(member(end, "fault")), a_count(member(end, "site"))
     if fault not in FAULTS:
         raise Misshaped(f"{named(fault)} is no fault")
-    return f"failed at {site}: {a_text(member(value, 'text')) if fault == FAIL else FAULTS[fault]}"
+    message = a_text(member(end, "text")) if fault == FAIL else FAULTS[fault]
+    return {"end": f"failed at {site}: {message}", "fault": fault, "site": site, "message": message}
+
+
+def _verdict(value: object) -> Dict[str, Any]:
+    """What a path has of its verdict."""
+    verdict = an_object(value)
+    if "sat" in verdict:
+        return {"values": some(a_value, verdict["sat"])}
+    why = an_object(member(verdict, "undecided"))
+    return {"undecided": one_of(member(why, "cause"), CAUSES), **{key: a_count(why[key]) for key in ("count", "pick") if key in why}}
 
 
 def _path(record: Written) -> Path:
-    parts = (some(_decision, member(record, "decisions")), some(a_place, member(record, "places")), _end(member(record, "end")), _fields(member(record, "fields")))
-    if "kind" not in record:
-        return Path(*parts)
-    verdict = an_object(member(record, "verdict"))
-    if "sat" in verdict:
-        return Path(*parts, some(a_value, verdict["sat"]))
-    why = an_object(member(verdict, "undecided"))
-    count, pick = (a_count(why[key]) if key in why else None for key in ("count", "pick"))
-    return Path(*parts, None, one_of(member(why, "cause"), CAUSES), count, pick)
+    decisions, places, end = some(_decision, member(record, "decisions")), some(a_place, member(record, "places")), member(record, "end")
+    ended = _failure(end) if isinstance(end, dict) else {"end": one_of(end, ENDS)}
+    verdict = _verdict(member(record, "verdict")) if "kind" in record else {}
+    return Path(decisions, places, fields=_fields(member(record, "fields")), **ended, **verdict)
 
 
 def _record(value: object) -> Record:
