@@ -4,6 +4,7 @@ from dataclasses import dataclass, field
 from typing import Any, Callable, Dict, List, Optional, Sequence, Tuple
 
 from .inputs import LIST_FIELDS, Ranges, Rule, has_packet, has_part
+from .packet import JobText, Packet, list_packet
 from .picture import Pictured, Texts
 from .shape import Made, Misshaped, Written, a_count, a_list, a_text, a_value, an_object, member, named, one_of, some
 
@@ -20,6 +21,12 @@ class Answer:
     number: Optional[int] = None
     values: Tuple[int, ...] = ()
     open: Tuple[int, ...] = ()
+    job: Optional[JobText] = field(default=None, repr=False, compare=False)
+
+    @property
+    def packet(self) -> Optional[Packet]:
+        """The packet that shows it, by the names of the job."""
+        return None if self.number is None else (self.job or JobText("")).packet(self.values)
 
 
 @dataclass(frozen=True)
@@ -36,6 +43,11 @@ class Fate:
 
     values: Optional[Tuple[int, ...]]
     parts: Tuple[Part, ...] = ()
+
+    @property
+    def packet(self) -> Optional[Packet]:
+        """The packet that it decides, by names."""
+        return None if self.values is None else list_packet(self.values)
 
     @property
     def hiders(self) -> List[int]:
@@ -75,6 +87,12 @@ class Compared(Pictured):
     left: Tuple[int, ...] = ()
     right: Tuple[int, ...] = ()
     shown: Optional[Texts] = field(default=None, repr=False, compare=False)
+    job: Optional[JobText] = field(default=None, repr=False, compare=False)
+
+    @property
+    def packet(self) -> Optional[Packet]:
+        """The packet that shows a difference, by the names of the job."""
+        return (self.job or JobText("")).packet(self.values) if self.answer == "other" else None
 
 
 @dataclass(frozen=True)
@@ -94,6 +112,11 @@ class ComparedRules:
     left: Optional[ListSide] = None
     right: Optional[ListSide] = None
     covers: int = 0
+
+    @property
+    def packet(self) -> Optional[Packet]:
+        """The packet that shows a difference, by names."""
+        return list_packet(self.values) if self.answer == "other" else None
 
 
 def _asked(value: object) -> Answer:

@@ -5,17 +5,18 @@ given has the value of the command line, except `cases`: here it is "all". With 
 command raises `Refusal` where it ends without a whole text.
 """
 
-import json
-from dataclasses import dataclass, field, replace
-from typing import Dict, List, Literal, Mapping, Optional, Sequence, Tuple, Union
+from dataclasses import dataclass, field, fields, replace
+from typing import Dict, List, Literal, Mapping, Optional, Sequence, Tuple, Type, TypeVar, Union
 
 from .answers import Answer, Compared, ComparedRules, Fate, Loops, read_asked, read_compared, read_compared_rules, read_loops, read_rules
 from .inputs import read_list
 from .engine import call
 from .library import Ended, Files as AnyFiles, Text, as_bytes
+from .packet import JobText
 from .picture import Pictured, Texts
 from .refusal import PARTIAL, written
-from .report import Report, read_report, read_written
+from .records import NotReport, Report, read_report, read_written
+from .shape import Misshaped, a_count, member
 
 Files = Mapping[str, Text]
 # A bound on choices of cases: a number from 1 to 2^64 - 1, or all of them; None is the program's own, 4,096.
@@ -66,6 +67,9 @@ class Grown:
     cut: int
 
 
+Counted = TypeVar("Counted", Confirmed, Grown)
+
+
 def run(words: Sequence[Text], files: Optional[AnyFiles] = None) -> Ended:
     """Runs the words of a command line over these files, and returns the status, the output and what is said for people; raises no Refusal."""
     none: Dict[str, Text] = {}
@@ -92,9 +96,13 @@ def _shown(files: Mapping[str, Text], others: Optional[Mapping[str, Text]] = Non
     return Texts({name: as_bytes(text) for name, text in files.items()}, {name: as_bytes(text) for name, text in (others or {}).items()})
 
 
-def _counts(text: bytes) -> Dict[str, int]:
+def _counts(text: bytes, made: Type[Counted]) -> Counted:
     """The counts that a command writes: all of its answer besides its form."""
-    return {name: int(count) for name, count in json.loads(text).items() if name != "symnet"}
+    whole = read_written(text)
+    try:
+        return made(**{it.name: a_count(member(whole, it.name)) for it in fields(made)})
+    except Misshaped as error:
+        raise NotReport(f"no counts: {error}") from None
 
 
 def explore(job: Text, *, files: Optional[Files] = None, hops: Optional[int] = None, limit: Optional[int] = None,
@@ -102,7 +110,7 @@ def explore(job: Text, *, files: Optional[Files] = None, hops: Optional[int] = N
     """The report of all packets of a job."""
     whole, names = _with(files, job=job)
     text = written(run(["explore", names["job"], *_options(hops=hops, limit=limit, cases=cases, pruned=pruned)], whole))
-    return replace(read_report(text), text=text, shown=_shown({"report": text, "job": job}))
+    return replace(read_report(text, job), text=text, shown=_shown({"report": text, "job": job}))
 
 
 def walk(job: Text, packet: Union[Text, Sequence[int]], *, files: Optional[Files] = None, hops: Optional[int] = None,
@@ -111,13 +119,13 @@ def walk(job: Text, packet: Union[Text, Sequence[int]], *, files: Optional[Files
     given = packet if isinstance(packet, (str, bytes)) else "\n".join(map(str, packet))
     whole, names = _with(files, job=job, packet=given)
     text = written(run(["walk", names["job"], names["packet"], *_options(hops=hops, limit=limit)], whole))
-    return replace(read_report(text), text=text, shown=_shown({"walks": text, "job": job}))
+    return replace(read_report(text, job), text=text, shown=_shown({"walks": text, "job": job}))
 
 
 def replay(job: Text, report: Union[Text, Report], *, files: Optional[Files] = None) -> Confirmed:
     """The counts of a report's records, where each was confirmed for the job: of a text, or of what `explore` returned."""
     whole, names = _with(files, job=job, report=report.text if isinstance(report, Report) else report)
-    return Confirmed(**_counts(written(run(["replay", names["job"], names["report"]], whole))))
+    return _counts(written(run(["replay", names["job"], names["report"]], whole)), Confirmed)
 
 
 def ask(job: Text, *, files: Optional[Files] = None, hops: Optional[int] = None, limit: Optional[int] = None, cases: Optional[Cases] = "all") -> Asked:
@@ -125,7 +133,8 @@ def ask(job: Text, *, files: Optional[Files] = None, hops: Optional[int] = None,
     whole, names = _with(files, job=job)
     ended = run(["ask", names["job"], *_options(hops=hops, limit=limit, cases=cases)], whole)
     text = written(ended)
-    return Asked(tuple(read_asked(read_written(text))), ended.status != PARTIAL, _shown({"answer": text, "job": job}))
+    named = JobText(job)
+    return Asked(tuple(replace(it, job=named) for it in read_asked(read_written(text))), ended.status != PARTIAL, _shown({"answer": text, "job": job}))
 
 
 def loops(job: Text, *, files: Optional[Files] = None, hops: Optional[int] = None, limit: Optional[int] = None, cases: Optional[Cases] = "all",
@@ -142,7 +151,7 @@ def compare(job: Text, other: Text, *, files: Optional[Files] = None, hops: Opti
     """Whether two jobs deliver the same, or a packet that shows a difference."""
     whole, names = _with(files, job=job, other=other)
     text = written(run(["compare", names["job"], names["other"], *_options(hops=hops, limit=limit, cases=cases)], whole))
-    return replace(read_compared(read_written(text)), shown=_shown({"answer": text, "job": job}, {"job": other}))
+    return replace(read_compared(read_written(text)), job=JobText(job), shown=_shown({"answer": text, "job": job}, {"job": other}))
 
 
 def model(kind: Literal["mac", "fib", "click", "acl"], file: Text, *, style: Optional[Literal["chain", "grouped", "egress"]] = None) -> str:
@@ -167,4 +176,4 @@ def compare_rules(file: Text, other: Text) -> ComparedRules:
 
 def grow(seed: int, nodes: int) -> Grown:
     """The counts of the records of a job that is made from a seed."""
-    return Grown(**_counts(written(run(["grow", str(seed), str(nodes)]))))
+    return _counts(written(run(["grow", str(seed), str(nodes)])), Grown)

@@ -6,8 +6,11 @@ from dataclasses import dataclass, field
 from typing import Any, Dict, List, Optional, Sequence, Tuple, Union
 
 from .causes import USUAL_CASES
+from .packet import JobText, Packet
 from .picture import Pictured, Texts
+from .library import Text
 from .shape import Misshaped, Written, a_count, a_list, a_number, a_place, a_text, a_value, an_object, member, named, one_of, parts_of, some
+from .ways import Decision, boxes, follow
 
 FAULTS = {
     1: "no such tag", 2: "address out of range", 3: "no field at the address", 4: "field of another width",
@@ -17,9 +20,6 @@ FAIL = 9
 ENDS = ("delivered", "stopped", "cut")
 CHOSEN = ("then", "else", "pass", "broken")
 CAUSES = ("cases", "coupled", "outside")
-
-Decision = Union[str, int]
-
 
 class NotReport(Exception):
     """The text is no report and no list of walks; the message says where."""
@@ -67,11 +67,26 @@ class Path:
     fault: Optional[int] = None
     site: Optional[int] = None
     message: str = ""
+    job: Optional[JobText] = field(default=None, repr=False, compare=False)
 
     @property
     def last(self) -> str:
         """The port where it ends."""
         return self.places[-1] if self.places else "the injection"
+
+    @property
+    def packet(self) -> Optional[Packet]:
+        """Its least packet by the names of the job; None where it is undecided or a walk."""
+        if self.values is None:
+            return None
+        job = self.job or JobText("")
+        return job.packet(self.values, follow(job.job, self.decisions, self.places).choices)
+
+    def row(self) -> Dict[str, Any]:
+        """What it is as a plain dict: its end, the port of it, the boxes on its way, its decisions, and its packet by names."""
+        ended = {"end": self.end if self.fault is None else "failed", "at": self.last, "message": self.message, "site": self.site}
+        way = {"boxes": boxes(self.places), "decisions": list(self.decisions), "undecided": self.undecided}
+        return {**ended, **way, **(self.packet.row() if self.packet is not None else {})}
 
 
 @dataclass(frozen=True)
@@ -109,6 +124,18 @@ class Report(Pictured):
     @property
     def paths(self) -> List[Path]:
         return [record for record in self.records if isinstance(record, Path)]
+
+    def rows(self) -> List[Dict[str, Any]]:
+        """A plain dict for each path, in their order: the number of its record, and what `Path.row` has."""
+        return [{"record": number, **record.row()} for number, record in enumerate(self.records) if isinstance(record, Path)]
+
+    def to_pandas(self) -> Any:
+        """The rows as a DataFrame, where pandas is installed."""
+        try:
+            import pandas
+        except ImportError:
+            raise ImportError("to_pandas wants pandas, which is not installed; rows() has the same as plain dicts") from None
+        return pandas.DataFrame(self.rows())
 
 
 def _decision(value: object) -> Decision:
@@ -167,18 +194,18 @@ def _verdict(value: object) -> Dict[str, Any]:
     return {"undecided": one_of(member(why, "cause"), CAUSES), **{key: a_count(why[key]) for key in ("count", "pick") if key in why}}
 
 
-def _path(record: Written) -> Path:
+def _path(record: Written, job: Optional[JobText]) -> Path:
     decisions, places, end = some(_decision, member(record, "decisions")), some(a_place, member(record, "places")), member(record, "end")
     ended = _failure(end) if isinstance(end, dict) else {"end": one_of(end, ENDS)}
     verdict = _verdict(member(record, "verdict")) if "kind" in record else {}
-    return Path(decisions, places, fields=_fields(member(record, "fields")), **ended, **verdict)
+    return Path(decisions, places, fields=_fields(member(record, "fields")), job=job, **ended, **verdict)
 
 
-def _record(value: object) -> Record:
+def _record(value: object, job: Optional[JobText]) -> Record:
     record = an_object(value)
     kind = one_of(record.get("kind", "path"), ("path", "pruned", "unexplored"))
     if kind == "path":
-        return _path(record)
+        return _path(record, job)
     decisions = some(_decision, member(record, "decisions"))
     return Pruned(decisions, some(a_list, member(record, "refutation"))) if kind == "pruned" else Unexplored(decisions)
 
@@ -195,17 +222,17 @@ def read_written(text: Union[str, bytes]) -> Written:
     return whole
 
 
-def read_report(text: Union[str, bytes]) -> Report:
-    """The report, or the walks, of this text; NotReport where it is neither."""
-    return report_of(read_written(text))
+def read_report(text: Union[str, bytes], job: Optional[Text] = None) -> Report:
+    """The report, or the walks, of this text; NotReport where it is neither. The packets of its paths have the names of the job, where it is given."""
+    return report_of(read_written(text), None if job is None else JobText(job))
 
 
-def report_of(whole: Written) -> Report:
+def report_of(whole: Written, job: Optional[JobText] = None) -> Report:
     """The report, or the walks, that this object is."""
     listed = whole.get("records", whole.get("walks"))
     if not isinstance(listed, list):
         raise NotReport("no report: it has neither records nor walks")
-    records = tuple(_numbered(number, record) for number, record in enumerate(listed))
+    records = tuple(_numbered(number, record, job) for number, record in enumerate(listed))
     if "records" not in whole:
         return Report(records)
     try:
@@ -218,8 +245,8 @@ def report_of(whole: Written) -> Report:
         raise NotReport(f"no report: {error}") from None
 
 
-def _numbered(number: int, record: object) -> Record:
+def _numbered(number: int, record: object, job: Optional[JobText]) -> Record:
     try:
-        return _record(record)
+        return _record(record, job)
     except Misshaped as error:
         raise NotReport(f"record {number} has not the form of one: {error}") from None

@@ -1,11 +1,11 @@
 """The way of a path through a job: the boxes on it, the instruction of each decision, and what is chosen on it."""
 
 from dataclasses import dataclass
-from typing import Iterator, List, Optional, Sequence, Tuple
+from typing import Iterator, List, Optional, Sequence, Tuple, Union
 
 from .inputs import Job, NotInput, Statement
-from .records import Decision
 
+Decision = Union[str, int]
 # What a decision may be at an instruction.
 _SIDES = {"if": ("then", "else"), "constrain": ("pass", "broken")}
 
