@@ -62,7 +62,7 @@ class Job:
     start: str = ""
     # What the lines with `any` set, each once.
     chosen: Tuple[str, ...] = ()
-    tokens: Optional["_Tokens"] = field(default=None, repr=False, compare=False)
+    tokens: Optional["Tokens"] = field(default=None, repr=False, compare=False)
 
     def target(self, symbol: int, choices: Sequence[str] = ()) -> str:
         """What the value number `symbol` of a packet is: a field, or a choice on the way, by what it sets. `choices` are those of the way, where it is known; else
@@ -126,7 +126,7 @@ def _tokens(text: str) -> List[_Token]:
     return found
 
 
-class _Tokens:
+class Tokens:
     """The tokens of a job, from front to back."""
 
     def __init__(self, text: str):
@@ -142,11 +142,14 @@ class _Tokens:
         self.at += 1
         return self.tokens[self.at - 1].text
 
+    def line(self) -> int:
+        """The line of the last token, from 1."""
+        return self.text.count("\n", 0, self.tokens[self.at - 1].start) + 1
+
     def take(self, wanted: str) -> None:
         found = self.next()
         if found != wanted:
-            line = self.text.count("\n", 0, self.tokens[self.at - 1].start) + 1
-            raise NotInput(f"no job: '{found}' where '{wanted}' should stand, in line {line}")
+            raise NotInput(f"no job: '{found}' where '{wanted}' should stand, in line {self.line()}")
 
     def statement(self) -> str:
         """The text up to the next semicolon, which is taken too."""
@@ -204,7 +207,7 @@ class _Tokens:
         return Statement(word, text, tuple(blocks))
 
 
-def _node(tokens: _Tokens) -> Tuple[str, Node]:
+def _node(tokens: Tokens) -> Tuple[str, Node]:
     """A node: its name, and where its codes begin."""
     tokens.take("node")
     name = tokens.next()
@@ -223,7 +226,7 @@ def _node(tokens: _Tokens) -> Tuple[str, Node]:
     return name, Node(None, codes)
 
 
-def _chosen(tokens: _Tokens) -> Tuple[str, ...]:
+def _chosen(tokens: Tokens) -> Tuple[str, ...]:
     """What the lines with `any` set, each once."""
     parts, found = [it.text for it in tokens.tokens], []
     for at in range(1, len(parts)):
@@ -235,7 +238,7 @@ def _chosen(tokens: _Tokens) -> Tuple[str, ...]:
 
 def read_job(text: str) -> Job:
     """The unknown fields, `where` lines and questions of the job, and where its boxes stand; NotInput where it has not the outline of one."""
-    tokens = _Tokens(text)
+    tokens = Tokens(text)
     tokens.take("symnet")
     tokens.statement()
     nodes: Dict[str, Node] = {}
