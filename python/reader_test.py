@@ -7,9 +7,10 @@ import random
 import subprocess
 import sys
 import tempfile
+import time
 from pathlib import Path
 
-from symnet import answer_words, answers, engine, inputs, report
+from symnet import answer_words, answers, engine, inputs, report, ways
 from symnet.plain import plain, wrapped
 
 TOP = Path(__file__).resolve().parent.parent
@@ -139,8 +140,8 @@ def check_shapes(expect):
     """Each part of what the program writes stands aside for other values: what comes of it is words or a message, and nothing else."""
     draw, count = random.Random(7), 0
     for whole, names in written():
-        given, ways = files_named(names), list(places_of(whole))
-        for way in ways if len(ways) < 60 else draw.sample(ways, 60):
+        given, parts = files_named(names), list(places_of(whole))
+        for way in parts if len(parts) < 60 else draw.sample(parts, 60):
             for odd in (ODD, *ODD):
                 if not way and odd is ODD:
                     continue
@@ -257,6 +258,18 @@ def check_ways(expect):
            ["  at out host.0 bit 0 is not there in the first network, and not set in the second", "  at out host.0 destination port is 22 in the first network, and 23 in the second"])
 
 
+def check_sizes(expect):
+    """What a stranger's job and report take: no more than their sizes."""
+    noops, many = "noop; " * 20000, 2000
+    job = f'symnet 2; node a 1 -> 1 {{ in 0 {{ {noops} set global m:8 = any; forward 0; }} }} inject a.0 {{ field global m:8 {"= any" * 20000}; }}'
+    given = report.Inputs(jobs=[("job", inputs.read_job(job))])
+    began = time.process_time()
+    report.shown(made_files.report([made_files.path([], ["in a.0"], "stopped", [1])] * many), given)
+    expect("a long code, many paths: seconds", time.process_time() - began < 5, True)
+    deep = inputs.read_job("symnet 2; node a 1 -> 1 { in 0 { " + "{" * 100000 + "}" * 100000 + " } } inject a.0 { }")
+    expect("a deep code", ways.follow(deep, ["then"], ["in a.0"]).decided, ())
+
+
 def check_widths(expect):
     """Lines are as wide as they may be."""
     for text in ("a b", "  " + "word " * 60, "      " + "x" * 300, ""):
@@ -312,6 +325,7 @@ def check(expect):
     check_shapes(expect)
     check_records(expect)
     check_ways(expect)
+    check_sizes(expect)
     check_widths(expect)
     check_acts(expect)
     check_program(expect)

@@ -120,7 +120,9 @@ class Runs:
     """The runs of all pages."""
 
     def __init__(self, program: str):
-        self.program, self.at_work, self.is_closed = program, {}, False  # type: str, Dict[str, Run], bool
+        self.program = program
+        self.at_work: Dict[str, Run] = {}
+        self.is_closed = False
         self.changed = threading.Condition()
 
     def _begin(self, page: str) -> Run:

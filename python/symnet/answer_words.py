@@ -1,7 +1,7 @@
 """The answers of `symnet ask`, `rules`, `loops` and `compare` in words, with names for fields and values as people write them."""
 
 import re
-from typing import Callable, Dict, List, Mapping, Optional, Sequence, Tuple
+from typing import Callable, List, Mapping, Optional, Sequence, Tuple
 
 from .answers import Answer, Compared, ComparedRules, Fate, ListSide, Loops, NotAnswer, Visit
 from .causes import HINT, visit_cause
@@ -165,7 +165,7 @@ def _walk_lines(walks: Mapping[str, Sequence[Path]]) -> List[str]:
         lines += [f"  {network}: {end_words(path)} ({way(path.places)})" for path in walks.get(side, ())[:WALKS]]
         more = len(walks.get(side, ())) - WALKS
         lines += [f"  {network}: and {more} walks more"] if more > 0 else []
-    return lines + differences(*(walks.get(side, ()) for side in _SIDES))
+    return lines + differences(*(walks.get(side, ())[:WALKS] for side in _SIDES))
 
 
 def rules_lines(fates: Sequence[Fate], rules: Optional[Sequence[Rule]]) -> List[str]:

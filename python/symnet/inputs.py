@@ -29,6 +29,10 @@ class Ask:
     note: str
 
 
+# The instructions that take a decision, or end the code.
+_STEERING = ("if", "constrain", "fork", "forward", "fail")
+
+
 @dataclass(frozen=True)
 class Statement:
     """An instruction: its word, its text without the blocks, and these: two of an If, one of a `for` or of a block that stands by itself."""
@@ -36,6 +40,11 @@ class Statement:
     word: str
     text: str
     blocks: Tuple[Tuple["Statement", ...], ...] = ()
+
+    @property
+    def steers(self) -> bool:
+        """Whether a way depends on it: it decides, chooses or ends."""
+        return self.word in _STEERING or self.chosen is not None or any(self.blocks)
 
     @property
     def chosen(self) -> Optional[str]:
@@ -75,7 +84,7 @@ class Job:
         return _again(self.chosen[0], number) if len(self.chosen) == 1 else f"choice {number}"
 
     def code(self, place: str) -> Optional[Tuple[Statement, ...]]:
-        """The code of a port, as `in r.0`; None where the box is that of a table, or is not in the job."""
+        """What steers in the code of a port, as `in r.0`; None where the box is that of a table, or is not in the job."""
         side, _, port = place.partition(" ")
         name, _, number = port.partition(".")
         node = self.nodes.get(name)
@@ -172,7 +181,7 @@ class Tokens:
         return re.sub(r"\s+", " ", self.text[self.tokens[first].start:self.tokens[end - 1].end]) if first < end else ""
 
     def code(self, begin: int) -> Tuple[Statement, ...]:
-        """The instructions of the block that begins there."""
+        """What steers in the block that begins there."""
         if begin not in self.codes:
             kept, self.at = self.at, begin
             try:
@@ -187,7 +196,8 @@ class Tokens:
         self.take("{")
         made = []
         while self.peek() != "}":
-            made.append(self._statement(depth))
+            step = self._statement(depth)
+            made += [step] if step.steers else []
         self.next()
         return tuple(made)
 
@@ -226,13 +236,17 @@ def _node(tokens: Tokens) -> Tuple[str, Node]:
     return name, Node(None, codes)
 
 
+# The tokens of the longest `set .. = any`.
+_LONGEST = 10
+
+
 def _chosen(tokens: Tokens) -> Tuple[str, ...]:
     """What the lines with `any` set, each once."""
     parts, found = [it.text for it in tokens.tokens], []
     for at in range(1, len(parts)):
         if parts[at] == "any" and parts[at - 1] == "=":
-            begin = next(back for back in range(at, -1, -1) if back == 0 or parts[back - 1] in (";", "{", "}"))
-            found.append(tokens.between(begin + 1, at - 1))
+            begin = next((back for back in range(at - 1, max(at - _LONGEST, 0), -1) if parts[back] == "set" and parts[back - 1] in (";", "{", "}")), at)
+            found += [tokens.between(begin + 1, at - 1)] if begin < at else []
     return tuple(dict.fromkeys(found))
 
 

@@ -6,6 +6,8 @@ from typing import Iterator, List, Optional, Sequence, Tuple, Union
 from .inputs import Job, NotInput, Statement
 
 Decision = Union[str, int]
+# The most choices on a way that are followed.
+MOST = 1000
 # What a decision may be at an instruction.
 _SIDES = {"if": ("then", "else"), "constrain": ("pass", "broken")}
 
@@ -95,16 +97,11 @@ class _Walk:
             if side == "broken":
                 raise _Lost
             return [iter(step.blocks[_SIDES["if"].index(side)])] if step.word == "if" else []
-        if step.word == "for" and any(_decides(it) for it in step.blocks[0]):
+        if step.word == "for" or len(self.choices) == MOST:
             raise _Lost
         if step.chosen is not None:
             self.choices.append(step.chosen)
         return [iter(step.blocks[0])] if step.word == "{" else []
-
-
-def _decides(step: Statement) -> bool:
-    """Whether an instruction may take a decision or a choice."""
-    return step.word in ("if", "constrain", "fork", "fail", "for") or step.chosen is not None or any(_decides(it) for block in step.blocks for it in block)
 
 
 def follow(job: Optional[Job], decisions: Sequence[Decision], places: Sequence[str]) -> Followed:
