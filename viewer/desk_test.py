@@ -1,9 +1,8 @@
 """Tests of the desk for viewer/test: all worked rows through the engine in node, with inputs that are none, and little memory; the page in Chromium,
-with the engine inside and behind tools/serve, where a job is typed, run, broken and mended, and given inputs that are none; and what the server refuses."""
+with the engine inside and behind tools/serve, where a job is typed, run, broken and mended, and given inputs that are none."""
 
 import base64
 import contextlib
-import http.client
 import http.server
 import importlib.machinery
 import importlib.util
@@ -317,47 +316,16 @@ def test_pages(expect, browser, pages):
         page.close()
 
 
-# ---- the server
-
-
-def test_server(expect, address, serve):
-    """Requests that are no run of this page are not answered, and a run that takes too much is ended."""
-    def asked(method, path, body=None, **headers):
-        link = http.client.HTTPConnection(*address, timeout=600)
-        link.request(method, path, body, {"Content-Type": "application/json", **{key.replace("_", "-"): value for key, value in headers.items()}})
-        answer = link.getresponse()
-        return answer.status, answer.read().decode()
-
-    run = json.dumps({"words": ["rules", "a.acl"], "files": {"a.acl": "permit any 0.0.0.0/0 0.0.0.0/0 any any\n"}})
-    status, text = asked("POST", "/run", run)
-    expect("a run", (status, json.loads(text)["status"] if status == 200 else text), (200, 0))
-    for what, found in {
-            "another name of the address": asked("POST", "/run", run, Host="example.org"), "the page by another name": asked("GET", "/", Host="example.org"),
-            "a text": asked("POST", "/run", run, Content_Type="text/plain"), "another path": asked("GET", "/README.md")}.items():
-        expect(what, found[0], 404)
-    for what, body, part in (("no run", "[]", "a run is its words"), ("a word that leads out", json.dumps({"words": ["rules", "/etc/passwd"], "files": {}}), "leads out"),
-                             ("a file that leads out", json.dumps({"words": [], "files": {"../a": ""}}), "leads out"), ("a file that is a folder", json.dumps({"words": [], "files": {"a/b": "", "a": ""}}), "no file")):
-        found = asked("POST", "/run", body)
-        expect(what, (found[0], part in found[1]), (400, True))
-    serve.OUTPUT = 512
-    status, text = asked("POST", "/run", json.dumps({"words": ["grow", "7", "200"], "files": {}}))
-    expect("a run with little output", (status, json.loads(text)["status"]), (200, 0))
-    job = (TOP / "examples/ipv6/ipv6.sefl").read_text()
-    status, text = asked("POST", "/run", json.dumps({"words": ["explore", "a"], "files": {"a": job}}))
-    expect("a run with more output than it may have", (status, json.loads(text)["status"] < 0, "the run was ended" in text), (200, True, True))
-
-
 @contextlib.contextmanager
 def served():
-    """tools/serve with the built program, at a free port: its address, and the script."""
-    serve = script("serve", TOP / "tools/serve")
-    made = serve.server(PROGRAM, 0)
+    """The address of tools/serve with the built program, at a free port; tools/serve_test.py tests the server itself."""
+    made = script("serve", TOP / "tools/serve").Server(PROGRAM, 0)
     threading.Thread(target=made.serve_forever, daemon=True).start()
     try:
-        yield made.server_address, serve
+        yield made.address
     finally:
         made.shutdown()
-        made.server_close()
+        made.close()
 
 
 def test(expect, browser):
@@ -376,11 +344,9 @@ def test(expect, browser):
         pages.append(("the page with the engine", f"file://{OUT}/tested.html", "proved"))
     if not PROGRAM.is_file():
         print("viewer: tools/serve is not tested, since the program is not built")
-    with served() if PROGRAM.is_file() else contextlib.nullcontext((None, None)) as (address, serve):
+    with served() if PROGRAM.is_file() else contextlib.nullcontext() as address:
         if address:
-            pages.append(("the page of tools/serve", f"http://127.0.0.1:{address[1]}/", "Behind this page"))
+            pages.append(("the page of tools/serve", address, "Behind this page"))
         if browser and pages:
             test_pages(expect, browser, pages)
             print("viewer: the desk is tested in", browser)
-        if address:
-            test_server(expect, address, serve)

@@ -1,55 +1,29 @@
-"""The command line: `python -m symnet explore examples/ttl.sefl` works as `symnet explore examples/ttl.sefl` does.
-
-Files are read from the disk as the library asks for them: a run that ends for want of a file is made again with that file, so each file that the
-program would open is read once, and no other is.
-"""
+"""The command line: `python -m symnet explore examples/ttl.sefl` works as `symnet explore examples/ttl.sefl` does."""
 
 import os
 import sys
-from typing import Dict, List, Optional
+from typing import List
 
-from .library import Ended, NotBuilt, call
+from . import engine, program
+from .library import Ended, NotBuilt
 
-USAGE, NO_FILE, CANNOT_READ, CANNOT_WRITE = 2, 3, 4, 5
-# One byte more than the largest file that the program reads, that of a report: what is longer is refused in any case.
-MOST = 268_435_457
-_ABSENT = "symnet: no file "
-
-
-def _missing(ended: Ended, files: Dict[bytes, bytes]) -> Optional[bytes]:
-    """The name of the file that a run ended for want of, where it has not been read yet."""
-    if ended.status != NO_FILE:
-        return None
-    name = ended.message.split("\n", 1)[0].removeprefix(_ABSENT).encode()
-    return None if name in files else name
-
-
-def run(words: List[bytes]) -> Ended:
-    """Runs the words over the files of the disk."""
-    files: Dict[bytes, bytes] = {}
-    while True:
-        ended = call(words, files)
-        name = _missing(ended, files)
-        if name is None:
-            return ended
-        try:
-            with open(name, "rb") as file:
-                files[name] = file.read(MOST)
-        except FileNotFoundError:
-            return ended
-        except OSError as error:
-            return Ended(CANNOT_READ, b"", f"symnet: cannot read {os.fsdecode(name)}\n{error.strerror}\n")
-        except ValueError:
-            return ended
+USAGE, CANNOT_WRITE = 2, 5
 
 
 def main(words: List[str]) -> int:
     try:
-        ended = run([os.fsencode(it) for it in words])
+        if not engine.is_library():
+            # the program takes the place of this process, so all that it reads, writes and ends with is its own
+            place = str(program.place())
+            os.execv(place, [place, *words])
+        ended = engine.on_disk([os.fsencode(it) for it in words])
     except ValueError:
         ended = Ended(USAGE, b"", "symnet: usage\n")
     except NotBuilt as error:
         print(f"symnet: {error}", file=sys.stderr)
+        return 1
+    except OSError as error:
+        print(f"symnet: {program.place()} does not run: {error.strerror}", file=sys.stderr)
         return 1
     try:
         sys.stdout.buffer.write(ended.output)

@@ -1,22 +1,26 @@
 """The commands over texts in memory. docs/questions.md, docs/formats.md and docs/language.md of the repository say what each asks and answers.
 
-A text is `str` or `bytes`. `files` has what a job names in its text, its tables, by those names; nothing is read from the disk. An option that is not
+A text is `str` or `bytes`; a job may also be a `Net`, which brings its tables. `files` has what a job names in its text, its tables, by those names; nothing is read from the disk. An option that is not
 given has the value of the command line, except `cases`: here it is "all". With `cases=None` no bound is said, and the program takes its own, 4,096. Each
 command raises `Refusal` where it ends without a whole text.
 """
 
-import json
-from dataclasses import dataclass, field, replace
-from typing import Dict, List, Literal, Mapping, Optional, Sequence, Tuple, Union
+from dataclasses import dataclass, field, fields, replace
+from typing import Dict, List, Literal, Mapping, Optional, Sequence, Tuple, Type, TypeVar, Union
 
 from .answers import Answer, Compared, ComparedRules, Fate, Loops, read_asked, read_compared, read_compared_rules, read_loops, read_rules
 from .inputs import read_list
-from .library import Ended, Files as AnyFiles, Text, as_bytes, call
+from .engine import call
+from .jobs import Net
+from .library import Ended, Files as AnyFiles, Text, as_bytes
+from .packet import JobText
 from .picture import Pictured, Texts
 from .refusal import PARTIAL, written
-from .report import Report, read_report, read_written
+from .records import NotReport, Report, read_report, read_written
+from .shape import Misshaped, a_count, member
 
 Files = Mapping[str, Text]
+Job = Union[Text, Net]
 # A bound on choices of cases: a number from 1 to 2^64 - 1, or all of them; None is the program's own, 4,096.
 Cases = Union[int, Literal["all"]]
 
@@ -65,6 +69,9 @@ class Grown:
     cut: int
 
 
+Counted = TypeVar("Counted", Confirmed, Grown)
+
+
 def run(words: Sequence[Text], files: Optional[AnyFiles] = None) -> Ended:
     """Runs the words of a command line over these files, and returns the status, the output and what is said for people; raises no Refusal."""
     none: Dict[str, Text] = {}
@@ -87,61 +94,82 @@ def _with(files: Optional[Files], **texts: Text) -> Tuple[Dict[str, Text], Dict[
     return whole, names
 
 
+def _taken(files: Optional[Files], *jobs: Job) -> Tuple[Dict[str, Text], List[Text]]:
+    """The files and the tables of the jobs, and the texts of these."""
+    whole: Dict[str, Text] = {**(files or {})}
+    for job in jobs:
+        for name, text in job.files.items() if isinstance(job, Net) else ():
+            if as_bytes(whole.setdefault(name, text)) != as_bytes(text):
+                raise ValueError(f"two different files have the name {name}")
+    return whole, [job.text if isinstance(job, Net) else job for job in jobs]
+
+
 def _shown(files: Mapping[str, Text], others: Optional[Mapping[str, Text]] = None) -> Texts:
     return Texts({name: as_bytes(text) for name, text in files.items()}, {name: as_bytes(text) for name, text in (others or {}).items()})
 
 
-def _counts(text: bytes) -> Dict[str, int]:
+def _counts(text: bytes, made: Type[Counted]) -> Counted:
     """The counts that a command writes: all of its answer besides its form."""
-    return {name: int(count) for name, count in json.loads(text).items() if name != "symnet"}
+    whole = read_written(text)
+    try:
+        return made(**{it.name: a_count(member(whole, it.name)) for it in fields(made)})
+    except Misshaped as error:
+        raise NotReport(f"no counts: {error}") from None
 
 
-def explore(job: Text, *, files: Optional[Files] = None, hops: Optional[int] = None, limit: Optional[int] = None,
+def explore(job: Job, *, files: Optional[Files] = None, hops: Optional[int] = None, limit: Optional[int] = None,
             cases: Optional[Cases] = "all", pruned: Optional[Literal["all", "count"]] = None) -> Report:
     """The report of all packets of a job."""
-    whole, names = _with(files, job=job)
+    taken, [job] = _taken(files, job)
+    whole, names = _with(taken, job=job)
     text = written(run(["explore", names["job"], *_options(hops=hops, limit=limit, cases=cases, pruned=pruned)], whole))
-    return replace(read_report(text), text=text, shown=_shown({"report": text, "job": job}))
+    return replace(read_report(text, job), text=text, shown=_shown({"report": text, "job": job}))
 
 
-def walk(job: Text, packet: Union[Text, Sequence[int]], *, files: Optional[Files] = None, hops: Optional[int] = None,
+def walk(job: Job, packet: Union[Text, Sequence[int]], *, files: Optional[Files] = None, hops: Optional[int] = None,
          limit: Optional[int] = None) -> Report:
     """All walks of one packet: its text, or its numbers, one for each unknown field of the injection and each choice on the way."""
     given = packet if isinstance(packet, (str, bytes)) else "\n".join(map(str, packet))
-    whole, names = _with(files, job=job, packet=given)
+    taken, [job] = _taken(files, job)
+    whole, names = _with(taken, job=job, packet=given)
     text = written(run(["walk", names["job"], names["packet"], *_options(hops=hops, limit=limit)], whole))
-    return replace(read_report(text), text=text, shown=_shown({"walks": text, "job": job}))
+    return replace(read_report(text, job), text=text, shown=_shown({"walks": text, "job": job}))
 
 
-def replay(job: Text, report: Union[Text, Report], *, files: Optional[Files] = None) -> Confirmed:
+def replay(job: Job, report: Union[Text, Report], *, files: Optional[Files] = None) -> Confirmed:
     """The counts of a report's records, where each was confirmed for the job: of a text, or of what `explore` returned."""
-    whole, names = _with(files, job=job, report=report.text if isinstance(report, Report) else report)
-    return Confirmed(**_counts(written(run(["replay", names["job"], names["report"]], whole))))
+    taken, [job] = _taken(files, job)
+    whole, names = _with(taken, job=job, report=report.text if isinstance(report, Report) else report)
+    return _counts(written(run(["replay", names["job"], names["report"]], whole)), Confirmed)
 
 
-def ask(job: Text, *, files: Optional[Files] = None, hops: Optional[int] = None, limit: Optional[int] = None, cases: Optional[Cases] = "all") -> Asked:
+def ask(job: Job, *, files: Optional[Files] = None, hops: Optional[int] = None, limit: Optional[int] = None, cases: Optional[Cases] = "all") -> Asked:
     """The answers to the questions of a job."""
-    whole, names = _with(files, job=job)
+    taken, [job] = _taken(files, job)
+    whole, names = _with(taken, job=job)
     ended = run(["ask", names["job"], *_options(hops=hops, limit=limit, cases=cases)], whole)
     text = written(ended)
-    return Asked(tuple(read_asked(read_written(text))), ended.status != PARTIAL, _shown({"answer": text, "job": job}))
+    named = JobText(job)
+    return Asked(tuple(replace(it, job=named) for it in read_asked(read_written(text))), ended.status != PARTIAL, _shown({"answer": text, "job": job}))
 
 
-def loops(job: Text, *, files: Optional[Files] = None, hops: Optional[int] = None, limit: Optional[int] = None, cases: Optional[Cases] = "all",
+def loops(job: Job, *, files: Optional[Files] = None, hops: Optional[int] = None, limit: Optional[int] = None, cases: Optional[Cases] = "all",
           open: Optional[Literal["numbers", "visits"]] = None) -> Loops:
     """Which paths of a job that are cut go round for ever."""
-    whole, names = _with(files, job=job)
+    taken, [job] = _taken(files, job)
+    whole, names = _with(taken, job=job)
     ended = run(["loops", names["job"], *_options(hops=hops, limit=limit, cases=cases, open=open)], whole)
     text = written(ended)
     return replace(read_loops(read_written(text)), complete=ended.status != PARTIAL, shown=_shown({"answer": text, "job": job}))
 
 
-def compare(job: Text, other: Text, *, files: Optional[Files] = None, hops: Optional[int] = None, limit: Optional[int] = None,
+def compare(job: Job, other: Job, *, files: Optional[Files] = None, hops: Optional[int] = None, limit: Optional[int] = None,
             cases: Optional[Cases] = "all") -> Compared:
     """Whether two jobs deliver the same, or a packet that shows a difference."""
-    whole, names = _with(files, job=job, other=other)
+    taken, [job, other] = _taken(files, job, other)
+    whole, names = _with(taken, job=job, other=other)
     text = written(run(["compare", names["job"], names["other"], *_options(hops=hops, limit=limit, cases=cases)], whole))
-    return replace(read_compared(read_written(text)), shown=_shown({"answer": text, "job": job}, {"job": other}))
+    return replace(read_compared(read_written(text)), job=JobText(job), shown=_shown({"answer": text, "job": job}, {"job": other}))
 
 
 def model(kind: Literal["mac", "fib", "click", "acl"], file: Text, *, style: Optional[Literal["chain", "grouped", "egress"]] = None) -> str:
@@ -166,4 +194,4 @@ def compare_rules(file: Text, other: Text) -> ComparedRules:
 
 def grow(seed: int, nodes: int) -> Grown:
     """The counts of the records of a job that is made from a seed."""
-    return Grown(**_counts(written(run(["grow", str(seed), str(nodes)]))))
+    return _counts(written(run(["grow", str(seed), str(nodes)])), Grown)

@@ -1,10 +1,12 @@
 """Reads what a person writes for symnet, as far as answers are told by it: a job's unknown fields and questions, and filter lists."""
 
 import re
-from dataclasses import dataclass
-from typing import List, Optional, Tuple, Union
+from dataclasses import dataclass, field
+from typing import Dict, List, Optional, Sequence, Tuple, Union
 
 RULE_LIMIT = 1024
+# The deepest nesting of a job, and a little more.
+DEEPEST = 70
 LIST_FIELDS = (("protocol", "protocol", 255), ("source address", "ip4", 2**32 - 1), ("destination address", "ip4", 2**32 - 1),
                ("source port", "number", 65535), ("destination port", "number", 65535))
 
@@ -27,17 +29,74 @@ class Ask:
     note: str
 
 
+# The instructions that take a decision, or end the code.
+_STEERING = ("if", "constrain", "fork", "forward", "fail")
+
+
+@dataclass(frozen=True)
+class Statement:
+    """An instruction: its word, its text without the blocks, and these: two of an If, one of a `for` or of a block that stands by itself."""
+
+    word: str
+    text: str
+    blocks: Tuple[Tuple["Statement", ...], ...] = ()
+
+    @property
+    def steers(self) -> bool:
+        """Whether a way depends on it: it decides, chooses or ends."""
+        return self.word in _STEERING or self.chosen is not None or any(self.blocks)
+
+    @property
+    def chosen(self) -> Optional[str]:
+        """What it gives a value that nobody knows; None where it does not."""
+        return self.text[len("set "):-len(" = any")] if self.word == "set" and self.text.endswith(" = any") else None
+
+
+@dataclass(frozen=True)
+class Node:
+    """A box: the style of its table, where it names one; else where in the text the code of each of its ports begins, as `in 0`."""
+
+    style: Optional[str]
+    codes: Dict[str, int]
+
+
 @dataclass(frozen=True)
 class Job:
-    """The unknown fields of the injection in order, as references, its `where` lines, and the questions."""
+    """The unknown fields of the injection in order, as references, its `where` lines, the questions, the boxes, and the port that a packet enters by."""
 
     fields: Tuple[str, ...]
     asks: Tuple[Ask, ...]
     wheres: Tuple[str, ...] = ()
+    nodes: Dict[str, Node] = field(default_factory=dict)
+    start: str = ""
+    # What the lines with `any` set, each once.
+    chosen: Tuple[str, ...] = ()
+    tokens: Optional["Tokens"] = field(default=None, repr=False, compare=False)
 
-    def target(self, symbol: int) -> str:
-        """What the value number `symbol` of a packet is: a field, or a choice on the way."""
-        return self.fields[symbol] if symbol < len(self.fields) else f"choice {symbol - len(self.fields)}"
+    def target(self, symbol: int, choices: Sequence[str] = ()) -> str:
+        """What the value number `symbol` of a packet is: a field, or a choice on the way, by what it sets. `choices` are those of the way, where it is known; else
+        all lines with `any` have to set the same."""
+        if symbol < len(self.fields):
+            return self.fields[symbol]
+        number = symbol - len(self.fields)
+        if number < len(choices):
+            return _again(choices[number], choices[:number].count(choices[number]))
+        return _again(self.chosen[0], number) if len(self.chosen) == 1 else f"choice {number}"
+
+    def code(self, place: str) -> Optional[Tuple[Statement, ...]]:
+        """What steers in the code of a port, as `in r.0`; None where the box is that of a table, or is not in the job."""
+        side, _, port = place.partition(" ")
+        name, _, number = port.partition(".")
+        node = self.nodes.get(name)
+        if node is None or node.style is not None or self.tokens is None:
+            return None
+        begin = node.codes.get(f"{side} {number}")
+        return () if begin is None else self.tokens.code(begin)
+
+
+def _again(target: str, earlier: int) -> str:
+    """What a choice sets, with a count where the same was chosen before."""
+    return f"{target} ({earlier + 1})" if earlier else target
 
 
 @dataclass(frozen=True)
@@ -76,11 +135,12 @@ def _tokens(text: str) -> List[_Token]:
     return found
 
 
-class _Tokens:
+class Tokens:
     """The tokens of a job, from front to back."""
 
     def __init__(self, text: str):
         self.text, self.tokens, self.at = text, _tokens(text), 0
+        self.codes: Dict[int, Tuple[Statement, ...]] = {}
 
     def peek(self) -> str:
         return self.tokens[self.at].text if self.at < len(self.tokens) else ""
@@ -91,11 +151,14 @@ class _Tokens:
         self.at += 1
         return self.tokens[self.at - 1].text
 
+    def line(self) -> int:
+        """The line of the last token, from 1."""
+        return self.text.count("\n", 0, self.tokens[self.at - 1].start) + 1
+
     def take(self, wanted: str) -> None:
         found = self.next()
         if found != wanted:
-            line = self.text.count("\n", 0, self.tokens[self.at - 1].start) + 1
-            raise NotInput(f"no job: '{found}' where '{wanted}' should stand, in line {line}")
+            raise NotInput(f"no job: '{found}' where '{wanted}' should stand, in line {self.line()}")
 
     def statement(self) -> str:
         """The text up to the next semicolon, which is taken too."""
@@ -113,27 +176,93 @@ class _Tokens:
         while depth > 0:
             depth += {"{": 1, "}": -1}.get(self.next(), 0)
 
+    def between(self, first: int, end: int) -> str:
+        """The text from one token up to another, with single blanks."""
+        return re.sub(r"\s+", " ", self.text[self.tokens[first].start:self.tokens[end - 1].end]) if first < end else ""
+
+    def code(self, begin: int) -> Tuple[Statement, ...]:
+        """What steers in the block that begins there."""
+        if begin not in self.codes:
+            kept, self.at = self.at, begin
+            try:
+                self.codes[begin] = self._block(0)
+            finally:
+                self.at = kept
+        return self.codes[begin]
+
+    def _block(self, depth: int) -> Tuple[Statement, ...]:
+        if depth > DEEPEST:
+            raise NotInput("no job: it nests too deep")
+        self.take("{")
+        made = []
+        while self.peek() != "}":
+            step = self._statement(depth)
+            made += [step] if step.steers else []
+        self.next()
+        return tuple(made)
+
+    def _statement(self, depth: int) -> Statement:
+        first = self.at
+        if self.peek() == "{":
+            return Statement("{", "", (self._block(depth + 1),))
+        word = self.next()
+        if word not in ("if", "for"):
+            return Statement(word, f"{word} {self.statement()}".rstrip())
+        while self.peek() != "{" or self.tokens[self.at - 1].text == "in":
+            self.next()
+        text, blocks = self.between(first, self.at), [self._block(depth + 1)]
+        if word == "if":
+            self.take("else")
+            blocks.append(self._block(depth + 1))
+        return Statement(word, text, tuple(blocks))
+
+
+def _node(tokens: Tokens) -> Tuple[str, Node]:
+    """A node: its name, and where its codes begin."""
+    tokens.take("node")
+    name = tokens.next()
+    if tokens.peek() == "=":
+        return name, Node(tokens.statement().rsplit(" ", 1)[-1], {})
+    tokens.next()
+    tokens.take("->")
+    tokens.next()
+    tokens.take("{")
+    codes: Dict[str, int] = {}
+    while tokens.peek() != "}":
+        port = f"{tokens.next()} {tokens.next()}"
+        codes.setdefault(port, tokens.at)
+        tokens.block()
+    tokens.next()
+    return name, Node(None, codes)
+
+
+# The tokens of the longest `set .. = any`.
+_LONGEST = 10
+
+
+def _chosen(tokens: Tokens) -> Tuple[str, ...]:
+    """What the lines with `any` set, each once."""
+    parts, found = [it.text for it in tokens.tokens], []
+    for at in range(1, len(parts)):
+        if parts[at] == "any" and parts[at - 1] == "=":
+            begin = next((back for back in range(at - 1, max(at - _LONGEST, 0), -1) if parts[back] == "set" and parts[back - 1] in (";", "{", "}")), at)
+            found += [tokens.between(begin + 1, at - 1)] if begin < at else []
+    return tuple(dict.fromkeys(found))
+
 
 def read_job(text: str) -> Job:
-    """The unknown fields, `where` lines and questions of the job; NotInput where it has not the outline of one."""
-    tokens = _Tokens(text)
+    """The unknown fields, `where` lines and questions of the job, and where its boxes stand; NotInput where it has not the outline of one."""
+    tokens = Tokens(text)
     tokens.take("symnet")
     tokens.statement()
+    nodes: Dict[str, Node] = {}
     while tokens.peek() == "node":
-        tokens.next()
-        tokens.next()
-        if tokens.peek() == "=":
-            tokens.statement()
-            continue
-        tokens.next()
-        tokens.take("->")
-        tokens.next()
-        tokens.block()
+        name, node = _node(tokens)
+        nodes.setdefault(name, node)
     while tokens.peek() == "link":
         tokens.statement()
     tokens.take("inject")
-    for _ in range(3):
-        tokens.next()
+    start = f"in {tokens.next()}{tokens.next()}{tokens.next()}"
     tokens.take("{")
     fields, asks, wheres = [], [], []
     while tokens.peek() != "}":
@@ -148,7 +277,7 @@ def read_job(text: str) -> Job:
         note = tokens.tokens[tokens.at].note
         tokens.next()
         asks.append(Ask(tokens.statement(), note))
-    return Job(tuple(fields), tuple(asks), tuple(wheres))
+    return Job(tuple(fields), tuple(asks), tuple(wheres), nodes, start, _chosen(tokens), tokens)
 
 
 def is_list(name: str, text: str) -> bool:

@@ -34,7 +34,7 @@ def page(texts: Texts) -> Optional[str]:
         return None
     whole = place.read_text()
     begin = whole.index(_PLACE)
-    given = json.dumps([[[name, text.decode(errors="replace")] for name, text in it.items()] for it in (texts.files, texts.others)]).replace("</", "<\\/")
+    given = json.dumps([[[name, text.decode(errors="replace")] for name, text in it.items()] for it in (texts.files, texts.others)]).replace("<", "\\u003c")
     return f"{whole[:begin]}<script>showOnly(...{given});</script>{whole[whole.index('-->', begin) + 3:]}"
 
 
@@ -46,4 +46,4 @@ class Pictured:
     def _repr_html_(self) -> Optional[str]:
         """The page in a frame; None, so that a notebook shows the object as text, where there is no page or too much to show."""
         whole = page(self.shown) if self.shown is not None and self.shown.size() <= MOST else None
-        return None if whole is None else f'<iframe srcdoc="{html.escape(whole)}" style="width: 100%; height: {HEIGHT}px; border: 0"></iframe>'
+        return None if whole is None else f'<iframe sandbox="allow-scripts" srcdoc="{html.escape(whole)}" style="width: 100%; height: {HEIGHT}px; border: 0"></iframe>'

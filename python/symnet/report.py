@@ -1,228 +1,50 @@
 """Reads what symnet writes into plain objects, and prints it for people.
 
-    python -m symnet.report WRITTEN [FILE ..] [--pruned]
-    tools/symnet_report.py WRITTEN [FILE ..] [--pruned]      the same, where the package is not installed
+    python -m symnet.report WRITTEN [FILE ..] [OPTION ..]
+    tools/symnet_report.py WRITTEN [FILE ..] [OPTION ..]      the same, where the package is not installed
 
 WRITTEN is a report of `symnet explore`, the walks of `symnet walk`, or an answer of `symnet ask`, `rules`, `loops` or `compare`; `-` reads it from
-standard input. A FILE is what belongs to it: the job, the filter list of `rules` (or its two, in their order), or the report whose records `loops` and `ask`
-speak of. Fields are shown by their names and with their values as people write them, where the job is given. Only the standard library is used. Whole numbers keep all their
-digits; a value above 2^64 - 1, which is written as a text of digits, becomes a number too.
+standard input. A FILE is what belongs to it: the job (or the two of `compare`, in their order), the filter list of `rules` (or its two), or the report whose records
+`loops` and `ask` speak of. Fields are shown by their names and with their values as people write them, where the job is given. Only the standard library is used.
 
     symnet ask office.sefl | tools/symnet_report.py - office.sefl
     symnet rules border.acl | tools/symnet_report.py - border.acl
+
+    --record N                    all that one record of a report has
+    --pruned                      the refuted sides of a report, too
+    --narrow                      lines of at most 72 characters; on a terminal they are as wide as it is
+    --hops, --limit, --cases N    the bounds that the answer was made under, where they are not the usual ones
+    --only-read                   nothing is run
+
+An answer says no way. Where the job is given, and no report, and the package has something to run, it walks the packets that answers show along the job (`walk`), and
+explores the job of an answer of `loops` (`explore`), to tell the boxes.
 """
 
-import json
+import argparse
+import io
+import os
+import shutil
 import signal
 import sys
 from dataclasses import dataclass, field
-from typing import Any, Callable, Dict, List, Optional, Sequence, Tuple, Union
+from typing import Callable, Dict, List, NoReturn, Optional, Sequence, Tuple, Union
 
-from .answers import (NotAnswer, Written, asked_lines, columns, compared_lines, compared_rules_lines, is_of_lists, loops_lines, packet_words, read_asked,
-                      read_compared, read_compared_rules, read_loops, read_rules, rules_lines)
-from .causes import ALL_CASES, COUPLED, OUTSIDE, USUAL_CASES, too_many, undecided_lines
+from .answer_words import Ways, asked_lines, compared_lines, compared_rules_lines, is_round, loops_lines, rules_lines
+from .answers import Loops, NotAnswer, is_of_lists, read_asked, read_compared, read_compared_rules, read_loops, read_rules
+from .causes import ALL_CASES, COUPLED, OUTSIDE, too_many, undecided_lines
 from .inputs import Job, NotInput, Rule, is_list, read_job, read_list
-from .picture import Pictured, Texts
+from .packets import packet_words
+from .plain import laid_out, plain, wrapped
+from .records import Cell, Fields, NotReport, Path, Pruned, Record, Report, Unexplored, read_report, read_written, report_of
+from .report_words import record_lines, report_lines, test_words, undecided
+from .runner import Runner
+from .shape import Misshaped
 
-FAULTS = {
-    1: "no such tag", 2: "address out of range", 3: "no field at the address", 4: "field of another width",
-    5: "fields that overlap", 6: "field that is not set", 7: "no such metadata", 8: "constraint not met", 9: "fail",
-}
+__all__ = ["Cell", "Fields", "Inputs", "NotReport", "Path", "Pruned", "Record", "Report", "Unexplored", "main", "open_lines", "packet_words", "read_report", "read_written",
+           "record_lines", "report_lines", "shown", "undecided"]
 
-
-class NotReport(Exception):
-    """The text is no report and no list of walks; the message says where."""
-
-
-@dataclass(frozen=True)
-class Cell:
-    """A cell of `width` bits: unset where `constant` is None, else constant + sum of coefficient * symbol, modulo 2^width."""
-
-    width: int
-    constant: Optional[int]
-    parts: Tuple[Tuple[int, int], ...] = ()
-
-    def value(self, values: List[int]) -> Optional[int]:
-        """The number that it holds for the packet with these numbers, one for each symbol."""
-        if self.constant is None:
-            return None
-        total = self.constant + sum(coefficient * values[symbol] for symbol, coefficient in self.parts)
-        return total % (1 << self.width)
-
-
-@dataclass(frozen=True)
-class Fields:
-    """What is carried at the end: tags with bit addresses, header cells by address, metadata by owner (None: global) and name."""
-
-    tags: Tuple[Tuple[str, int], ...]
-    heads: Tuple[Tuple[int, Tuple[Cell, ...]], ...]
-    metas: Tuple[Tuple[Optional[str], str, Tuple[Cell, ...]], ...]
-
-
-@dataclass(frozen=True)
-class Path:
-    """A path, or a walk of one packet; `values` are those of its least packet, None where it is undecided or a walk. `undecided` is the cause, "cases",
-    "coupled" or "outside"; `count` is the number of its choices of cases, or of its coupled values, and `pick` the number of the test that is outside."""
-
-    decisions: Tuple[Union[str, int], ...]
-    places: Tuple[str, ...]
-    end: str
-    fields: Fields
-    values: Optional[Tuple[int, ...]] = None
-    undecided: Optional[str] = None
-    count: Optional[int] = None
-    pick: Optional[int] = None
-
-
-@dataclass(frozen=True)
-class Pruned:
-    """A side that no packet takes, with the refutation's steps as they are written."""
-
-    decisions: Tuple[Union[str, int], ...]
-    refutation: Tuple[List[Any], ...]
-
-
-@dataclass(frozen=True)
-class Unexplored:
-    """A decision that was open when the limit was reached."""
-
-    decisions: Tuple[Union[str, int], ...]
-
-
-Record = Union[Path, Pruned, Unexplored]
-
-
-@dataclass(frozen=True)
-class Report(Pictured):
-    """All records in order; `refuted` is how many refuted sides are only counted, and `complete` says that nothing was left unexplored. Walks have none
-    of hops, limit and refuted sides. `cases` is the bound on choices of cases, 4,096 where the text says none. `text` is what was read, as `replay` takes it, where it is kept."""
-
-    records: Tuple[Record, ...]
-    hops: Optional[int] = None
-    limit: Optional[int] = None
-    refuted: int = 0
-    complete: bool = True
-    cases: Optional[int] = None
-    text: bytes = field(default=b"", repr=False, compare=False)
-    shown: Optional[Texts] = field(default=None, repr=False, compare=False)
-
-    @property
-    def paths(self) -> List[Path]:
-        return [record for record in self.records if isinstance(record, Path)]
-
-
-def _cell(parts: List[Any]) -> Cell:
-    width = int(parts[0])
-    if len(parts) == 1:
-        return Cell(width, None)
-    members = tuple((int(symbol), int(coefficient)) for symbol, coefficient in (parts[2] if len(parts) == 3 else []))
-    return Cell(width, int(parts[1]), members)
-
-
-def _fields(whole: Written) -> Fields:
-    return Fields(
-        tags=tuple((name, int(address)) for name, address in whole["tags"]),
-        heads=tuple((int(address), tuple(_cell(cell) for cell in cells)) for address, cells in whole["heads"]),
-        metas=tuple((owner, name, tuple(_cell(cell) for cell in cells)) for owner, name, cells in whole["metas"]),
-    )
-
-
-def _end(end: Union[str, Written]) -> str:
-    if isinstance(end, str):
-        return end
-    if end["fault"] == 9:
-        return f'failed at {end["site"]}: {end["text"]}'
-    return f'failed at {end["site"]}: {FAULTS.get(end["fault"], "unknown fault")}'
-
-
-def _path(record: Written) -> Path:
-    verdict = record.get("verdict") or {}
-    values = tuple(int(value) for value in verdict["sat"]) if "sat" in verdict else None
-    why = verdict.get("undecided") or {}
-    count, pick = (int(why[key]) if key in why else None for key in ("count", "pick"))
-    return Path(tuple(record["decisions"]), tuple(record["places"]), _end(record["end"]), _fields(record["fields"]), values, why["cause"] if why else None, count, pick)
-
-
-def _record(record: Written) -> Record:
-    kind = record.get("kind", "path")
-    if kind == "path":
-        return _path(record)
-    if kind == "pruned":
-        return Pruned(tuple(record["decisions"]), tuple(record["refutation"]))
-    if kind == "unexplored":
-        return Unexplored(tuple(record["decisions"]))
-    raise NotReport(f"a record of the unknown kind {kind!r}")
-
-
-def read_written(text: Union[str, bytes]) -> Written:
-    try:
-        whole = json.loads(text)
-    except (ValueError, RecursionError) as error:
-        raise NotReport(f"no JSON: {error}") from None
-    if not isinstance(whole, dict) or whole.get("symnet") != 1:
-        raise NotReport("no report: it is no object with the key symnet 1")
-    return whole
-
-
-def read_report(text: Union[str, bytes]) -> Report:
-    """The report, or the walks, of this text; NotReport where it is neither."""
-    return _report(read_written(text))
-
-
-def _report(whole: Written) -> Report:
-    listed = whole.get("records", whole.get("walks"))
-    if not isinstance(listed, list):
-        raise NotReport("no report: it has neither records nor walks")
-    records = tuple(_numbered(number, record) for number, record in enumerate(listed))
-    cases = whole.get("cases", USUAL_CASES) if "records" in whole else None
-    if cases is not None and not (isinstance(cases, int) and not isinstance(cases, bool) and cases >= 1):
-        raise NotReport("no report: its bound on choices of cases is no number from 1 on")
-    return Report(records, whole.get("hops"), whole.get("limit"), whole.get("refuted", 0), whole.get("state", "done") == "done", cases)
-
-
-def _numbered(number: int, record: Written) -> Record:
-    try:
-        return _record(record)
-    except (KeyError, IndexError, TypeError, ValueError, AttributeError) as error:
-        raise NotReport(f"record {number} has not the form of one: {error!r}") from None
-
-
-def table(report: Report, with_pruned: bool = False, job: Optional[Job] = None) -> str:
-    """A line for each path: its number, its end, the ports, the least packet; with the pruned sides where they are asked for."""
-    lines = []
-    for number, record in enumerate(report.records):
-        if isinstance(record, Path):
-            lines.append((str(number), record.end, " ".join(map(str, record.decisions)), " > ".join(record.places), _packet(record, job)))
-        elif isinstance(record, Unexplored):
-            lines.append((str(number), "unexplored", " ".join(map(str, record.decisions)), "", ""))
-        elif with_pruned:
-            lines.append((str(number), "pruned", " ".join(map(str, record.decisions)), "", ""))
-    return "\n".join(columns([("record", "end", "decisions", "places", "packet"), *lines]))
-
-
-def _packet(path: Path, job: Optional[Job]) -> str:
-    if path.values is None:
-        return f"undecided: {path.undecided}" if path.undecided else "-"
-    return " ".join(map(str, path.values)) if job is None else packet_words(path.values, job)
-
-
-def undecided(report: Report, job: Optional[Job] = None) -> List[str]:
-    """How many paths are undecided by which cause, and what settles them."""
-    found = [(number, path.undecided, _test(path, job)) for number, path in enumerate(report.records) if isinstance(path, Path) and path.undecided]
-    return undecided_lines(found, len(report.paths), report.cases)
-
-
-def _test(path: Path, job: Optional[Job]) -> str:
-    """The words of the test that a path's cause names: the tests of the injection come first, then those of the decisions, in their order."""
-    if path.pick is None:
-        return ""
-    if job is None:
-        return f"test {path.pick}"
-    if path.pick < len(job.wheres):
-        return f"where {job.wheres[path.pick]}"
-    tests = [(at, decision) for at, decision in enumerate(path.decisions) if isinstance(decision, str)]
-    at, decision = tests[path.pick - len(job.wheres)] if path.pick - len(job.wheres) < len(tests) else (path.pick, "")
-    return f"decision {at}, {decision}" if decision else f"test {path.pick}"
+NARROW = 72
+USAGE = "symnet_report.py WRITTEN [FILE ..] [--record N] [--pruned] [--narrow] [--hops N] [--limit N] [--cases N] [--only-read]"
 
 
 def open_lines(report: Report, numbers: Sequence[int], job: Optional[Job] = None) -> List[str]:
@@ -230,7 +52,7 @@ def open_lines(report: Report, numbers: Sequence[int], job: Optional[Job] = None
     if any(number >= len(report.records) for number in numbers):
         raise NotAnswer("a record that leaves a question open is none of the report: the answer is of another job, other hops or another limit")
     listed = [(number, report.records[number]) for number in numbers]
-    found = [(number, path.undecided, _test(path, job)) for number, path in listed if isinstance(path, Path) and path.undecided]
+    found = [(number, path.undecided, test_words(path, job)) for number, path in listed if isinstance(path, Path) and path.undecided]
     untried = sum(isinstance(record, Unexplored) for _, record in listed)
     decided = len(listed) - len(found) - untried
     lines = undecided_lines(found, len(listed), report.cases, "record")
@@ -245,12 +67,13 @@ def open_lines(report: Report, numbers: Sequence[int], job: Optional[Job] = None
 
 @dataclass
 class Inputs:
-    """The files that belong to what was written, as far as they are given."""
+    """The files that belong to what was written, as far as they are given, and what runs the commands, if anything does."""
 
-    job: Optional[Job] = None
-    # Filter lists in the order in which they are given.
+    # Jobs and filter lists in the order in which they are given; of each job its name, too.
+    jobs: List[Tuple[str, Job]] = field(default_factory=list)
     lists: List[List[Rule]] = field(default_factory=list)
     report: Optional[Report] = None
+    runner: Optional[Runner] = None
 
     def add(self, name: str, data: bytes) -> None:
         """Takes a file for what its text is."""
@@ -260,17 +83,46 @@ class Inputs:
         elif is_list(name, text):
             self.lists.append(read_list(text))
         else:
-            self.job = read_job(text)
+            self.jobs.append((name, read_job(text)))
+
+    @property
+    def job(self) -> Optional[Job]:
+        return self.jobs[0][1] if self.jobs else None
 
     def list_of(self, at: int) -> Optional[List[Rule]]:
         """The filter list that stands there, where it is given."""
         return self.lists[at] if at < len(self.lists) else None
 
-    def cut_paths(self) -> Optional[Dict[int, Tuple[str, ...]]]:
-        """The places of each cut path of the report, by the number of its record."""
-        if self.report is None:
+    def cut_paths(self, loops: Loops) -> Optional[Dict[int, Path]]:
+        """The cut paths of the report, by their numbers; where none is given, those of the job as it is explored for them. None where the loops are not among them."""
+        if self.report is not None:
+            return _cut(self.report)
+        made = self.runner.report(self.jobs[0][0]) if self.runner and self.jobs and loops.first else None
+        found = {} if made is None else _cut(made)
+        are_there = all(number in found for number in loops.open) and all(number in found and is_round(found[number], first) for number, first in loops.first.items())
+        return found if made is not None and are_there else None
+
+    def ways(self) -> Optional[Ways]:
+        """What tells the paths of a packet that an answer shows: the record of its number, or the walks of the packet."""
+        if self.report is not None:
+            return self._recorded
+        if self.runner is None or not self.jobs:
             return None
-        return {number: record.places for number, record in enumerate(self.report.records) if isinstance(record, Path) and record.end == "cut"}
+        runner, name = self.runner, self.jobs[0][0]
+        return lambda _, values: runner.walks(name, values)
+
+    def _recorded(self, number: int, _: Sequence[int]) -> Sequence[Path]:
+        records = self.report.records if self.report else ()
+        record = records[number] if number < len(records) else None
+        if not isinstance(record, Path):
+            raise NotAnswer(f"record {number} of the report is no path: the answer is of another job, or was made under other bounds")
+        return [record]
+
+    def walks(self, values: Sequence[int]) -> Dict[str, Sequence[Path]]:
+        """The walks of a packet in the networks whose jobs are given, the left one first."""
+        if self.runner is None:
+            return {}
+        return {side: self.runner.walks(name, values, is_bound=True) for side, (name, _) in zip(("left", "right"), self.jobs)}
 
     def why(self) -> Optional[Callable[[Sequence[int]], List[str]]]:
         """Why records of the report leave a question open, where it is given."""
@@ -278,22 +130,78 @@ class Inputs:
         return None if report is None else lambda numbers: open_lines(report, numbers, job)
 
 
-def shown(text: Union[str, bytes], inputs: Inputs, with_pruned: bool = False) -> str:
-    """What is written, in words; NotReport or NotAnswer where it is nothing that symnet writes, or not of these inputs."""
+def _cut(report: Report) -> Dict[int, Path]:
+    return {number: record for number, record in enumerate(report.records) if isinstance(record, Path) and record.end == "cut"}
+
+
+def shown_lines(text: Union[str, bytes], inputs: Inputs, with_pruned: bool = False, record: Optional[int] = None) -> List[str]:
+    """What is written, in words, line by line; NotReport or NotAnswer where it is nothing that symnet writes, or not of these inputs."""
     whole = read_written(text)
+    if record is not None:
+        try:
+            return record_lines(report_of(whole), record, inputs.job)
+        except Misshaped as error:
+            raise NotReport(str(error)) from None
     if "answers" in whole:
-        return "\n".join(asked_lines(read_asked(whole), inputs.job, inputs.why()))
+        return asked_lines(read_asked(whole), inputs.job, inputs.why(), inputs.ways())
     if "rules" in whole:
-        return "\n".join(rules_lines(read_rules(whole, inputs.list_of(0)), inputs.list_of(0)))
+        return rules_lines(read_rules(whole, inputs.list_of(0)), inputs.list_of(0))
     if "loops" in whole:
-        return "\n".join(loops_lines(read_loops(whole), inputs.cut_paths(), inputs.job))
+        loops = read_loops(whole)
+        return loops_lines(loops, inputs.cut_paths(loops), inputs.job)
     if is_of_lists(whole):
         left, right = inputs.list_of(0), inputs.list_of(1)
-        return "\n".join(compared_rules_lines(read_compared_rules(whole, left, right), left, right))
+        return compared_rules_lines(read_compared_rules(whole, left, right), left, right)
     if "answer" in whole:
-        return "\n".join(compared_lines(read_compared(whole), inputs.job))
-    report = _report(whole)
-    return "\n".join([table(report, with_pruned, inputs.job), *undecided(report, inputs.job)])
+        compared = read_compared(whole)
+        return compared_lines(compared, inputs.job, inputs.walks(compared.values) if compared.answer == "other" else None)
+    return report_lines(report_of(whole), with_pruned, inputs.job)
+
+
+def shown(text: Union[str, bytes], inputs: Inputs, with_pruned: bool = False, record: Optional[int] = None) -> str:
+    """What is written, in words, as it may be printed."""
+    return laid_out(shown_lines(text, inputs, with_pruned, record))
+
+
+# ---------------------------------------------------------------- as a program
+
+
+class _Usage(Exception):
+    """The words are none of the reader."""
+
+
+class _Words(argparse.ArgumentParser):
+    def error(self, message: str) -> NoReturn:
+        raise _Usage(message)
+
+
+def _count(word: str) -> int:
+    if not (word.isascii() and word.isdigit() and len(word) <= 20):
+        raise argparse.ArgumentTypeError(f"{word} is no number")
+    return int(word)
+
+
+def _bound(word: str) -> str:
+    return word if word == "all" else str(_count(word))
+
+
+def _words() -> _Words:
+    reader = _Words(usage=USAGE, allow_abbrev=False, add_help=False)
+    reader.add_argument("written", metavar="WRITTEN")
+    reader.add_argument("files", metavar="FILE", nargs="*")
+    reader.add_argument("--record", metavar="N", type=_count)
+    for name in ("--pruned", "--narrow", "--only-read"):
+        reader.add_argument(name, action="store_true")
+    for name in ("--hops", "--limit", "--cases"):
+        reader.add_argument(name, metavar="N", type=_bound)
+    return reader
+
+
+def _width(is_narrow: bool) -> Optional[int]:
+    """How wide lines may be; None where they may have any width, since no terminal shows them."""
+    if is_narrow:
+        return NARROW
+    return shutil.get_terminal_size().columns if sys.stdout.isatty() or os.environ.get("COLUMNS", "").isdigit() else None
 
 
 def _bytes_of(name: str) -> bytes:
@@ -303,23 +211,43 @@ def _bytes_of(name: str) -> bytes:
         return file.read()
 
 
-def main(words: List[str]) -> int:
-    names = [word for word in words if word == "-" or not word.startswith("-")]
-    if not names or "-" in names[1:] or any(word not in ("-", "--pruned") for word in words if word.startswith("-")):
-        print("usage: symnet_report.py WRITTEN [FILE ..] [--pruned]", file=sys.stderr)
-        return 2
-    inputs = Inputs()
-    name = names[0]
+def _print(lines: Sequence[str], width: Optional[int]) -> None:
+    """Prints the lines, with a question mark for what the encoding of the output does not have."""
+    if isinstance(sys.stdout, io.TextIOWrapper):
+        sys.stdout.reconfigure(errors="replace")
+    for line in lines:
+        print(laid_out(wrapped(plain(line), width)))
+
+
+def _asked(words: List[str]) -> argparse.Namespace:
+    reader = _words()
     try:
-        for name in names[1:]:
+        asked = reader.parse_intermixed_args(words)
+        if "-" in asked.files:
+            raise _Usage("- is what was written, and comes first")
+        return asked
+    except _Usage as error:
+        print(laid_out([*reader.format_usage().strip().split("\n"), f"symnet_report: {error}"]), file=sys.stderr)
+        raise
+
+
+def main(words: List[str]) -> int:
+    try:
+        asked = _asked(words)
+    except _Usage:
+        return 2
+    bounds = [f"--{name}={value}" for name, value in (("hops", asked.hops), ("limit", asked.limit), ("cases", asked.cases)) if value is not None]
+    inputs, name = Inputs(runner=None if asked.only_read else Runner(bounds)), asked.written
+    try:
+        for name in asked.files:
             inputs.add(name, _bytes_of(name))
-        name = names[0]
-        print(shown(_bytes_of(name), inputs, "--pruned" in words))
+        name = asked.written
+        _print(shown_lines(_bytes_of(name), inputs, asked.pruned, asked.record), _width(asked.narrow))
     except OSError as error:
-        print(f"symnet_report: {error}", file=sys.stderr)
+        print(plain(f"symnet_report: {error}"), file=sys.stderr)
         return 3
     except (NotReport, NotAnswer, NotInput) as error:
-        print(f"symnet_report: {name}: {error}", file=sys.stderr)
+        print(plain(f"symnet_report: {name}: {error}"), file=sys.stderr)
         return 14
     return 0
 

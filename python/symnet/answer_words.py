@@ -1,0 +1,236 @@
+"""The answers of `symnet ask`, `rules`, `loops` and `compare` in words, with names for fields and values as people write them."""
+
+import re
+from typing import Callable, List, Mapping, Optional, Sequence, Tuple
+
+from .answers import Answer, Compared, ComparedRules, Fate, ListSide, Loops, NotAnswer, Visit
+from .causes import HINT, visit_cause
+from .fields import code_text, number_of, position_of, range_text, value_text
+from .inputs import LIST_FIELDS, Job, Ranges, Rule
+from .packets import columns, packet_lines, packet_words
+from .records import Path
+from .report_words import differences, end_words
+from .ways import boxes, follow, way
+
+# What is known of a path by its number.
+Ways = Callable[[int, Sequence[int]], Sequence[Path]]
+# How many walks of a packet are told.
+WALKS = 20
+
+
+def _plural(count: int, one: str, many: str) -> str:
+    return f"{count} {one if count == 1 else many}"
+
+
+def _fits(values: Sequence[int], job: Optional[Job]) -> None:
+    if job is not None and len(values) < len(job.fields):
+        raise NotAnswer(f"the job has {_plural(len(job.fields), 'unknown field', 'unknown fields')}, and a packet {len(values)}: it is of another job")
+
+
+_PLACE = re.compile(r"\b(in|out) ([A-Za-z_]\w*) ?\. ?(0x[0-9A-Fa-f]+|\d+)", re.ASCII)
+
+
+def place_of(question: str) -> str:
+    """The port that a question asks of, as a report has it."""
+    found = _PLACE.findall(question)
+    if not found:
+        return ""
+    side, name, port = found[0] if question.startswith("reach") else found[-1]
+    return f"{side} {name}.{number_of(port)}"
+
+
+def asked_lines(answers: Sequence[Answer], job: Optional[Job], why: Optional[Callable[[Sequence[int]], List[str]]] = None, ways: Optional[Ways] = None) -> List[str]:
+    """Each question of the job with its text, its answer, the packet that shows it and its way, where `ways` tells the paths of it; below an unknown one what `why`
+    says of the records that leave it open."""
+    if job is not None and len(job.asks) != len(answers):
+        raise NotAnswer(f"the job has {_plural(len(job.asks), 'question', 'questions')}, and the answer {len(answers)}: it is of another job")
+    lines = []
+    for number, answer in enumerate(answers):
+        lines.append(f"question {number}" if job is None else f"question {number}: {code_text(job.asks[number].text)}")
+        if job is not None:
+            raw, note = job.asks[number].text, job.asks[number].note
+            lines += [f"  {note}"] if note else []
+            lines += [f"  {raw}"] if raw != code_text(raw) else []
+        if answer.answer == "unknown":
+            lines.append(f"  unknown: left open by {_records(answer.open)}")
+            lines += [f"    {line}" for line in ([HINT] if why is None else why(answer.open))]
+        elif answer.number is None:
+            lines.append(f"  {answer.answer}")
+        else:
+            _fits(answer.values, job)
+            lines += [f"  {answer.answer}, shown by record {answer.number} with the packet", *_shown_lines(answer.number, answer.values, job, number, ways)]
+    return lines
+
+
+def _shown_lines(number: int, values: Sequence[int], job: Optional[Job], question: int, ways: Optional[Ways]) -> List[str]:
+    """The packet that shows an answer, and its way to the port that is asked of."""
+    place = place_of(job.asks[question].text) if job is not None else ""
+    paths = [path for path in ways(number, values) if place in path.places] if ways is not None and place else []
+    if not paths:
+        return packet_lines(values, job, "    ")
+    there = paths[0].places[:paths[0].places.index(place) + 1]
+    which = "the way" if len(paths) == 1 else f"the way of one of {len(paths)} walks"
+    return [*packet_lines(values, job, "    ", follow(job, paths[0].decisions, paths[0].places).choices), f"  {which}: {way(there)}"]
+
+
+def _records(numbers: Sequence[int]) -> str:
+    return f"{'record' if len(numbers) == 1 else 'records'} {', '.join(map(str, numbers))}"
+
+
+def _visit_lines(visit: Visit, job: Optional[Job]) -> List[str]:
+    """Why an earlier visit shows no loop, with the packet that shows it."""
+    why = {"choice": "a value was chosen after it", "layout": "other tags or cells were there", "cell": "a cell had another value, as with the packet",
+           "unknown": f"it is undecided whether a cell had another value ({visit_cause(visit.cause)})"}[visit.why]
+    return [f"  at place {visit.place} {why}", *(packet_lines(visit.values, job, "    ") if visit.values else [])]
+
+
+def loops_lines(loops: Loops, cut_paths: Optional[Mapping[int, Path]], job: Optional[Job] = None) -> List[str]:
+    """Each cut path: the boxes and the ports of one round, where the cut paths of a report are given; or that it is only cut, with what differed at each earlier
+    visit of its last port."""
+    lines = []
+    for number in sorted([*loops.first, *loops.open]):
+        if cut_paths is not None and number not in cut_paths:
+            raise NotAnswer(f"record {number} of the report is no path that is cut: the answer is of another job or other hops, or the report was made with --pruned count")
+        if number not in loops.first:
+            lines.append(f"record {number}: only cut; no round was found, and more hops may show where it ends")
+            lines += [line for visit in loops.open[number] for line in _visit_lines(visit, job)]
+            continue
+        first = loops.first[number]
+        if cut_paths is None:
+            lines.append(f"record {number}: goes round for ever, from place {first} on")
+            continue
+        path = cut_paths[number]
+        if not is_round(path, first):
+            raise NotAnswer(f"record {number} of the report does not end where a round begins at its place {first}: the answer is of another job or other hops")
+        lines += _round_lines(number, path, first, job)
+    if loops.first and cut_paths is None:
+        lines.append("the boxes of a round are named where the report of explore is given, made under the bounds of loops")
+    return lines or ["no path is cut"]
+
+
+def is_round(path: Path, first: int) -> bool:
+    """Whether the path comes at its end to the port of this place."""
+    return first < len(path.places) - 1 and path.places[first] == path.places[-1]
+
+
+def _round_lines(number: int, path: Path, first: int, job: Optional[Job]) -> List[str]:
+    """The boxes of a loop, its ports, and a packet that goes round."""
+    ports = one_round(path.places[first:])
+    length = len(ports) - 1
+    while first > 0 and path.places[first - 1] == path.places[first - 1 + length]:
+        first, ports = first - 1, path.places[first - 1:first + length]
+    before, rounds = boxes(path.places[:first]), boxes(ports)
+    ahead = f"by {', '.join(before)} and then " if before else ""
+    choices = follow(job, path.decisions, path.places).choices
+    targets = [] if job is None else [(position_of(job.target(symbol)), value) for symbol, value in enumerate(path.values or ())]
+    destinations = [value_text(position[1], value) for position, value in targets if position and position[0] == "destination address"]
+    packets = f"packets for {destinations[0]}" if destinations else "packets"
+    lines = [f"record {number}: {packets} go {ahead}{', '.join(rounds)} .. for ever", f"  one round: {' > '.join(ports)}"]
+    if job is None or not path.values:
+        return lines
+    return [*lines, f"  such a packet: {packet_words(path.values, job, choices)}"]
+
+
+def one_round(places: Sequence[str]) -> Sequence[str]:
+    """The shortest part of ports that go round, which comes again and again: its last port is its first."""
+    size = len(places) - 1
+    lengths = (length for length in range(1, size + 1) if size % length == 0 and places[length] == places[0])
+    return next((places[:length + 1] for length in lengths if places[length:] == places[:-length]), places)
+
+
+_SIDES = {"left": ("first network", "second"), "right": ("second network", "first")}
+
+
+def compared_lines(compared: Compared, job: Optional[Job], walks: Optional[Mapping[str, Sequence[Path]]] = None) -> List[str]:
+    """What a comparison says, with the packet that shows a difference; where its walks are given, by the side of the network, what becomes of it in each."""
+    if compared.answer == "same":
+        return ["same: each packet of the injection is delivered at the same ports with the same header, within the bound of hops"]
+    if compared.answer == "partial":
+        return ["partial: an exploration reached its limit of records, so nothing is known; raise --limit, or narrow the injection by where lines"]
+    if compared.answer == "unknown":
+        sides = [f"{_records(numbers)} of the {_SIDES[side][0]}" for side, numbers in (("left", compared.left), ("right", compared.right)) if numbers]
+        return [f"unknown: no difference was found, and of {' and '.join(sides)} it is undecided whether the other network delivers the same", f"  {HINT}"]
+    _fits(compared.values, job)
+    has, lacks = _SIDES[compared.side]
+    known = (walks or {}).get(compared.side, ())
+    choices = follow(job, known[0].decisions, known[0].places).choices if len(known) == 1 else ()
+    return [f"other: path {compared.number} of the {has} delivers this packet, and the {lacks} does not deliver the same", *packet_lines(compared.values, job, "  ", choices),
+            *_walk_lines(walks or {})]
+
+
+def _walk_lines(walks: Mapping[str, Sequence[Path]]) -> List[str]:
+    """Where a packet ends in each network, and what its header has where it leaves both by one port."""
+    lines = []
+    for side, (network, _) in _SIDES.items():
+        lines += [f"  {network}: {end_words(path)} ({way(path.places)})" for path in walks.get(side, ())[:WALKS]]
+        more = len(walks.get(side, ())) - WALKS
+        lines += [f"  {network}: and {more} walks more"] if more > 0 else []
+    return lines + differences(*(walks.get(side, ())[:WALKS] for side in _SIDES))
+
+
+def rules_lines(fates: Sequence[Fate], rules: Optional[Sequence[Rule]]) -> List[str]:
+    """A line for each rule: its packet, or the rules that hide it; and below, for each hidden rule, which of its packets each of them has."""
+    hidden = [number for number, fate in enumerate(fates) if fate.values is None]
+    of_rule, of_packet = [], []
+    for number, fate in enumerate(fates):
+        of_rule.append((str(number), *((str(rules[number].line), rules[number].text) if rules is not None else ()), "hidden" if fate.values is None else "decides"))
+        of_packet += [] if fate.values is None else [[value_text(kind, value) for value, (_, kind, _) in zip(fate.values, LIST_FIELDS)]]
+    starts = columns([("rule", *(("line", "text") if rules is not None else ()), ""), *of_rule])
+    packets = iter(columns([[name for name, _, _ in LIST_FIELDS], *of_packet]))
+    width = max(map(len, starts))
+    lines = [f"{starts[0].ljust(width)}  {next(packets)}"]
+    for number, (fate, start) in enumerate(zip(fates, starts[1:])):
+        lines.append(f"{start.ljust(width)}  {_hidden_words(number, fate, rules) if fate.values is None else next(packets)}")
+    lines.append(f"{_plural(len(fates), 'rule', 'rules')}, {len(hidden)} hidden")
+    for number in hidden:
+        lines += [f"rule {number} is hidden:", *_part_lines(fates[number], rules[number].ranges if rules is not None else None)]
+    return lines
+
+
+def compared_rules_lines(compared: ComparedRules, left: Optional[Sequence[Rule]], right: Optional[Sequence[Rule]]) -> List[str]:
+    """What a comparison of two filter lists says: with a packet that shows a difference, and the rule of each list that decides it."""
+    if compared.answer == "same" or compared.left is None or compared.right is None:
+        shown = f", as {_plural(compared.covers, 'cover shows', 'covers show')}" if compared.covers else ""
+        return [f"same: both filter lists permit the same packets{shown}"]
+    has, lacks = ("first", "second") if compared.left.permits else ("second", "first")
+    packet = [(name, value_text(kind, value)) for value, (name, kind, _) in zip(compared.values, LIST_FIELDS)]
+    return [f"other: the {has} filter list permits this packet, and the {lacks} one denies it", *columns(packet, "  "),
+            *columns([("first", *_side_words(compared.left, left)), ("second", *_side_words(compared.right, right))], "  ")]
+
+
+def _side_words(side: ListSide, rules: Optional[Sequence[Rule]]) -> Tuple[str, str]:
+    """What a list does with a packet, and by which rule; the rule's text, where the list is given."""
+    action = _acts(side.permits, 1)
+    if side.rule is None:
+        return f"{action} it: no rule contains it", ""
+    return f"{action} it by rule {side.rule}", "" if rules is None else f"line {rules[side.rule].line}: {rules[side.rule].text}"
+
+
+def _hidden_words(number: int, fate: Fate, rules: Optional[Sequence[Rule]]) -> str:
+    by = f"by {'rule' if len(fate.hiders) == 1 else 'rules'} {', '.join(map(str, fate.hiders))}"
+    if rules is None:
+        return by
+    permits = rules[number].permits
+    others = [str(hider) for hider in fate.hiders if rules[hider].permits != permits]
+    if not others:
+        return f"{by}, which {_acts(permits, len(fate.hiders))} as it does"
+    return f"{by}{'' if permits else ', DANGEROUS'}: it {_acts(permits, 1)}, and {', '.join(others)} {_acts(not permits, len(others))}"
+
+
+def _acts(permits: bool, count: int) -> str:
+    """What one rule does, or several."""
+    return {(True, True): "permits", (False, True): "denies", (True, False): "permit", (False, False): "deny"}[permits, count == 1]
+
+
+PARTS = 100
+
+
+def _part_lines(fate: Fate, whole: Optional[Ranges]) -> List[str]:
+    lines = []
+    for part in fate.parts[:PARTS]:
+        sides = [f"{name} {range_text(kind, low, high)}" for field, ((low, high), (name, kind, greatest)) in enumerate(zip(part.ranges, LIST_FIELDS))
+                 if (low, high) != (whole[field] if whole else (0, greatest))]
+        lines.append(f"  rule {part.rule} has {'those with ' + ', '.join(sides) if sides else 'all of its packets'}")
+    left = len(fate.parts) - PARTS
+    return lines + ([f"  and {left} parts more"] if left > 0 else [])
+
