@@ -6,7 +6,7 @@ use Rattle.std.specs.declared.alloc.Global.{Global}
 use Rattle.command_words.specs.Forms.{Form, Text, read_form, value_of}
 use Rattle.command_words.specs.Numbers.{count_of, number_in, number_or, seed_of}
 use Rattle.net_check.specs.declared.injection.TheConstants.{USUAL_CHOICES}
-use Rattle.command_words.specs.declared.command.TheConstants.{HOPS, LIMIT, MOST_BOXES, MOST_HOPS, MOST_LIMIT}
+use Rattle.command_words.specs.declared.command.TheConstants.{HOPS, LIMIT, MOST_ANSWER_LIMIT, MOST_BOXES, MOST_HOPS, MOST_LIMIT}
 use Rattle.command_words.specs.declared.command.Command.{Command as CommandOf}
 use Rattle.command_words.specs.declared.command.Command.TheVariants as given
 use Rattle.command_words.specs.declared.command.FilterStyle.{FilterStyle}
@@ -63,21 +63,21 @@ command_of (given.Rules file) = rules file.now
 command_of (given.BothRules file other) = both_rules file.now other.now
 command_of (given.Grow seed boxes) = grow seed boxes
 
--- numbers of options are in their ranges
-abbrev pub AreInRange : ℕ → ℕ → Type 0
-AreInRange hops limit = (1 ≤ hops) × (hops ≤ MOST_HOPS) × (1 ≤ limit) × (limit ≤ MOST_LIMIT)
+-- numbers of options are in their ranges, the limit at most this
+abbrev pub AreInRange : ℕ → ℕ → ℕ → Type 0
+AreInRange most hops limit = (1 ≤ hops) × (hops ≤ MOST_HOPS) × (1 ≤ limit) × (limit ≤ most)
 
 -- and so is the bound on choices of cases
-abbrev pub AreBounds : ℕ → ℕ → ℕ → Type 0
-AreBounds hops limit cases = AreInRange hops limit × (1 ≤ cases) × (cases < 2 ^ 64)
+abbrev pub AreBounds : ℕ → ℕ → ℕ → ℕ → Type 0
+AreBounds most hops limit cases = AreInRange most hops limit × (1 ≤ cases) × (cases < 2 ^ 64)
 
 abbrev pub HasRanges : Command → Type 0
-HasRanges (explore job hops limit cases pruned) = AreBounds hops limit cases
-HasRanges (walk job packet hops limit) = AreInRange hops limit
+HasRanges (explore job hops limit cases pruned) = AreBounds MOST_LIMIT hops limit cases
+HasRanges (walk job packet hops limit) = AreInRange MOST_LIMIT hops limit
 HasRanges (replay job report) = Unit {0}
-HasRanges (ask job hops limit cases) = AreBounds hops limit cases
-HasRanges (loops job hops limit cases detail) = AreBounds hops limit cases
-HasRanges (compare job other hops limit cases) = AreBounds hops limit cases
+HasRanges (ask job hops limit cases) = AreBounds MOST_ANSWER_LIMIT hops limit cases
+HasRanges (loops job hops limit cases detail) = AreBounds MOST_ANSWER_LIMIT hops limit cases
+HasRanges (compare job other hops limit cases) = AreBounds MOST_ANSWER_LIMIT hops limit cases
 HasRanges (model table file style) = Unit {0}
 HasRanges (click file) = Unit {0}
 HasRanges (acl file style) = Unit {0}
@@ -187,8 +187,8 @@ module _ (value : Text → Option Text) where
   abbrev pub hops_in : Option ℕ
   hops_in = number_or 1 MOST_HOPS HOPS (value (codes "hops"))
 
-  abbrev pub limit_in : Option ℕ
-  limit_in = number_or 1 MOST_LIMIT LIMIT (value (codes "limit"))
+  abbrev pub limit_in : ℕ → Option ℕ
+  limit_in most = number_or 1 most LIMIT (value (codes "limit"))
 
   abbrev pub pruned_in : Option RefutedSides
   pruned_in = pruned_or_all (value (codes "pruned"))
@@ -199,16 +199,16 @@ module _ (value : Text → Option Text) where
   abbrev pub cases_in : Option ℕ
   cases_in = cases_or_usual (value (codes "cases"))
 
-  abbrev pub with_bounds : (ℕ → ℕ → Option Command) → Option Command
-  with_bounds next = option_and_then (λ hops. option_and_then (next hops) limit_in) hops_in
+  abbrev pub with_bounds : ℕ → (ℕ → ℕ → Option Command) → Option Command
+  with_bounds most next = option_and_then (λ hops. option_and_then (next hops) (limit_in most)) hops_in
 
   abbrev pub explore_from : Option Command
   explore_from =
-      option_and_then (λ job. with_bounds (λ hops limit. option_and_then (λ cases. option_map (explore job hops limit cases) pruned_in) cases_in))
+      option_and_then (λ job. with_bounds MOST_LIMIT (λ hops limit. option_and_then (λ cases. option_map (explore job hops limit cases) pruned_in) cases_in))
       (value (codes "JOB"))
 
   abbrev pub walk_from : Option Command
-  walk_from = option_and_then (λ job. option_and_then (λ packet. with_bounds (λ hops limit. Some (walk job packet hops limit))) (value (codes "PACKET"))) (value (codes "JOB"))
+  walk_from = option_and_then (λ job. option_and_then (λ packet. with_bounds MOST_LIMIT (λ hops limit. Some (walk job packet hops limit))) (value (codes "PACKET"))) (value (codes "JOB"))
 
   abbrev pub style_in : Option Style
   style_in = style_or_grouped (value (codes "style"))
@@ -217,16 +217,16 @@ module _ (value : Text → Option Text) where
   replay_from = option_and_then (λ job. option_map (replay job) (value (codes "REPORT"))) (value (codes "JOB"))
 
   abbrev pub ask_from : Option Command
-  ask_from = option_and_then (λ job. with_bounds (λ hops limit. option_map (ask job hops limit) cases_in)) (value (codes "JOB"))
+  ask_from = option_and_then (λ job. with_bounds MOST_ANSWER_LIMIT (λ hops limit. option_map (ask job hops limit) cases_in)) (value (codes "JOB"))
 
   abbrev pub loops_from : Option Command
   loops_from =
-      option_and_then (λ job. with_bounds (λ hops limit. option_and_then (λ cases. option_map (loops job hops limit cases) open_in) cases_in))
+      option_and_then (λ job. with_bounds MOST_ANSWER_LIMIT (λ hops limit. option_and_then (λ cases. option_map (loops job hops limit cases) open_in) cases_in))
       (value (codes "JOB"))
 
   abbrev pub compare_from : Option Command
   compare_from =
-      option_and_then (λ job. option_and_then (λ other. with_bounds (λ hops limit. option_map (compare job other hops limit) cases_in)) (value (codes "OTHER")))
+      option_and_then (λ job. option_and_then (λ other. with_bounds MOST_ANSWER_LIMIT (λ hops limit. option_map (compare job other hops limit) cases_in)) (value (codes "OTHER")))
       (value (codes "JOB"))
 
   abbrev pub model_from : TableKind → Option Command

@@ -19,10 +19,12 @@ pub const HOPS: u32 = 16;
 
 pub const LIMIT: u32 = 10_000;
 
-/// The most of each.
+/// The most of each: of a limit where what it bounds is written, and where only an answer is.
 pub const MOST_HOPS: u32 = 256;
 
 pub const MOST_LIMIT: u32 = 100_000;
+
+pub const MOST_ANSWER_LIMIT: u32 = 4_294_967_295;
 
 /// The most boxes of a job that grows from a seed.
 pub const MOST_BOXES: u32 = 10_000;
@@ -245,13 +247,14 @@ fn hops_in(values: &ArgMatches<'_>) -> Option<u32>
     }
 }
 
-/// The limit that is given, or the default.
-fn limit_in(values: &ArgMatches<'_>) -> Option<u32>
-    ensures value { result ≡ limit_in (first_value (found_of values.now)) }
-    ensures range { IfSome result (λ n. (1 ≤ n) × (n ≤ MOST_LIMIT)) }
+/// The limit that is given, at most this, or the default.
+fn limit_in(most: u32, values: &ArgMatches<'_>) -> Option<u32>
+    requires { LIMIT ≤ most }
+    ensures value { result ≡ limit_in (first_value (found_of values.now)) most }
+    ensures range { IfSome result (λ n. (1 ≤ n) × (n ≤ most)) }
 {
     match values.get_str("limit") {
-        Some(word) => number_in(1, MOST_LIMIT, word),
+        Some(word) => number_in(1, most, word),
         None => Some(LIMIT),
     }
 }
@@ -368,7 +371,7 @@ fn command_from<'a>(verb: Verb, values: &ArgMatches<'a>) -> Option<Command<'a>>
         Verb::Explore => {
             let job = values.get_str("JOB")?;
             let hops = hops_in(values)?;
-            let limit = limit_in(values)?;
+            let limit = limit_in(MOST_LIMIT, values)?;
             let cases = cases_in(values)?;
             let pruned = pruned_in(values)?;
             Some(Command::Explore {
@@ -383,7 +386,7 @@ fn command_from<'a>(verb: Verb, values: &ArgMatches<'a>) -> Option<Command<'a>>
             let job = values.get_str("JOB")?;
             let packet = values.get_str("PACKET")?;
             let hops = hops_in(values)?;
-            let limit = limit_in(values)?;
+            let limit = limit_in(MOST_LIMIT, values)?;
             Some(Command::Walk {
                 job,
                 packet,
@@ -399,7 +402,7 @@ fn command_from<'a>(verb: Verb, values: &ArgMatches<'a>) -> Option<Command<'a>>
         Verb::Ask => {
             let job = values.get_str("JOB")?;
             let hops = hops_in(values)?;
-            let limit = limit_in(values)?;
+            let limit = limit_in(MOST_ANSWER_LIMIT, values)?;
             let cases = cases_in(values)?;
             Some(Command::Ask {
                 job,
@@ -411,7 +414,7 @@ fn command_from<'a>(verb: Verb, values: &ArgMatches<'a>) -> Option<Command<'a>>
         Verb::Loops => {
             let job = values.get_str("JOB")?;
             let hops = hops_in(values)?;
-            let limit = limit_in(values)?;
+            let limit = limit_in(MOST_ANSWER_LIMIT, values)?;
             let cases = cases_in(values)?;
             let open = open_in(values)?;
             Some(Command::Loops {
@@ -426,7 +429,7 @@ fn command_from<'a>(verb: Verb, values: &ArgMatches<'a>) -> Option<Command<'a>>
             let job = values.get_str("JOB")?;
             let other = values.get_str("OTHER")?;
             let hops = hops_in(values)?;
-            let limit = limit_in(values)?;
+            let limit = limit_in(MOST_ANSWER_LIMIT, values)?;
             let cases = cases_in(values)?;
             Some(Command::Compare {
                 job,

@@ -32,6 +32,9 @@ const OPEN: u8 = 32;
 
 const CASES: u8 = 64;
 
+/// A limit where what it bounds is not written.
+const ANSWER_LIMIT: u8 = 128;
+
 fn hops() -> Choice {
     Choice {
         flag: "--hops",
@@ -49,6 +52,16 @@ fn limit() -> Choice {
         most: 100_000,
         words: &[],
         says: "--limit takes a number from 1 to 100,000",
+    }
+}
+
+fn answer_limit() -> Choice {
+    Choice {
+        flag: "--limit",
+        bit: ANSWER_LIMIT,
+        most: 4_294_967_295,
+        words: &[],
+        says: "--limit takes a number from 1 to 4,294,967,295 here",
     }
 }
 
@@ -106,6 +119,7 @@ fn filter_style() -> Choice {
 pub(crate) fn choice_of(options: u8, flag: &str) -> Option<Choice> {
     let choice = match flag {
         "--hops" => hops(),
+        "--limit" if options & ANSWER_LIMIT != 0 => answer_limit(),
         "--limit" => limit(),
         "--pruned" => pruned(),
         "--open" => open_paths(),
@@ -138,15 +152,15 @@ pub(crate) fn form_of(name: &str) -> Option<Form> {
         }),
         "ask" => Some(Form {
             files: &["JOB"],
-            options: HOPS | LIMIT | CASES,
+            options: HOPS | ANSWER_LIMIT | CASES,
         }),
         "loops" => Some(Form {
             files: &["JOB"],
-            options: HOPS | OPEN | LIMIT | CASES,
+            options: HOPS | OPEN | ANSWER_LIMIT | CASES,
         }),
         "compare" => Some(Form {
             files: &["JOB", "OTHER"],
-            options: HOPS | LIMIT | CASES,
+            options: HOPS | ANSWER_LIMIT | CASES,
         }),
         // The words are right without OTHER, so it is never said to be missing.
         "rules" => Some(Form {

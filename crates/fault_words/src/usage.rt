@@ -17,6 +17,7 @@ symnet rules FILE [OTHER]
 symnet grow SEED NODES
 --hops N: input ports on a path, 1 to 256 (16 where it is not given)
 --limit N: records or walks, 1 to 100,000 (10,000)
+--limit N of ask, loops and compare: records, 1 to 4,294,967,295 (10,000)
 --cases N|all: choices of cases that a decision tries, 1 to 18,446,744,073,709,551,615 (4,096)
 --pruned: sides that no packet takes, each or their number alone (all)
 --open: paths that show no loop, their numbers or their earlier visits too (numbers)

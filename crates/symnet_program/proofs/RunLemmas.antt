@@ -25,6 +25,7 @@ use Rattle.path_records.specs.declared.sides.RefutedSides.{RefutedSides}
 use Rattle.explore_command.specs.Explores.{explore_work}
 use Rattle.explore_command.specs.Headline.{MayBeShown}
 use Rattle.explore_command.specs.Laws.{ReportsTellWalks}
+use Rattle.command_words.specs.declared.command.TheConstants.{MOST_LIMIT}
 use Rattle.command_words.specs.Commands.{Command, HasRanges, explore, AreBounds}
 use Rattle.symnet_program.specs.Commands.{inputs, work}
 use Rattle.symnet_program.specs.Headline.{TellsJob}
@@ -103,7 +104,7 @@ module _ (law : (net : Network) (i : Entry) (hops : ℕ) → ReportsTellWalks ne
   report_tells cases hops limit sides ended whole given shown report = absurd report
 
   -- what the words may say may be shown
-  shown_by : (cases hops limit : ℕ) → AreBounds hops limit cases → MayBeShown cases hops limit
+  shown_by : (cases hops limit : ℕ) → AreBounds MOST_LIMIT hops limit cases → MayBeShown cases hops limit
   shown_by cases hops limit h = record {
     least_choices = h.1;
     most_choices = h.2;
