@@ -61,7 +61,7 @@ fn answer_limit() -> Choice {
         bit: ANSWER_LIMIT,
         most: 4_294_967_295,
         words: &[],
-        says: "--limit takes a number from 1 to 4,294,967,295 here",
+        says: "--limit takes a number from 1 to 4,294,967,295",
     }
 }
 
