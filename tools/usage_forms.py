@@ -67,17 +67,18 @@ def number(text: str) -> int:
     return int(text.replace(",", ""))
 
 
-def described(lines: List[str]) -> Dict[str, Tuple[int, str, str]]:
-    """The most of each option, what it is for, and what it is where it is not given."""
+def described(lines: List[str]) -> Dict[Tuple[str, str], Tuple[int, str, str]]:
+    """The most of each option, what it is for, and what it is where it is not given; of an option that has a line of its own for some commands, also by their names."""
     found = {}
     for line in lines:
-        read = re.fullmatch(r"(--\w+)[^:]*: (.*?)(?:, 1 to ([\d,]+))? \((\S+)(?: where it is not given)?\)", line)
+        read = re.fullmatch(r"(--\w+)[^:]*?(?: of ([\w, ]+))?: (.*?)(?:, 1 to ([\d,]+))? \((\S+)(?: where it is not given)?\)", line)
         if read:
-            found[read[1]] = number(read[3] or "0"), read[2], read[4]
+            for name in re.findall(r"\w+", (read[2] or "").replace(" and ", " ")) or [""]:
+                found[read[1], name] = number(read[4] or "0"), read[3], read[5]
     return found
 
 
-def form(line: str, about: Dict[str, Tuple[int, str, str]]) -> List[Form]:
+def form(line: str, about: Dict[Tuple[str, str], Tuple[int, str, str]]) -> List[Form]:
     """The commands of a line of the forms: several where it has alternatives of the second word."""
     _, name, *rest = re.findall(r"\[[^]]*\]|\S+", line)
     kinds = rest.pop(0).split("|") if rest[0][0].islower() else []
@@ -85,7 +86,7 @@ def form(line: str, about: Dict[str, Tuple[int, str, str]]) -> List[Form]:
     for it in rest:
         flag, _, value = it.strip("[]").partition(" ")
         if value:
-            most, says, usual = about[flag]
+            most, says, usual = about.get((flag, name)) or about[flag, ""]
             options[flag] = Option(flag, value, tuple(word for word in value.split("|") if word != "N"), most, says, usual)
         else:
             places.append(flag)
