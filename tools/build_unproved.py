@@ -33,7 +33,7 @@ CRATE = "symnet_cli"
 # What the program is compiled by, which counts as its sources do.
 SCRIPTS = ("tools/build_unproved.py", "tools/kit_module.py")
 # What it takes: about so many minutes of one processor, and GB of memory.
-MINUTES, MEMORY = 4, 3
+MINUTES, MEMORY = 5, 3
 # How many programs are kept.
 KEPT = 8
 
