@@ -7,8 +7,8 @@ Programs stand in a folder of the user's cache, each under a sum of its sources,
 is disturbed. One is compiled at a time, of a copy of the sources, and moved to its place once it answers. Nothing of it is proved.
 
 How: `rt try` compiles a program with no proof, and with checks before each operation that may go wrong. This compiles in the same way as far as the module that
-goes to the kit's clang, takes the checks of memory out, and compiles and links the module as a proved program is compiled and linked. The other checks stay: a sum
-past its type, an index out of range, a failed unwrap ends the program (SIGILL).
+goes to the kit's clang, takes the checks of memory out, compiles the module, and links it as a proved program is linked. The other checks stay: a sum past its type,
+an index out of range, a failed unwrap ends the program (SIGILL).
 """
 
 import contextlib
@@ -33,7 +33,7 @@ CRATE = "symnet_cli"
 # What the program is compiled by, which counts as its sources do.
 SCRIPTS = ("tools/build_unproved.py", "tools/kit_module.py")
 # What it takes: about so many minutes of one processor, and GB of memory.
-MINUTES, MEMORY = 4, 3
+MINUTES, MEMORY = 5, 3
 # How many programs are kept.
 KEPT = 8
 

@@ -11,6 +11,7 @@ import sys
 import tarfile
 import tempfile
 import time
+import zipfile
 from pathlib import Path
 from types import ModuleType
 from typing import Any, Dict, List, Optional
@@ -129,6 +130,22 @@ def check_package(file: Path, made: "set[str]") -> None:
         expect("dpkg-deb reads the version", ran(["dpkg-deb", "--field", file, "Version"]).stdout, f"{version()}\n")
 
 
+def check_wheel(room: Path) -> None:
+    script = release()
+    script.LIBRARY = room / "libsymnet.so"
+    script.LIBRARY.write_text("the library")
+    for inside, wanted in ({"symnet/libsymnet.so": "the library"}, ""), ({"symnet/libsymnet.so": "another"}, "the library is not in the wheel"), ({}, "the library is not in the wheel"):
+        with zipfile.ZipFile(room / "wheel", "w") as files:
+            for name, text in inside.items():
+                files.writestr(name, text)
+        came = ""
+        try:
+            script.check_wheel(room / "wheel")
+        except script.Refused as reason:
+            came = str(reason)
+        expect(f"a wheel with {inside}", came, wanted)
+
+
 def check_refusals(room: Path) -> None:
     top, log = room / "top", room / "log"
     for name in (*(f"tools/{it.name}" for it in [*(TOP / "tools").glob("*.py"), TOP / "tools/release"]), "python/pyproject.toml"):
@@ -181,6 +198,7 @@ def main() -> int:
         check_manual(of, room)
         check_completions(of, room)
         check_archives(room)
+        check_wheel(room)
         check_refusals(room)
     print(f"release_test: {len(failed)} failed" if failed else "release_test: all is as it should be")
     return 1 if failed else 0
