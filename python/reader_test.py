@@ -210,8 +210,8 @@ def check_records(expect):
     expect("refuted sides", lines_of(made_files.RING_REPORT, with_pruned=True)[10:13], ["record 1: refuted, no packet comes here", "  decisions: then, else", ""])
     one = lines_of(CHOOSING_REPORT, "choosing.sefl", record=0)
     expect("one record: its decisions", one[one.index("  decisions") + 1:][:5], ["    then  if protocol in {TCP, UDP}", "    0     fork 0, 1", "    pass  constrain protocol != ICMP", "    0     the table of t", "    pass  the table of t"])
-    expect("choices by what they set", [" ".join(line.split()[:4]) for line in one[-2:]], ["global mark:16 1", "global mark:16 (2) 2"])
-    expect("another choice", lines_of(CHOOSING_REPORT, "choosing.sefl")[-1], "  packet: protocol ICMP, local set:8 3")
+    expect("choices by what they set", [" ".join(line.split()[:4]) for line in one[-2:]], ["mark 1", "mark (2) 2"])
+    expect("another choice", lines_of(CHOOSING_REPORT, "choosing.sefl")[-1], "  packet: protocol ICMP, set 3")
     expect("a way that is not known", lines_of('{"answer":"other","number":0,"side":"left","symnet":1,"values":[6,1,2]}', "choosing.sefl")[2], "  choice 0  1")
     carried = lines_of((TOP / "examples/branch-office/office.json").read_text(), "office.sefl", record=3)
     expect("what a record carries", [" ".join(line.split()) for line in carried[-9:-6]], ["TTL 63 head L3+64:8", "protocol {protocol} = UDP head L3+72:8", "source address {destination address} = 0.0.0.0 head L3+96:32"])
@@ -230,7 +230,7 @@ def check_records(expect):
 def check_ways(expect):
     """The way of an answer, the boxes of a loop, and where a packet leaves."""
     answer = made_files.written({"answers": [{"answer": "yes", "number": 0, "values": [6, 1, 2]}], "symnet": 1})
-    wanted = ["  yes, shown by record 0 with the packet", "    protocol            TCP  head L3+72:8  6", "    global mark:16      1", "    global mark:16 (2)  2", "  the way: a > t > b"]
+    wanted = ["  yes, shown by record 0 with the packet", "    protocol  TCP  head L3+72:8  6", "    mark      1", "    mark (2)  2", "  the way: a > t > b"]
     expect("the way by the report", lines_of(answer, "choosing.sefl", "choosing.json")[-5:], wanted)
     walks = made_files.written({"symnet": 1, "walks": [{key: record[key] for key in ("decisions", "end", "fields", "places")} for record in json.loads(CHOOSING_REPORT)["records"]]})
     expect("the way by a walk", lines_of(answer, "choosing.sefl", runner=Known(walks={"choosing.sefl": walks}))[-5:], wanted)

@@ -6,7 +6,7 @@ from typing import Dict, List, Optional, Sequence, Tuple
 from .causes import undecided_lines
 from .fields import code_text, kind_of, name_of, position_of, value_text
 from .inputs import Job
-from .packets import columns, packet_lines, packet_words
+from .packets import columns, named, packet_lines, packet_words
 from .records import Cell, Decision, Fields, Path, Pruned, Record, Report, Unexplored
 from .shape import Misshaped
 from .ways import follow, way
@@ -141,7 +141,7 @@ def _cell_words(cell: Cell, kind: Optional[str], job: Optional[Job], choices: Se
     if not cell.parts:
         return value_text(kind, cell.constant), ""
     full = 1 << cell.width
-    terms = [_term(coefficient, full, "symbol " + str(symbol) if job is None else name_of(job.target(symbol, choices))) for symbol, coefficient in cell.parts]
+    terms = [_term(coefficient, full, "symbol " + str(symbol) if job is None else named(job, symbol, choices)[0]) for symbol, coefficient in cell.parts]
     constant = cell.constant if 2 * cell.constant < full else cell.constant - full
     term = "".join([*terms, f" {'+' if constant > 0 else '-'} {abs(constant)}" if constant else ""]).removeprefix(" + ")
     is_known = values is not None and all(symbol < len(values) for symbol, _ in cell.parts)
