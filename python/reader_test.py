@@ -317,6 +317,7 @@ def check_run(expect):
 def check_program(expect):
     """The reader as a program."""
     run = subprocess.run([sys.executable, str(TOP / "tools/symnet_report.py"), "-"], input=b'{"answer":"same","symnet":1}', capture_output=True, timeout=60, check=False)
+    expect("the reader is asked for help", (ran("--help")[0], ran("-h")[1].startswith(b"Reads what symnet writes")), (0, True))
     expect("the reader as a program", (run.returncode, run.stdout.split(b":")[0], run.stderr), (0, b"same", b""))
 
 

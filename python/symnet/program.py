@@ -29,7 +29,7 @@ def place() -> Optional[Path]:
     """Where the program is; None where there is none."""
     named = os.environ.get("SYMNET")
     if named:
-        return Path(named)
+        return Path(shutil.which(named) or named)
     on_path = shutil.which("symnet")
     return next((it for it in PLACES if it.is_file()), Path(on_path) if on_path else None)
 
