@@ -2,6 +2,7 @@
 
 import ipaddress
 import random
+import tempfile
 from pathlib import Path
 
 import symnet
@@ -139,6 +140,8 @@ def check_net(expect):
     expect("a net's nodes", [line.split()[1] for line in net.text.split("\n") if line.startswith("node ")], ["core", "floor", "acl", "ttl", "lan", "end", "more"])
     expect("a net's links", [line for line in net.text.split("\n") if line.startswith("link ")], ["link more.0 -> end.0;", "link core.1 -> acl.0;", "link core.0 -> ttl.0;", "link ttl.0 -> lan.0;"])
     expect("a net as text", str(net), net.text)
+    with tempfile.TemporaryDirectory() as room:
+        expect("a net's files", (net.save(room).read_text(), {it.name for it in Path(room).iterdir()}), (net.text, {"net.sefl", "core.fib", "floor.mac"}))
     for what, call in (("no injection", lambda: Net().text), ("a name that is none", lambda: Net().forwarder("a b")), ("a name with more behind it", lambda: Net().sink("a 1 -> 1 { } node b")), ("code with more behind it", lambda: Net().node("a", code={"in 0": "noop; } in 1 {"})),
                        ("a port that is none", lambda: Net().node("a", code={"on 0": ""})), ("a link that is none", lambda: Net().link("a", "b.0")), ("a prefix that is none", lambda: Net().router("a", [("10.0.0.0/40", 0)])),
                        ("an address that is none", lambda: Net().switch("a", [("02:00", 0)])), ("a rule that is none", lambda: Net().filter("a", "allow all")), ("a style that is none", lambda: Net().filter("a", "", style="egress")),

@@ -1,5 +1,6 @@
 """Tests of the reader for python/test: that it prints nothing which a terminal could read as a command, and that what has a wrong shape gives a message."""
 
+import html
 import io
 import json
 import os
@@ -10,7 +11,7 @@ import tempfile
 import time
 from pathlib import Path
 
-from symnet import answer_words, answers, engine, inputs, report, ways
+from symnet import answer_words, answers, engine, inputs, picture, report, ways
 from symnet.plain import plain, wrapped
 
 TOP = Path(__file__).resolve().parent.parent
@@ -223,6 +224,8 @@ def check_records(expect):
             expect("a record that is not there", "words", "a message")
         except report.NotReport:
             pass
+    ends = lines_of(made_files.report([made_files.path([], [f"in r.{number}"], "stopped", []) for number in range(100)]))
+    expect("many ends", ends[:42][1::20] + ends[41:43], ["  1 stopped at in r.0: record 0", "  1 stopped at in r.20: record 20", "  and 60 other ends", "  and 60 other ends", ""])
     wide = made_files.report([made_files.path(["else"] * 5000, ["in r.0"], "stopped", []), *[made_files.path([], ["in r.0"], "stopped", [])] * 50])
     expect("a long record pads no other", len("".join(lines_of(wide))) < 10000, True)
 
@@ -314,6 +317,19 @@ def check_run(expect):
         os.chdir(kept)
 
 
+def check_notebook(expect):
+    """What a notebook is given: a frame that runs scripts alone, in which no text ends a script."""
+    hostile = "// <!--<script></script><script>evil()</script>\n"
+    shown = report.Report((), shown=picture.Texts({"report": b"{}", "job": hostile.encode()}, {}))._repr_html_()
+    page = html.unescape(shown.split('srcdoc="')[1].split('"')[0])
+    given = page[page.index("<script>showOnly("):]
+    expect("a notebook's frame", (shown.startswith('<iframe sandbox="allow-scripts" srcdoc="'), "evil()<" in page, given.index("</script>") > given.index("\\n\"]")), (True, False, True))
+    expect("a notebook's texts", json.loads(given[len("<script>showOnly(..."):given.index(");</script>")]), [[["report", "{}"], ["job", hostile]], []])
+    kept, picture.PLACES = picture.PLACES, (Path(__file__),)
+    expect("a page that is none", report.Report((), shown=picture.Texts({}, {}))._repr_html_(), None)
+    picture.PLACES = kept
+
+
 def check_program(expect):
     """The reader as a program."""
     run = subprocess.run([sys.executable, str(TOP / "tools/symnet_report.py"), "-"], input=b'{"answer":"same","symnet":1}', capture_output=True, timeout=60, check=False)
@@ -329,4 +345,5 @@ def check(expect):
     check_sizes(expect)
     check_widths(expect)
     check_acts(expect)
+    check_notebook(expect)
     check_program(expect)

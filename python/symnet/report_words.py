@@ -11,8 +11,8 @@ from .records import Cell, Decision, Fields, Path, Pruned, Record, Report, Unexp
 from .shape import Misshaped
 from .ways import follow, way
 
-# How many numbers of records stand in a line of the summary, and from how many on equal decisions are counted.
-NUMBERS, RUN = 12, 4
+# How many ends the summary has, and how many numbers of records a line of it; from how many on equal decisions are counted.
+ENDS, NUMBERS, RUN = 40, 12, 4
 
 
 def end_words(path: Path) -> str:
@@ -48,7 +48,9 @@ def summary(report: Report, with_pruned: bool = False) -> List[str]:
         if isinstance(record, Path):
             ends.setdefault(end_words(record), []).append(number)
     most_first = sorted(ends.items(), key=lambda it: -len(it[1]))
-    return ["; ".join(parts), *(f"  {len(numbers):,} {end}: {_numbers(numbers)}" for end, numbers in most_first)]
+    more = len(most_first) - ENDS
+    lines = [f"  {len(numbers):,} {end}: {_numbers(numbers)}" for end, numbers in most_first[:ENDS]]
+    return ["; ".join(parts), *lines, *([f"  and {more:,} other ends"] if more > 0 else [])]
 
 
 def decision_words(decisions: Sequence[Decision]) -> str:
