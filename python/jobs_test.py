@@ -107,7 +107,7 @@ def check_spoken(expect):
     for text, wanted in (
             ("source address in 10.1.0.0/16", "head L3+96:32 in {167837696..167903231}"), ("Destination  Address in {10.0.0.0/31, 10.0.0.9}", "head L3+128:32 in {167772160..167772161, 167772169}"),
             ("protocol == TCP and TTL <= 1", "head L3+72:8 == 6 and head L3+64:8 <= 1"), ("Ethernet destination == 02:00:00:00:00:01", "head L2+0:48 == 2199023255553"), ("Ethernet type == ARP", "head L2+96:16 == 2054"),
-            ("global protocol:8 == local TTL:8", "global protocol:8 == local TTL:8"), ("head TTL+8:8 == $TCP:8", "head TTL+8:8 == $TCP:8"), ('fail "TTL of TCP";', 'fail "TTL of TCP";'), ("// TTL\n", "// TTL\n"),
+            ("global protocol:8 == local TTL:8", "global protocol:8 == local TTL:8"), ("head TTL+8:8 == $TCP:8", "head TTL+8:8 == $TCP:8"), ('fail "TTL of TCP";', 'fail "TTL of TCP";'), ("// TTL\n", "// TTL\n"), ("node TTL 1 -> 1 { } link TTL.0 -> TCP.0;", "node TTL 1 -> 1 { } link TTL.0 -> TCP.0;"),
             ("reach in TCP.0 with TTL == 1", "reach in TCP.0 with head L3+64:8 == 1"), ("in 0 { }", "in 0 { }"), ("forward 1;", "forward 1;"), ("head L3+64:8 == 0x10", "head L3+64:8 == 0x10")):
         expect(f"{text!r} as a job has it", unspoken(text), wanted)
     low = int(ipaddress.ip_address("2001:db8::"))
