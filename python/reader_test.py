@@ -5,6 +5,7 @@ import io
 import json
 import os
 import random
+import re
 import subprocess
 import sys
 import tempfile
@@ -300,6 +301,36 @@ def check_acts(expect):
         expect(words, answer_words._hidden_words(2, fate, listed_rules), words)
 
 
+PIPED = re.compile(r" {4}(?:\S*/)?symnet (.*?) \| (?:\S*/)?symnet_report\.py (.*)")
+
+
+def documented():
+    """What the documents show of the reader: the words of the program, those of the reader, and the lines below them."""
+    for page in [TOP / "README.md", *sorted((TOP / "docs").glob("*.md")), *sorted((TOP / "examples").glob("*/README.md"))]:
+        lines = page.read_text().split("\n")
+        for at, line in enumerate(lines):
+            found = PIPED.fullmatch(line)
+            if found:
+                end = next(below for below in range(at + 1, len(lines) + 1) if below == len(lines) or (lines[below] and not lines[below].startswith("    ")) or "symnet " in lines[below])
+                yield page, found[1].split(), found[2].split(), [it[4:] for it in lines[at + 1:end] if it.strip() not in ("", "..")]
+
+
+def check_documents(expect):
+    """What the documents show of the reader is what it prints."""
+    count = 0
+    for page, words, others, wanted in documented():
+        names = [it for it in [*words, *others] if "." in it]
+        folder = next((it for it in sorted((TOP / "examples").iterdir()) if all((it / name).is_file() for name in names)), None)
+        if folder is None or not wanted:
+            continue
+        os.chdir(folder)
+        printed = iter(ran(*others, given=engine.on_disk([it.encode() for it in words]).output)[1].decode().split("\n"))
+        missing = [line for line in wanted if line not in printed]
+        expect(f"{page.relative_to(TOP)}: {' '.join(words)}, in words", missing, [])
+        count += 1
+    expect("documents that show the reader", count >= 3, True)
+
+
 def check_run(expect):
     """With something that runs: what the reader prints of the examples, without a report."""
     kept = os.getcwd()
@@ -313,6 +344,7 @@ def check_run(expect):
             status, printed, _ = ran("-", *files, given=given)
             expect(f"{words}, in words", (status, part in printed.decode()), (0, True))
             expect(f"{words}, in words, without a run", part in ran("-", *files, "--only-read", given=given)[1].decode(), False)
+        check_documents(expect)
     finally:
         os.chdir(kept)
 
