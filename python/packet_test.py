@@ -40,6 +40,7 @@ def check_names(expect):
     expect("a packet of a list", (list_packet([6, 1, 2, 3, 4])["destination port"], str(list_packet([6, 1, 2, 3, 4])["source"])), (4, "0.0.0.1"))
     twice = JobText("symnet 2; node a 1 -> 1 { in 0 { set local m:8 = any; } } inject a.0 { field global m:8; }").packet([1, 2, 3])
     expect("names that are taken", (list(twice), twice["m"], twice["local m:8"], twice["m (2)"]), (["global m:8", "local m:8", "m (2)"], 1, 2, 3))
+    expect("the reader by its name", symnet.report.read_report is read_report, True)
     expect("a job that is none", list(JobText("no job").packet([1])), ["symbol 0"])
 
 
