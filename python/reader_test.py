@@ -12,7 +12,7 @@ import tempfile
 import time
 from pathlib import Path
 
-from symnet import answer_words, answers, engine, inputs, picture, report, ways
+from symnet import answer_words, answers, engine, inputs, picture, report, sefl, ways
 from symnet.plain import plain, wrapped
 
 TOP = Path(__file__).resolve().parent.parent
@@ -160,6 +160,29 @@ def check_shapes(expect):
     expect(f"{count} odd values", count > 10000, True)
 
 
+def check_jobs(expect):
+    """Jobs and lists with parts left out, doubled and exchanged: what comes of them is words or a message."""
+    draw, written_of = random.Random(11), ((CHOOSING, CHOOSING_REPORT), (made_files.RING, '{"answers":[{"answer":"yes","number":0,"values":[0,17]},{"answer":"no"}],"symnet":1}'), (made_files.SUMS, made_files.SUMS_REPORT), (made_files.LIST, made_files.RULES))
+    for count in range(800):
+        text, answer = written_of[count % len(written_of)]
+        parts = re.findall(r"\s+|\w+|\W", text)
+        for _ in range(draw.randrange(1, 6)):
+            at, to = draw.randrange(len(parts)), draw.randrange(len(parts))
+            parts[at] = draw.choice(("", parts[at] * 2, parts[to], draw.choice(("{", "}", ";", '"', "any", "if", "in", "0x", "9" * 5000, "\x00", "\ud800"))))
+        spoiled = "".join(parts)
+        try:
+            given = report.Inputs(report=report.read_report(made_files.RING_REPORT))
+            given.add("a.acl" if text == made_files.LIST else "a.sefl", spoiled.encode(errors="surrogatepass"))
+            report.shown(answer, given)
+            if answer == CHOOSING_REPORT:
+                report.shown(answer, given, record=0)
+                sefl.canonical(spoiled)
+        except (report.NotReport, answers.NotAnswer, inputs.NotInput):
+            pass
+        except Exception as error:  # noqa: BLE001
+            expect(f"a spoiled file: {spoiled[:400]!r}", repr(error), "a message")
+
+
 # ---------------------------------------------------------------- words
 
 
@@ -241,8 +264,8 @@ def check_ways(expect):
     twice = walks.replace('"walks":[', f'"walks":[{json.dumps(json.loads(walks)["walks"][0])},')
     expect("the way by two walks", lines_of(answer, "choosing.sefl", runner=Known(walks={"choosing.sefl": twice}))[-1], "  the way of one of 2 walks: a > t > b")
     expect("no way", lines_of(answer, "choosing.sefl", runner=Known())[-1], "    choice 1  2")
-    expect("ports of questions", [answer_words.place_of(it) for it in ("reach in b . 0x0", "reach out b.1 with global in:8 in {1..2}", "visible head L3+72:8 at in a.0", "invariant global in:8 at out b.2", "reach")],
-           ["in b.0", "out b.1", "in a.0", "out b.2", ""])
+    expect("ports of questions", [answer_words.place_of(it) for it in ("reach in b . 0x0", "reach out b.1 with global in:8 in {1..2}", "visible head L3+72:8 at in a.0", "invariant global in:8 at out b.2", "reach", f"reach in b.{'9' * 5000}")],
+           ["in b.0", "out b.1", "in a.0", "out b.2", "", ""])
     for what, runner, names in (("a report", None, ["ring.json"]), ("a job", Known(made_files.RING_REPORT), [])):
         shown = lines_of(made_files.RING_LOOPS, "ring.sefl", *names, runner=runner)
         expect(f"a loop by {what}", shown[:3], ["record 0: packets go a, b, a .. for ever", f"  one round: {' > '.join(made_files.ROUND)}", "  such a packet: TTL 0, protocol UDP"])
@@ -372,6 +395,7 @@ def check_program(expect):
 def check(expect):
     check_plain(expect)
     check_shapes(expect)
+    check_jobs(expect)
     check_records(expect)
     check_ways(expect)
     check_sizes(expect)

@@ -30,13 +30,17 @@ def _fits(values: Sequence[int], job: Optional[Job]) -> None:
 _PLACE = re.compile(r"\b(in|out) ([A-Za-z_]\w*) ?\. ?(0x[0-9A-Fa-f]+|\d+)", re.ASCII)
 
 
+# The digits of a port number, at most.
+_LONGEST = 12
+
+
 def place_of(question: str) -> str:
     """The port that a question asks of, as a report has it."""
     found = _PLACE.findall(question)
     if not found:
         return ""
     side, name, port = found[0] if question.startswith("reach") else found[-1]
-    return f"{side} {name}.{number_of(port)}"
+    return f"{side} {name}.{number_of(port)}" if len(port) <= _LONGEST else ""
 
 
 def asked_lines(answers: Sequence[Answer], job: Optional[Job], why: Optional[Callable[[Sequence[int]], List[str]]] = None, ways: Optional[Ways] = None) -> List[str]:
