@@ -1,4 +1,5 @@
-"""Makes the wheel of the package, with the library that tools/build_library.py built (PEP 517). It needs nothing besides Python."""
+"""Makes the wheel of the package, with the library that tools/build_library.py built, if it is there (PEP 517): without it the package runs the built program, and the
+wheel is of any machine. It needs nothing besides Python."""
 
 import base64
 import hashlib
@@ -20,24 +21,23 @@ def _project() -> Dict[str, Any]:
 
 
 def _tag() -> str:
-    """The tag of wheels for any Python 3 on this machine, since the library is of this machine."""
-    return f"py3-none-{sysconfig.get_platform().replace('-', '_').replace('.', '_')}"
+    """The tag of wheels for any Python 3: on this machine, where the library is inside, which is of this machine."""
+    return f"py3-none-{sysconfig.get_platform().replace('-', '_').replace('.', '_') if LIBRARY.is_file() else 'any'}"
 
 
 def _metadata() -> Dict[str, bytes]:
     project = _project()
     told = f"Metadata-Version: 2.1\nName: {project['name']}\nVersion: {project['version']}\nSummary: {project['description']}\nRequires-Python: {project['requires-python']}\n"
     folder = f"{project['name']}-{project['version']}.dist-info"
-    wheel = f"Wheel-Version: 1.0\nGenerator: builder\nRoot-Is-Purelib: false\nTag: {_tag()}\n"
+    wheel = f"Wheel-Version: 1.0\nGenerator: builder\nRoot-Is-Purelib: {'false' if LIBRARY.is_file() else 'true'}\nTag: {_tag()}\n"
     return {f"{folder}/METADATA": told.encode(), f"{folder}/WHEEL": wheel.encode()}
 
 
 def _files() -> Dict[str, bytes]:
     package = HERE / "symnet"
     found = {str(it.relative_to(HERE)): it.read_bytes() for it in sorted([*package.glob("*.py"), package / "py.typed"])}
-    if not LIBRARY.is_file():
-        raise SystemExit(f"symnet: {LIBRARY} is not built: run tools/build_library.py first")
-    return {**found, "symnet/page.html": PAGE.read_bytes(), "symnet/libsymnet.so": LIBRARY.read_bytes()}
+    library = {"symnet/libsymnet.so": LIBRARY.read_bytes()} if LIBRARY.is_file() else {}
+    return {**found, "symnet/page.html": PAGE.read_bytes(), **library}
 
 
 def build_wheel(wheel_directory: str, config_settings: Optional[Dict[str, Any]] = None, metadata_directory: Optional[str] = None) -> str:

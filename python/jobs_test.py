@@ -2,6 +2,7 @@
 
 import ipaddress
 import random
+import tempfile
 from pathlib import Path
 
 import symnet
@@ -106,7 +107,7 @@ def check_spoken(expect):
     for text, wanted in (
             ("source address in 10.1.0.0/16", "head L3+96:32 in {167837696..167903231}"), ("Destination  Address in {10.0.0.0/31, 10.0.0.9}", "head L3+128:32 in {167772160..167772161, 167772169}"),
             ("protocol == TCP and TTL <= 1", "head L3+72:8 == 6 and head L3+64:8 <= 1"), ("Ethernet destination == 02:00:00:00:00:01", "head L2+0:48 == 2199023255553"), ("Ethernet type == ARP", "head L2+96:16 == 2054"),
-            ("global protocol:8 == local TTL:8", "global protocol:8 == local TTL:8"), ("head TTL+8:8 == $TCP:8", "head TTL+8:8 == $TCP:8"), ('fail "TTL of TCP";', 'fail "TTL of TCP";'), ("// TTL\n", "// TTL\n"),
+            ("global protocol:8 == local TTL:8", "global protocol:8 == local TTL:8"), ("head TTL+8:8 == $TCP:8", "head TTL+8:8 == $TCP:8"), ('fail "TTL of TCP";', 'fail "TTL of TCP";'), ("// TTL\n", "// TTL\n"), ("node TTL 1 -> 1 { } link TTL.0 -> TCP.0;", "node TTL 1 -> 1 { } link TTL.0 -> TCP.0;"),
             ("reach in TCP.0 with TTL == 1", "reach in TCP.0 with head L3+64:8 == 1"), ("in 0 { }", "in 0 { }"), ("forward 1;", "forward 1;"), ("head L3+64:8 == 0x10", "head L3+64:8 == 0x10")):
         expect(f"{text!r} as a job has it", unspoken(text), wanted)
     low = int(ipaddress.ip_address("2001:db8::"))
@@ -139,6 +140,8 @@ def check_net(expect):
     expect("a net's nodes", [line.split()[1] for line in net.text.split("\n") if line.startswith("node ")], ["core", "floor", "acl", "ttl", "lan", "end", "more"])
     expect("a net's links", [line for line in net.text.split("\n") if line.startswith("link ")], ["link more.0 -> end.0;", "link core.1 -> acl.0;", "link core.0 -> ttl.0;", "link ttl.0 -> lan.0;"])
     expect("a net as text", str(net), net.text)
+    with tempfile.TemporaryDirectory() as room:
+        expect("a net's files", (net.save(room).read_text(), {it.name for it in Path(room).iterdir()}), (net.text, {"net.sefl", "core.fib", "floor.mac"}))
     for what, call in (("no injection", lambda: Net().text), ("a name that is none", lambda: Net().forwarder("a b")), ("a name with more behind it", lambda: Net().sink("a 1 -> 1 { } node b")), ("code with more behind it", lambda: Net().node("a", code={"in 0": "noop; } in 1 {"})),
                        ("a port that is none", lambda: Net().node("a", code={"on 0": ""})), ("a link that is none", lambda: Net().link("a", "b.0")), ("a prefix that is none", lambda: Net().router("a", [("10.0.0.0/40", 0)])),
                        ("an address that is none", lambda: Net().switch("a", [("02:00", 0)])), ("a rule that is none", lambda: Net().filter("a", "allow all")), ("a style that is none", lambda: Net().filter("a", "", style="egress")),

@@ -8,6 +8,7 @@ import types
 from pathlib import Path
 
 import symnet
+from symnet.fields import name_of
 from symnet.packet import JobText, Packet, list_packet
 from symnet.records import read_report
 
@@ -15,11 +16,15 @@ TOP = Path(__file__).resolve().parent.parent
 OFFICE = TOP / "examples/branch-office/office.sefl"
 
 
+def packet_of(targets):
+    return Packet([(name_of(target), target, value) for target, value in targets])
+
+
 def check_names(expect):
     """Each name of a value, and its kind."""
     targets = [("head L3+96:32", 0x0A010000), ("head L3 + 128 : 32", 1), ("head L3+64:128", 2**64), ("head L2+48:48", 2), ("head L3+72:8", 17), ("global mark:16", 3), ("local port:16", 4), ("local port:16 (2)", 5), ("head 0x10:8", 6),
                ("head L4+16:16", 53), ("choice 0", 9)]
-    packet = Packet(targets)
+    packet = packet_of(targets)
     for key, wanted in (("source", ipaddress.IPv4Address("10.1.0.0")), ("Source Address", ipaddress.IPv4Address("10.1.0.0")), ("head L3+0x60:32", ipaddress.IPv4Address("10.1.0.0")), ("destination", ipaddress.IPv4Address(1)),
                         ("head L3+64:128", ipaddress.IPv6Address(2**64)), ("Ethernet source", "00:00:00:00:00:02"), ("protocol", 17), ("mark", 3), ("global mark:16", 3), ("port", 4), ("port (2)", 5), ("local port:16 (2)", 5), ("head 16:8", 6),
                         ("destination port", 53), ("choice 0", 9)):
@@ -31,8 +36,11 @@ def check_names(expect):
         expect("a name that is none", "a value", "KeyError")
     except KeyError as error:
         expect("a name that is none", "the packet has source address" in str(error), True)
-    expect("a switch's packet", Packet([("head L2+0:48", 1), ("head L2+48:48", 2)])["source"], "00:00:00:00:00:02")
+    expect("a switch's packet", packet_of([("head L2+0:48", 1), ("head L2+48:48", 2)])["source"], "00:00:00:00:00:02")
     expect("a packet of a list", (list_packet([6, 1, 2, 3, 4])["destination port"], str(list_packet([6, 1, 2, 3, 4])["source"])), (4, "0.0.0.1"))
+    twice = JobText("symnet 2; node a 1 -> 1 { in 0 { set local m:8 = any; } } inject a.0 { field global m:8; }").packet([1, 2, 3])
+    expect("names that are taken", (list(twice), twice["m"], twice["local m:8"], twice["m (2)"]), (["global m:8", "local m:8", "m (2)"], 1, 2, 3))
+    expect("the reader by its name", symnet.report.read_report is read_report, True)
     expect("a job that is none", list(JobText("no job").packet([1])), ["symbol 0"])
 
 
@@ -41,7 +49,7 @@ def check_rows(expect):
     report = read_report(OFFICE.with_suffix(".json").read_bytes(), OFFICE.read_bytes())
     rows = report.rows()
     expect("rows", [row["record"] for row in rows], [0, 1, 3, 7, 10, 11, 12])
-    expect("a row", [rows[2][key] for key in ("end", "at", "message", "boxes", "undecided", "source address", "protocol", "TTL", "local outside_port:16")],
+    expect("a row", [rows[2][key] for key in ("end", "at", "message", "boxes", "undecided", "source address", "protocol", "TTL", "outside_port")],
            ["delivered", "out host.0", "", ["ttl", "routes", "nat", "filter", "server", "filter", "nat", "ttl", "host"], None, "10.1.0.0", "UDP", 2, 1024])
     expect("a row that failed", [rows[0][key] for key in ("end", "at", "message", "site")], ["failed", "in ttl.0", "time exceeded", 3])
     expect("rows are plain", json.loads(json.dumps(rows)), rows)

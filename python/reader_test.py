@@ -1,16 +1,18 @@
 """Tests of the reader for python/test: that it prints nothing which a terminal could read as a command, and that what has a wrong shape gives a message."""
 
+import html
 import io
 import json
 import os
 import random
+import re
 import subprocess
 import sys
 import tempfile
 import time
 from pathlib import Path
 
-from symnet import answer_words, answers, engine, inputs, report, ways
+from symnet import answer_words, answers, engine, inputs, picture, report, sefl, ways
 from symnet.plain import plain, wrapped
 
 TOP = Path(__file__).resolve().parent.parent
@@ -158,6 +160,29 @@ def check_shapes(expect):
     expect(f"{count} odd values", count > 10000, True)
 
 
+def check_jobs(expect):
+    """Jobs and lists with parts left out, doubled and exchanged: what comes of them is words or a message."""
+    draw, written_of = random.Random(11), ((CHOOSING, CHOOSING_REPORT), (made_files.RING, '{"answers":[{"answer":"yes","number":0,"values":[0,17]},{"answer":"no"}],"symnet":1}'), (made_files.SUMS, made_files.SUMS_REPORT), (made_files.LIST, made_files.RULES))
+    for count in range(800):
+        text, answer = written_of[count % len(written_of)]
+        parts = re.findall(r"\s+|\w+|\W", text)
+        for _ in range(draw.randrange(1, 6)):
+            at, to = draw.randrange(len(parts)), draw.randrange(len(parts))
+            parts[at] = draw.choice(("", parts[at] * 2, parts[to], draw.choice(("{", "}", ";", '"', "any", "if", "in", "0x", "9" * 5000, "\x00", "\ud800"))))
+        spoiled = "".join(parts)
+        try:
+            given = report.Inputs(report=report.read_report(made_files.RING_REPORT))
+            given.add("a.acl" if text == made_files.LIST else "a.sefl", spoiled.encode(errors="surrogatepass"))
+            report.shown(answer, given)
+            if answer == CHOOSING_REPORT:
+                report.shown(answer, given, record=0)
+                sefl.canonical(spoiled)
+        except (report.NotReport, answers.NotAnswer, inputs.NotInput):
+            pass
+        except Exception as error:  # noqa: BLE001
+            expect(f"a spoiled file: {spoiled[:400]!r}", repr(error), "a message")
+
+
 # ---------------------------------------------------------------- words
 
 
@@ -210,8 +235,8 @@ def check_records(expect):
     expect("refuted sides", lines_of(made_files.RING_REPORT, with_pruned=True)[10:13], ["record 1: refuted, no packet comes here", "  decisions: then, else", ""])
     one = lines_of(CHOOSING_REPORT, "choosing.sefl", record=0)
     expect("one record: its decisions", one[one.index("  decisions") + 1:][:5], ["    then  if protocol in {TCP, UDP}", "    0     fork 0, 1", "    pass  constrain protocol != ICMP", "    0     the table of t", "    pass  the table of t"])
-    expect("choices by what they set", [" ".join(line.split()[:4]) for line in one[-2:]], ["global mark:16 1", "global mark:16 (2) 2"])
-    expect("another choice", lines_of(CHOOSING_REPORT, "choosing.sefl")[-1], "  packet: protocol ICMP, local set:8 3")
+    expect("choices by what they set", [" ".join(line.split()[:4]) for line in one[-2:]], ["mark 1", "mark (2) 2"])
+    expect("another choice", lines_of(CHOOSING_REPORT, "choosing.sefl")[-1], "  packet: protocol ICMP, set 3")
     expect("a way that is not known", lines_of('{"answer":"other","number":0,"side":"left","symnet":1,"values":[6,1,2]}', "choosing.sefl")[2], "  choice 0  1")
     carried = lines_of((TOP / "examples/branch-office/office.json").read_text(), "office.sefl", record=3)
     expect("what a record carries", [" ".join(line.split()) for line in carried[-9:-6]], ["TTL 63 head L3+64:8", "protocol {protocol} = UDP head L3+72:8", "source address {destination address} = 0.0.0.0 head L3+96:32"])
@@ -223,6 +248,8 @@ def check_records(expect):
             expect("a record that is not there", "words", "a message")
         except report.NotReport:
             pass
+    ends = lines_of(made_files.report([made_files.path([], [f"in r.{number}"], "stopped", []) for number in range(100)]))
+    expect("many ends", ends[:42][1::20] + ends[41:43], ["  1 stopped at in r.0: record 0", "  1 stopped at in r.20: record 20", "  and 60 other ends", "  and 60 other ends", ""])
     wide = made_files.report([made_files.path(["else"] * 5000, ["in r.0"], "stopped", []), *[made_files.path([], ["in r.0"], "stopped", [])] * 50])
     expect("a long record pads no other", len("".join(lines_of(wide))) < 10000, True)
 
@@ -230,15 +257,15 @@ def check_records(expect):
 def check_ways(expect):
     """The way of an answer, the boxes of a loop, and where a packet leaves."""
     answer = made_files.written({"answers": [{"answer": "yes", "number": 0, "values": [6, 1, 2]}], "symnet": 1})
-    wanted = ["  yes, shown by record 0 with the packet", "    protocol            TCP  head L3+72:8  6", "    global mark:16      1", "    global mark:16 (2)  2", "  the way: a > t > b"]
+    wanted = ["  yes, shown by record 0 with the packet", "    protocol  TCP  head L3+72:8  6", "    mark      1", "    mark (2)  2", "  the way: a > t > b"]
     expect("the way by the report", lines_of(answer, "choosing.sefl", "choosing.json")[-5:], wanted)
     walks = made_files.written({"symnet": 1, "walks": [{key: record[key] for key in ("decisions", "end", "fields", "places")} for record in json.loads(CHOOSING_REPORT)["records"]]})
     expect("the way by a walk", lines_of(answer, "choosing.sefl", runner=Known(walks={"choosing.sefl": walks}))[-5:], wanted)
     twice = walks.replace('"walks":[', f'"walks":[{json.dumps(json.loads(walks)["walks"][0])},')
     expect("the way by two walks", lines_of(answer, "choosing.sefl", runner=Known(walks={"choosing.sefl": twice}))[-1], "  the way of one of 2 walks: a > t > b")
     expect("no way", lines_of(answer, "choosing.sefl", runner=Known())[-1], "    choice 1  2")
-    expect("ports of questions", [answer_words.place_of(it) for it in ("reach in b . 0x0", "reach out b.1 with global in:8 in {1..2}", "visible head L3+72:8 at in a.0", "invariant global in:8 at out b.2", "reach")],
-           ["in b.0", "out b.1", "in a.0", "out b.2", ""])
+    expect("ports of questions", [answer_words.place_of(it) for it in ("reach in b . 0x0", "reach out b.1 with global in:8 in {1..2}", "visible head L3+72:8 at in a.0", "invariant global in:8 at out b.2", "reach", f"reach in b.{'9' * 5000}")],
+           ["in b.0", "out b.1", "in a.0", "out b.2", "", ""])
     for what, runner, names in (("a report", None, ["ring.json"]), ("a job", Known(made_files.RING_REPORT), [])):
         shown = lines_of(made_files.RING_LOOPS, "ring.sefl", *names, runner=runner)
         expect(f"a loop by {what}", shown[:3], ["record 0: packets go a, b, a .. for ever", f"  one round: {' > '.join(made_files.ROUND)}", "  such a packet: TTL 0, protocol UDP"])
@@ -297,6 +324,36 @@ def check_acts(expect):
         expect(words, answer_words._hidden_words(2, fate, listed_rules), words)
 
 
+PIPED = re.compile(r" {4}(?:\S*/)?symnet (.*?) \| (?:\S*/)?symnet_report\.py (.*)")
+
+
+def documented():
+    """What the documents show of the reader: the words of the program, those of the reader, and the lines below them."""
+    for page in [TOP / "README.md", *sorted((TOP / "docs").glob("*.md")), *sorted((TOP / "examples").glob("*/README.md"))]:
+        lines = page.read_text().split("\n")
+        for at, line in enumerate(lines):
+            found = PIPED.fullmatch(line)
+            if found:
+                end = next(below for below in range(at + 1, len(lines) + 1) if below == len(lines) or (lines[below] and not lines[below].startswith("    ")) or "symnet " in lines[below])
+                yield page, found[1].split(), found[2].split(), [it[4:] for it in lines[at + 1:end] if it.strip() not in ("", "..")]
+
+
+def check_documents(expect):
+    """What the documents show of the reader is what it prints."""
+    count = 0
+    for page, words, others, wanted in documented():
+        names = [it for it in [*words, *others] if "." in it]
+        folder = next((it for it in sorted((TOP / "examples").iterdir()) if all((it / name).is_file() for name in names)), None)
+        if folder is None or not wanted:
+            continue
+        os.chdir(folder)
+        printed = iter(ran(*others, given=engine.on_disk([it.encode() for it in words]).output)[1].decode().split("\n"))
+        missing = [line for line in wanted if line not in printed]
+        expect(f"{page.relative_to(TOP)}: {' '.join(words)}, in words", missing, [])
+        count += 1
+    expect("documents that show the reader", count >= 3, True)
+
+
 def check_run(expect):
     """With something that runs: what the reader prints of the examples, without a report."""
     kept = os.getcwd()
@@ -310,22 +367,39 @@ def check_run(expect):
             status, printed, _ = ran("-", *files, given=given)
             expect(f"{words}, in words", (status, part in printed.decode()), (0, True))
             expect(f"{words}, in words, without a run", part in ran("-", *files, "--only-read", given=given)[1].decode(), False)
+        check_documents(expect)
     finally:
         os.chdir(kept)
+
+
+def check_notebook(expect):
+    """What a notebook is given: a frame that runs scripts alone, in which no text ends a script."""
+    hostile = "// <!--<script></script><script>evil()</script>\n"
+    shown = report.Report((), shown=picture.Texts({"report": b"{}", "job": hostile.encode()}, {}))._repr_html_()
+    page = html.unescape(shown.split('srcdoc="')[1].split('"')[0])
+    given = page[page.index("<script>showOnly("):]
+    expect("a notebook's frame", (shown.startswith('<iframe sandbox="allow-scripts" srcdoc="'), "evil()<" in page, given.index("</script>") > given.index("\\n\"]")), (True, False, True))
+    expect("a notebook's texts", json.loads(given[len("<script>showOnly(..."):given.index(");</script>")]), [[["report", "{}"], ["job", hostile]], []])
+    kept, picture.PLACES = picture.PLACES, (Path(__file__),)
+    expect("a page that is none", report.Report((), shown=picture.Texts({}, {}))._repr_html_(), None)
+    picture.PLACES = kept
 
 
 def check_program(expect):
     """The reader as a program."""
     run = subprocess.run([sys.executable, str(TOP / "tools/symnet_report.py"), "-"], input=b'{"answer":"same","symnet":1}', capture_output=True, timeout=60, check=False)
+    expect("the reader is asked for help", (ran("--help")[0], ran("-h")[1].startswith(b"Reads what symnet writes")), (0, True))
     expect("the reader as a program", (run.returncode, run.stdout.split(b":")[0], run.stderr), (0, b"same", b""))
 
 
 def check(expect):
     check_plain(expect)
     check_shapes(expect)
+    check_jobs(expect)
     check_records(expect)
     check_ways(expect)
     check_sizes(expect)
     check_widths(expect)
     check_acts(expect)
+    check_notebook(expect)
     check_program(expect)

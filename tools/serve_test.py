@@ -160,10 +160,9 @@ def check_ends(expect, server, asker, marks):
     for link in links:
         link.close()
     expect("serve: all have gone", until(lambda: not server.runs.at_work), True)
-    usual, served_runs.SECONDS = served_runs.SECONDS, 0.2
-    begun(asker, "6", marks / "six").close()
+    usual, served_runs.WAITED = served_runs.WAITED, 0.2
     status, came = asker.run("6", "sleep", "six")
-    served_runs.SECONDS = usual
+    served_runs.WAITED = usual
     expect("serve: a run that sleeps too long", (status, came["status"], "the run was ended" in came["error"]), (200, -9, True))
 
 

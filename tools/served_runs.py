@@ -11,7 +11,8 @@ import time
 from pathlib import Path
 from typing import IO, Callable, Dict, Iterator, List, Optional, Tuple
 
-SECONDS, MEMORY, OUTPUT = 60, 4 << 30, 256 << 20
+# The seconds of a processor, the bytes of memory and of output that a run has, and the seconds after which it is ended in any case.
+SECONDS, MEMORY, OUTPUT, WAITED = 60, 4 << 30, 256 << 20, 120
 # How many runs are at work at one time, for all pages together.
 MOST = 4
 # The seconds between two looks at who waits for a run, and how long the end of all runs is waited for.
@@ -100,7 +101,7 @@ class Run:
         with tempfile.TemporaryDirectory(prefix="symnet-run-") as room:
             fill(Path(room), files)
             process = self._begin(words, Path(room), output, error)
-            until = time.monotonic() + 2 * SECONDS
+            until = time.monotonic() + WAITED
             while True:
                 try:
                     status = process.wait(LOOK)

@@ -8,6 +8,9 @@
 `symnet.report`, `symnet.answers`, `symnet.causes`, `symnet.inputs` and `symnet.fields` read what the program writes and show it in words; they need no library, and no program.
 """
 
+import importlib
+from types import ModuleType
+
 from .answers import Answer, Compared, ComparedRules, Fate, ListSide, Loops, NotAnswer, Part, Visit
 from .commands import Asked, Confirmed, Grown, Rules, ask, compare, compare_rules, explore, grow, loops, model, replay, rules, run, walk
 from .inputs import NotInput
@@ -21,3 +24,10 @@ from .sefl import canonical
 __all__ = ["Answer", "Asked", "Cell", "Compared", "ComparedRules", "Confirmed", "Ended", "Fate", "Fields", "Grown", "ListSide", "Loops", "Net", "NotAnswer", "NotBuilt",
            "NotInput", "NotReport", "Packet", "Part", "Path", "Pruned", "Refusal", "Report", "Rules", "Unexplored", "Visit", "ask", "canonical", "compare", "compare_rules", "explore", "grow",
            "loops", "model", "replay", "rules", "run", "walk"]
+
+
+def __getattr__(name: str) -> ModuleType:
+    """The reader, which is imported when it is asked for: `python -m symnet.report` runs it."""
+    if name == "report":
+        return importlib.import_module(".report", __name__)
+    raise AttributeError(f"module {__name__!r} has no attribute {name!r}")

@@ -30,13 +30,17 @@ def _fits(values: Sequence[int], job: Optional[Job]) -> None:
 _PLACE = re.compile(r"\b(in|out) ([A-Za-z_]\w*) ?\. ?(0x[0-9A-Fa-f]+|\d+)", re.ASCII)
 
 
+# The digits of a port number, at most.
+_LONGEST = 12
+
+
 def place_of(question: str) -> str:
     """The port that a question asks of, as a report has it."""
     found = _PLACE.findall(question)
     if not found:
         return ""
     side, name, port = found[0] if question.startswith("reach") else found[-1]
-    return f"{side} {name}.{number_of(port)}"
+    return f"{side} {name}.{number_of(port)}" if len(port) <= _LONGEST else ""
 
 
 def asked_lines(answers: Sequence[Answer], job: Optional[Job], why: Optional[Callable[[Sequence[int]], List[str]]] = None, ways: Optional[Ways] = None) -> List[str]:
@@ -77,11 +81,11 @@ def _records(numbers: Sequence[int]) -> str:
     return f"{'record' if len(numbers) == 1 else 'records'} {', '.join(map(str, numbers))}"
 
 
-def _visit_lines(visit: Visit, job: Optional[Job]) -> List[str]:
+def _visit_lines(visit: Visit, job: Optional[Job], choices: Sequence[str]) -> List[str]:
     """Why an earlier visit shows no loop, with the packet that shows it."""
     why = {"choice": "a value was chosen after it", "layout": "other tags or cells were there", "cell": "a cell had another value, as with the packet",
            "unknown": f"it is undecided whether a cell had another value ({visit_cause(visit.cause)})"}[visit.why]
-    return [f"  at place {visit.place} {why}", *(packet_lines(visit.values, job, "    ") if visit.values else [])]
+    return [f"  at place {visit.place} {why}", *(packet_lines(visit.values, job, "    ", choices) if visit.values else [])]
 
 
 def loops_lines(loops: Loops, cut_paths: Optional[Mapping[int, Path]], job: Optional[Job] = None) -> List[str]:
@@ -93,7 +97,9 @@ def loops_lines(loops: Loops, cut_paths: Optional[Mapping[int, Path]], job: Opti
             raise NotAnswer(f"record {number} of the report is no path that is cut: the answer is of another job or other hops, or the report was made with --pruned count")
         if number not in loops.first:
             lines.append(f"record {number}: only cut; no round was found, and more hops may show where it ends")
-            lines += [line for visit in loops.open[number] for line in _visit_lines(visit, job)]
+            path = (cut_paths or {}).get(number)
+            choices = follow(job, path.decisions, path.places).choices if path is not None else ()
+            lines += [line for visit in loops.open[number] for line in _visit_lines(visit, job, choices)]
             continue
         first = loops.first[number]
         if cut_paths is None:

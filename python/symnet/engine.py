@@ -15,7 +15,7 @@ NO_FILE, CANNOT_READ = 3, 4
 # One byte more than the largest file that the program reads, that of a report: what is longer is refused in any case.
 MOST = 268_435_457
 _ABSENT = "symnet: no file "
-NEITHER = "neither the library nor the program is built: run tools/build_library.py or ./symnet in the checkout, or name a program by SYMNET"
+NEITHER = "neither the library nor the program is built: run tools/build_library.py in the checkout, or name a program by SYMNET, as the checkout's script symnet"
 
 
 def is_library() -> bool:

@@ -14,6 +14,7 @@ The text is the canonical one of the job. Code, conditions and questions are wri
 """
 
 from itertools import groupby
+from pathlib import Path
 from typing import Dict, Iterable, List, Mapping, Optional, Sequence, Tuple, Union
 
 from .inputs import Rule, read_list
@@ -145,6 +146,13 @@ class Net:
         if not self._injection:
             raise ValueError("the job has no injection: call inject")
         return "\n".join(["symnet 2;", *self._nodes, *self._links, *self._injection, *self._asks, ""])
+
+    def save(self, folder: Union[str, Path], name: str = "net.sefl") -> Path:
+        """Writes the job and its tables into a folder, from which the program may be run on it, and returns the file of the job."""
+        place = Path(folder, name)
+        for file, text in {name: self.text, **self.files}.items():
+            Path(folder, file).write_text(text)
+        return place
 
     def __str__(self) -> str:
         return self.text

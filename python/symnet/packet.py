@@ -6,15 +6,15 @@ from collections.abc import Mapping
 from functools import cached_property
 from typing import Dict, Iterator, List, Optional, Sequence, Tuple, Union
 
-from .fields import kind_of, name_of, value_text
+from .fields import kind_of, value_text
 from .inputs import LIST_FIELDS, Job, NotInput, read_job
 from .library import Text, as_bytes
+from .packets import bare, named
 
 Value = Union[int, str, ipaddress.IPv4Address, ipaddress.IPv6Address]
 
 # What a short name may stand for: the first of these that the packet has.
 _SHORT = {"source": ("source address", "ethernet source"), "destination": ("destination address", "ethernet destination")}
-_META = re.compile(r"(?:global|local) (\w+):\w+( \(\d+\))?", re.ASCII)
 
 
 class JobText:
@@ -33,7 +33,8 @@ class JobText:
 
     def packet(self, values: Sequence[int], choices: Sequence[str] = ()) -> "Packet":
         job = self.job
-        return Packet([(f"symbol {symbol}" if job is None else job.target(symbol, choices), value) for symbol, value in enumerate(values)])
+        names = [(f"symbol {symbol}",) * 2 if job is None else named(job, symbol, choices) for symbol in range(len(values))]
+        return Packet([(*name, value) for name, value in zip(names, values)])
 
 
 def _value(kind: Optional[str], value: int) -> Value:
@@ -56,12 +57,13 @@ class Packet(Mapping[str, Value]):
     `source` and `destination` for the addresses. Case does not count. Iteration gives the names in the order of the job. Addresses of IP are objects of
     `ipaddress`, those of Ethernet texts; all else is a number. A choice on the way has the name of what it sets."""
 
-    def __init__(self, values: Sequence[Tuple[str, int]]):
-        self._rows: List[Tuple[str, str, Optional[str], int]] = [(name_of(target), target, kind_of(target), value) for target, value in values]
+    def __init__(self, values: Sequence[Tuple[str, str, int]]):
+        """Of each value its name, what it is in the job, and the number."""
+        self._rows: List[Tuple[str, str, Optional[str], int]] = []
         self._places: Dict[str, int] = {}
-        for at, (name, target, _, _) in enumerate(self._rows):
-            meta = _META.fullmatch(target)
-            for key in (name, target, *([f"{meta[1]}{meta[2] or ''}"] if meta else [])):
+        for at, (name, target, value) in enumerate(values):
+            self._rows.append((target if _plain(name) in self._places else name, target, kind_of(target), value))
+            for key in (name, target, bare(target)):
                 self._places.setdefault(_plain(key), at)
 
     def _place(self, key: str) -> int:
@@ -95,4 +97,4 @@ class Packet(Mapping[str, Value]):
 def list_packet(values: Sequence[int]) -> Packet:
     """A packet as filter lists read it."""
     targets = ("head L3+72:8", "head L3+96:32", "head L3+128:32", "head L4+0:16", "head L4+16:16")
-    return Packet(list(zip(targets[:len(LIST_FIELDS)], values)))
+    return Packet([(name, target, value) for (name, _, _), target, value in zip(LIST_FIELDS, targets, values)])

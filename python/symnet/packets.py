@@ -1,9 +1,24 @@
 """Packets in words: by the names of their fields, with values as people write them."""
 
-from typing import List, Optional, Sequence
+import re
+from typing import List, Optional, Sequence, Tuple
 
 from .fields import kind_of, name_of, value_text
 from .inputs import Job
+
+_METADATA = re.compile(r"(?:global|local) (\w+):\w+( \(\d+\))?", re.ASCII)
+
+
+def bare(target: str) -> str:
+    """The name of metadata without its scope and its width; anything else as it is."""
+    found = _METADATA.fullmatch(target)
+    return f"{found[1]}{found[2] or ''}" if found else target
+
+
+def named(job: Job, symbol: int, choices: Sequence[str] = ()) -> Tuple[str, str]:
+    """The name of a value of a packet, and what it is in the job. `choices` are what is set on its way, where that is known."""
+    target = job.target(symbol, choices)
+    return (name_of(target) if symbol < len(job.fields) else bare(name_of(target))), target
 
 
 def columns(rows: Sequence[Sequence[str]], indent: str = "") -> List[str]:
@@ -13,19 +28,18 @@ def columns(rows: Sequence[Sequence[str]], indent: str = "") -> List[str]:
 
 
 def packet_lines(values: Sequence[int], job: Optional[Job], indent: str = "", choices: Sequence[str] = ()) -> List[str]:
-    """A line for each value of a packet: its name, the value as people write it, and the raw forms of both where they differ. `choices` are what is set on its way, where
-    that is known."""
+    """A line for each value of a packet: its name, the value as people write it, and the raw forms of both where they differ. `choices` are what is set on its way."""
     if job is None:
         return [indent + "values " + " ".join(map(str, values))]
     rows = []
     for symbol, value in enumerate(values):
-        target = job.target(symbol, choices)
-        name, shown = name_of(target), value_text(kind_of(target), value)
-        rows.append((name, shown, "" if name == target else target, "" if shown == str(value) else str(value)))
+        name, target = named(job, symbol, choices)
+        shown = value_text(kind_of(target), value)
+        rows.append((name, shown, "" if name == target or symbol >= len(job.fields) else target, "" if shown == str(value) else str(value)))
     return columns(rows, indent)
 
 
 def packet_words(values: Sequence[int], job: Job, choices: Sequence[str] = ()) -> str:
     """A packet in one line, by names."""
-    targets = [job.target(symbol, choices) for symbol in range(len(values))]
-    return ", ".join(f"{name_of(target)} {value_text(kind_of(target), value)}" for target, value in zip(targets, values))
+    names = [named(job, symbol, choices) for symbol in range(len(values))]
+    return ", ".join(f"{name} {value_text(kind_of(target), value)}" for (name, target), value in zip(names, values))

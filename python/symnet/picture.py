@@ -30,10 +30,10 @@ class Texts:
 def page(texts: Texts) -> Optional[str]:
     """The page that shows these texts and reads nothing else; None where the page is not there."""
     place = next((it for it in PLACES if it.is_file()), None)
-    if place is None:
+    whole = "" if place is None else place.read_text(encoding="utf-8")
+    begin = whole.find(_PLACE)
+    if begin < 0:
         return None
-    whole = place.read_text()
-    begin = whole.index(_PLACE)
     given = json.dumps([[[name, text.decode(errors="replace")] for name, text in it.items()] for it in (texts.files, texts.others)]).replace("<", "\\u003c")
     return f"{whole[:begin]}<script>showOnly(...{given});</script>{whole[whole.index('-->', begin) + 3:]}"
 

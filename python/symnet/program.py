@@ -8,6 +8,7 @@ import re
 import shutil
 import subprocess
 import tempfile
+import warnings
 from pathlib import Path
 from typing import List, Mapping, Optional, Sequence
 
@@ -17,6 +18,9 @@ NAME = "symnet_cli"
 _HERE = Path(__file__).resolve().parent
 PLACES = (_HERE / NAME, _HERE.parents[1] / "crates/symnet_cli/out" / NAME)
 
+# How the line begins in which the checkout's script says, ahead of all else, that its program is not proved.
+_NOTICE = "symnet: this program was compiled without its proofs"
+
 # Texts between quotation marks, comments, and what stands between these.
 _PARTS = re.compile(rb'"([^"\x00-\x1f\x7f]*)"|//[^\n]*|[^"/]+|["/]')
 
@@ -25,7 +29,7 @@ def place() -> Optional[Path]:
     """Where the program is; None where there is none."""
     named = os.environ.get("SYMNET")
     if named:
-        return Path(named)
+        return Path(shutil.which(named) or named)
     on_path = shutil.which("symnet")
     return next((it for it in PLACES if it.is_file()), Path(on_path) if on_path else None)
 
@@ -68,7 +72,16 @@ def run(words: Sequence[bytes], folder: Optional[Path] = None) -> Ended:
         raise NotBuilt(f"{program} does not run: {error.strerror}") from None
     if ran.returncode < 0:
         raise RuntimeError(f"{program} was ended by signal {-ran.returncode}")
-    return Ended(ran.returncode, ran.stdout, ran.stderr.decode(errors="replace"))
+    return Ended(ran.returncode, ran.stdout, _without_notice(ran.stderr.decode(errors="replace")))
+
+
+def _without_notice(message: str) -> str:
+    """What is said of the run; that the program is not proved becomes a warning."""
+    first, _, rest = message.partition("\n")
+    if not first.startswith(_NOTICE):
+        return message
+    warnings.warn(first, stacklevel=2)
+    return rest
 
 
 def call(words: Sequence[bytes], files: Mapping[bytes, bytes]) -> Ended:

@@ -232,6 +232,9 @@ def _asked(words: List[str]) -> argparse.Namespace:
 
 
 def main(words: List[str]) -> int:
+    if words in (["--help"], ["-h"]):
+        print(__doc__.rstrip("\n"))
+        return 0
     try:
         asked = _asked(words)
     except _Usage:

@@ -6,13 +6,13 @@ from typing import Dict, List, Optional, Sequence, Tuple
 from .causes import undecided_lines
 from .fields import code_text, kind_of, name_of, position_of, value_text
 from .inputs import Job
-from .packets import columns, packet_lines, packet_words
+from .packets import columns, named, packet_lines, packet_words
 from .records import Cell, Decision, Fields, Path, Pruned, Record, Report, Unexplored
 from .shape import Misshaped
 from .ways import follow, way
 
-# How many numbers of records stand in a line of the summary, and from how many on equal decisions are counted.
-NUMBERS, RUN = 12, 4
+# How many ends the summary has, and how many numbers of records a line of it; from how many on equal decisions are counted.
+ENDS, NUMBERS, RUN = 40, 12, 4
 
 
 def end_words(path: Path) -> str:
@@ -48,7 +48,9 @@ def summary(report: Report, with_pruned: bool = False) -> List[str]:
         if isinstance(record, Path):
             ends.setdefault(end_words(record), []).append(number)
     most_first = sorted(ends.items(), key=lambda it: -len(it[1]))
-    return ["; ".join(parts), *(f"  {len(numbers):,} {end}: {_numbers(numbers)}" for end, numbers in most_first)]
+    more = len(most_first) - ENDS
+    lines = [f"  {len(numbers):,} {end}: {_numbers(numbers)}" for end, numbers in most_first[:ENDS]]
+    return ["; ".join(parts), *lines, *([f"  and {more:,} other ends"] if more > 0 else [])]
 
 
 def decision_words(decisions: Sequence[Decision]) -> str:
@@ -141,7 +143,7 @@ def _cell_words(cell: Cell, kind: Optional[str], job: Optional[Job], choices: Se
     if not cell.parts:
         return value_text(kind, cell.constant), ""
     full = 1 << cell.width
-    terms = [_term(coefficient, full, "symbol " + str(symbol) if job is None else name_of(job.target(symbol, choices))) for symbol, coefficient in cell.parts]
+    terms = [_term(coefficient, full, "symbol " + str(symbol) if job is None else named(job, symbol, choices)[0]) for symbol, coefficient in cell.parts]
     constant = cell.constant if 2 * cell.constant < full else cell.constant - full
     term = "".join([*terms, f" {'+' if constant > 0 else '-'} {abs(constant)}" if constant else ""]).removeprefix(" + ")
     is_known = values is not None and all(symbol < len(values) for symbol, _ in cell.parts)

@@ -2,6 +2,7 @@
 
 import os
 import tempfile
+import warnings
 from pathlib import Path as File
 from typing import Dict, List, Optional, Sequence, Tuple
 
@@ -23,7 +24,10 @@ class Runner:
 
     def _written(self, *words: str) -> Optional[Report]:
         try:
-            ended = engine.on_disk([os.fsencode(it) for it in words])
+            with warnings.catch_warnings():
+                # whoever made the answer was told what the program is
+                warnings.simplefilter("ignore")
+                ended = engine.on_disk([os.fsencode(it) for it in words])
             return read_report(ended.output) if ended.status in (DONE, PARTIAL) else None
         except (NotBuilt, NotReport, OSError, RuntimeError, ValueError):
             return None

@@ -71,9 +71,10 @@ def a_value(value: object) -> int:
     """A number from 0 to 2^128 - 1, as a number or as its digits."""
     if isinstance(value, str) and _DIGITS.fullmatch(value):
         value = int(value)
-    if a_count(value) >> 128:
+    number = a_count(value)
+    if number >> 128:
         raise Misshaped(f"{named(value)} has more than 128 bits")
-    return a_count(value)
+    return number
 
 
 def one_of(value: object, words: Collection[str]) -> str:

@@ -17,7 +17,7 @@ _IP4 = r"[0-9]{1,3}(?:\.[0-9]{1,3}){3}"
 _IP6 = r"(?<![\w:])[0-9A-Fa-f:]*::[0-9A-Fa-f:]*(?![\w:])"
 _PARTS = re.compile(
     # texts, comments, and names that are of the job: they stand as they are
-    r'"[^"]*"|//[^\n]*|\b(?:head|global|local|tag|retag|untag|for)\s+[A-Za-z_]\w*|\$\s*\w+|\b(?:in|out)\s+[A-Za-z_]\w*\s*\.\s*\w+'
+    r'"[^"]*"|//[^\n]*|\b(?:head|global|local|tag|retag|untag|for|node|link|inject)\s+[A-Za-z_]\w*|(?:\$|->)\s*\w+|\b(?:in|out)\s+[A-Za-z_]\w*\s*\.\s*\w+'
     rf"|(?P<inside>\bin\s+)?(?P<net>(?:{_IP4}|{_IP6})/[0-9]{{1,3}})|(?P<ip4>{_IP4})|(?P<mac>\b{_MAC.pattern}(?![\w:]))|(?P<ip6>{_IP6})|(?P<name>\b(?:{_NAMES})\b)|(?P<word>\b(?:{'|'.join(_NUMBERS)})\b)",
     re.ASCII | re.IGNORECASE)
 
