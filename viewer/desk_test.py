@@ -13,7 +13,7 @@ import subprocess
 import threading
 from functools import partial
 
-from browser import Browser, PageError
+from browser import PageError
 from checkout import PROGRAM, TOP
 import row_tables
 
@@ -147,7 +147,7 @@ def test_typing(expect, page, name):
     page.value("addFiles([['mine.sefl', '']])")
     expect(f"{name}: a job is typed", typed(page, JOB), True)
     expect(f"{name}: nothing is refused", told("refusal"), "")
-    expect(f"{name}: its paths", page.value("[...document.querySelectorAll('.record')].map((it) => it.textContent)"), ["1: else", "0: then"])
+    expect(f"{name}: its paths", page.value("[...document.querySelectorAll('.record')].map((it) => it.textContent)"), ["1: r \u2014 delivered at out r.0", "0: r; TTL \u2264 1 \u2014 fail \"dead\" (item 3) at in r.0"])
     expect(f"{name}: the way of one is drawn", page.value("[...document.querySelectorAll('#network .box.on')].length"), 1)
     expect(f"{name}: the answer beside its question", page.value("byId('gutter').textContent.split('\\n')[5]"), "no 6")
     expect(f"{name}: it is broken", typed(page, "forward 7;", "forward 0;"), True)
@@ -298,23 +298,19 @@ def test_handed_out(expect, page):
         expect("the page by http: its paths", page.value("[document.querySelectorAll('.record').length > 0, byId('refusal').textContent]"), [True, ""])
 
 
-def test_pages(expect, browser, pages):
+def test_pages(expect, page, pages):
     """Opens each of these pages: its name, its address and the words by which it says what is not proved."""
-    page = Browser(browser)
-    try:
-        for name, address, unproved in pages:
-            if address.startswith("file:") and not page.value(KNOWS):
-                print("viewer: the page with the engine is not tested, since this Chromium knows no 64-bit memory")
-                continue
-            page.open(address)
-            try:
-                test_desk(expect, page, name, unproved)
-                if address.startswith("file:"):
-                    test_handed_out(expect, page)
-            except PageError as error:
-                expect(name, f"{error}", "no error")
-    finally:
-        page.close()
+    for name, address, unproved in pages:
+        if address.startswith("file:") and not page.value(KNOWS):
+            print("viewer: the page with the engine is not tested, since this Chromium knows no 64-bit memory")
+            continue
+        page.open(address)
+        try:
+            test_desk(expect, page, name, unproved)
+            if address.startswith("file:"):
+                test_handed_out(expect, page)
+        except PageError as error:
+            expect(name, f"{error}", "no error")
 
 
 # ---- the server
@@ -381,6 +377,6 @@ def test(expect, browser):
             pages.append(("the page of tools/serve", f"http://127.0.0.1:{address[1]}/", "Behind this page"))
         if browser and pages:
             test_pages(expect, browser, pages)
-            print("viewer: the desk is tested in", browser)
+            print("viewer: the desk is tested in Chromium")
         if address:
             test_server(expect, address, serve)

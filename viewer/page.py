@@ -21,7 +21,7 @@ from checkout import TOP  # noqa: E402
 
 PARTS, INDEX = VIEWER / "parts", VIEWER / "index.html"
 # The scripts of the page, in the order in which they stand there.
-SCRIPTS = ("json", "job", "fields", "lists", "words", "page", "shape", "records", "answers", "record", "picture", "files")
+SCRIPTS = ("json", "job", "fields", "lists", "tables", "sets", "course", "traffic", "words", "page", "shape", "records", "answers", "record", "graph", "layout", "picture", "files")
 # The comment of index.html in whose place the desk comes.
 PLACE = "<!-- desk:"
 # The commands of the desk, and the folder of examples that it opens with.

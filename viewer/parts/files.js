@@ -13,6 +13,7 @@ const isWritten = (name, text) => /^\s*[{\[]/.test(text) || /\.(json|answers|rul
 function take(name, text) {
   try {
     if (isWritten(name, text)) keepWritten(readJson(text));
+    else if (isTable(text)) state.tables.set(name.split("/").pop(), readTable(text));
     else if (isList(name, text)) state.list = readList(text);
     else state.job = readJob(text);
   } catch (error) {
@@ -24,7 +25,7 @@ function take(name, text) {
 function takeOther(name, text) {
   try {
     if (!isWritten(name, text)) {
-      state.other.job = readJob(text);
+      if (!isTable(text)) state.other.job = readJob(text);
       return;
     }
     const written = readJson(text);
@@ -52,7 +53,7 @@ async function takeFiles(files, taking = take) {
 
 // Shows these files, each a name and a text, and those of the second network, in place of all that was shown before.
 function showOnly(files, others = []) {
-  Object.assign(state, { report: null, answer: null, job: null, list: null, other: { job: null, report: null } });
+  Object.assign(state, { report: null, answer: null, job: null, list: null, tables: new Map(), other: { job: null, report: null } });
   begin();
   for (const [name, text] of files) take(name, text);
   for (const [name, text] of others) takeOther(name, text);
@@ -65,7 +66,7 @@ let takeDropped = takeFiles;
 async function takeNamed(words) {
   begin();
   state.chosen = words.has("record") ? Number(words.get("record")) : -1;
-  const names = ["job", "list", "report", "answer", "other"].flatMap((key) => words.getAll(key).map((name) => [key, name]));
+  const names = ["job", "list", "table", "report", "answer", "other"].flatMap((key) => words.getAll(key).map((name) => [key, name]));
   for (const [key, name] of names) {
     try {
       const answer = await fetch(name);

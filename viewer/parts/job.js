@@ -113,9 +113,9 @@ function readJob(text) {
     return whole;
   };
 
-  const job = { nodes: new Map(), links: new Map(), inject: null, fields: [], wheres: [], asks: [], items };
+  const job = { nodes: new Map(), links: new Map(), inject: null, tags: [], fields: [], wheres: [], asks: [], items };
   take("symnet");
-  next();
+  job.version = Number(next());
   take(";");
   while (peek() === "node") {
     const line = tokens[at].line;
@@ -164,12 +164,13 @@ function readJob(text) {
     const rest = kind === "where" ? condition() : upToEnd();
     take(";");
     item({ kind, line, text: `${kind} ${rest}` });
+    if (kind === "tag") job.tags.push(rest);
     if (kind === "field") {
       const [target, given] = rest.split("=").map((part) => part.trim());
       const width = Number(target.slice(target.lastIndexOf(":") + 1));
       job.fields.push({ target, width, given: given === undefined ? null : BigInt(given) });
     }
-    if (kind === "where") job.wheres.push({ text: `where ${rest}`, line });
+    if (kind === "where") job.wheres.push({ text: `where ${rest}`, test: rest, line });
   }
   take("}");
   while (peek() === "ask") {
@@ -185,55 +186,3 @@ function readJob(text) {
 
 // The unknown fields in order: symbol number k stands for the k-th. Null where the job is not given.
 const unknownFields = (job) => (job ? job.fields.filter((field) => field.given === null) : null);
-
-// The tests and copies that a path's decisions stand for, by following the code of the job. It stops at a loop over names,
-// whose turns depend on what is allocated, and at a node with a table.
-function steps(job, record) {
-  if (!job) return { list: [], whole: false };
-  const list = [];
-  const decisions = record.decisions.slice();
-  let place = job.inject;
-  for (let hops = 0; hops < 600; hops += 1) {
-    const node = job.nodes.get(place.slice(place.indexOf(" ") + 1, place.lastIndexOf(".")));
-    if (!node || node.table !== null) return { list, whole: false };
-    const outcome = runCode(node.ports.get(place) || [], place, decisions, list);
-    if (outcome === "unknown") return { list, whole: false };
-    if (outcome === "over") return { list, whole: true };
-    if (typeof outcome === "number") {
-      place = `out ${node.name}.${outcome}`;
-    } else {
-      if (place.startsWith("in ")) return { list, whole: true };
-      const to = job.links.get(place);
-      if (to === undefined) return { list, whole: true };
-      place = to;
-    }
-  }
-  return { list, whole: false };
-}
-
-// Runs a port's code along the decisions: "off" its end, "over" where nothing goes on, "unknown", or an output port.
-function runCode(code, place, decisions, list) {
-  const pending = [code.slice().reverse()];
-  while (pending.length > 0) {
-    const frame = pending[pending.length - 1];
-    if (frame.length === 0) { pending.pop(); continue; }
-    const step = frame.pop();
-    switch (step.kind) {
-      case "block": pending.push(step.body.slice().reverse()); break;
-      case "for": return "unknown";
-      case "forward": return step.port;
-      case "fail": return "over";
-      case "if": case "constrain": case "fork": {
-        const decision = decisions.shift();
-        if (decision === undefined) return "over";
-        list.push({ place, step, decision });
-        if (step.kind === "fork") return step.ports[decision] === undefined ? "unknown" : step.ports[decision];
-        if (decision === "broken") return "over";
-        if (step.kind === "if") pending.push((decision === "then" ? step.then : step.other).slice().reverse());
-        break;
-      }
-      default: break;
-    }
-  }
-  return "off";
-}

@@ -1,59 +1,7 @@
-// The picture.
+// The picture of a network: layoutOf of layout.js drawn as SVG, with the way of a path marked, folding, zoom and pan.
 
-const DRAWN = 240;
-const boxOf = (place) => place.slice(place.indexOf(" ") + 1, place.lastIndexOf("."));
-const portOf = (place) => place.slice(place.lastIndexOf(".") + 1);
-
-function wiresOf({ job, report }) {
-  const wires = new Map();
-  const add = (from, to) => wires.set(`${from} -> ${to}`, { from, to });
-  if (job) {
-    for (const [from, to] of job.links) add(from, to);
-  } else {
-    for (const record of report.records) {
-      const places = record.places || [];
-      for (let at = 0; at + 1 < places.length; at += 1) {
-        if (places[at].startsWith("out ") && places[at + 1].startsWith("in ")) add(places[at], places[at + 1]);
-      }
-    }
-  }
-  return [...wires.values()];
-}
-
-let cachedNetwork = null;
-
-// The network of the report and the job, kept while these are the same.
-function network() {
-  const { job, report } = state;
-  if (!cachedNetwork || cachedNetwork.job !== job || cachedNetwork.report !== report) cachedNetwork = networkOf({ job, report });
-  return cachedNetwork;
-}
-
-// The boxes of a job and a report (one of them may be missing), with a column for each number of links from the injection, and the wires between them.
-function networkOf({ job, report }) {
-  const wires = wiresOf({ job, report });
-  const boxes = new Set(job ? job.nodes.keys() : []);
-  for (const record of report ? report.records : []) for (const place of record.places || []) boxes.add(boxOf(place));
-  const first = job ? boxOf(job.inject) : [...boxes][0];
-  const after = new Map();
-  for (const { from, to } of wires) {
-    if (!after.has(boxOf(from))) after.set(boxOf(from), []);
-    after.get(boxOf(from)).push(boxOf(to));
-  }
-  const column = new Map();
-  const seek = (start) => {
-    column.set(start, column.get(start) || 0);
-    const queue = [start];
-    for (let at = 0; at < queue.length; at += 1) {
-      for (const box of after.get(queue[at]) || []) {
-        if (!column.has(box)) { column.set(box, column.get(queue[at]) + 1); queue.push(box); }
-      }
-    }
-  };
-  if (first !== undefined) seek(first);
-  for (const box of boxes) if (!column.has(box)) seek(box);
-  return { boxes: [...boxes], wires, column, job, report };
-}
+const DRAWN = 600, FOLDED_FROM = 60, READABLE = 0.5;
+const NAME_LENGTH = 22, MOST_SCALE = 3, LEAST_SCALE = 0.02;
 
 function svg(tag, attributes, ...children) {
   const made = document.createElementNS("http://www.w3.org/2000/svg", tag);
@@ -62,10 +10,14 @@ function svg(tag, attributes, ...children) {
   return made;
 }
 
-function drawNetwork(record, round) {
-  const places = record && record.places ? record.places : record ? steps(state.job, record).list.map((step) => step.place) : [];
-  byId("network").replaceChildren(...pictureOf(network(), [places], round));
+const measures = document.createElement("canvas").getContext("2d");
+
+function textWidth(text, size) {
+  measures.font = `${size}px system-ui, sans-serif`;
+  return measures.measureText(text).width;
 }
+
+const shortName = (name) => (name.length > NAME_LENGTH ? `${name.slice(0, NAME_LENGTH - 1)}\u2026` : name);
 
 // The wires over which a way leads.
 function wiresOn(places, found = new Set()) {
@@ -73,45 +25,277 @@ function wiresOn(places, found = new Set()) {
   return found;
 }
 
-// A picture of the network with the boxes and wires of these ways, and those of a round.
-function pictureOf({ boxes, wires, column, job }, ways, round) {
-  const onWay = new Set(ways.flat().map(boxOf));
-  const steppedOver = new Set();
-  for (const places of ways) wiresOn(places, steppedOver);
-  const roundBoxes = new Set(round.map(boxOf)), roundWires = wiresOn(round);
-  const drawn = boxes.length <= DRAWN ? boxes : [...onWay];
-  const rows = new Map();
-  const spot = new Map();
-  const isLine = boxes.length > DRAWN;
-  drawn.forEach((box, index) => {
-    const x = isLine ? index : column.get(box) || 0;
-    const y = isLine ? 0 : rows.get(x) || 0;
-    rows.set(x, y + 1);
-    spot.set(box, { x: 20 + x * 150, y: 20 + y * 62 });
-  });
-  const width = Math.max(...[...spot.values()].map((at) => at.x), 0) + 130;
-  const height = Math.max(...[...spot.values()].map((at) => at.y), 0) + 62;
-  const picture = svg("svg", { viewBox: `0 0 ${width} ${height}`, width, height, role: "img", "aria-label": "boxes and links" });
-  for (const { from, to } of wires) {
-    const start = spot.get(boxOf(from)), end = spot.get(boxOf(to));
-    if (!start || !end) continue;
-    const isBack = end.x <= start.x, isSelf = start === end, name = `${from} -> ${to}`;
-    const path = isSelf ? `M ${start.x + 30} ${start.y + 36} C ${start.x + 10} ${start.y + 62}, ${start.x + 90} ${start.y + 62}, ${start.x + 70} ${start.y + 36}` : isBack
-      ? `M ${start.x + 50} ${start.y + 36} C ${start.x + 50} ${start.y + 66}, ${end.x + 50} ${end.y + 66}, ${end.x + 50} ${end.y + 36}`
-      : `M ${start.x + 100} ${start.y + 18} C ${start.x + 125} ${start.y + 18}, ${end.x - 25} ${end.y + 18}, ${end.x} ${end.y + 18}`;
-    const wire = svg("path", { class: `wire${roundWires.has(name) ? " round" : steppedOver.has(name) ? " on" : ""}`, d: path });
-    wire.append(svg("title", {}, name));
-    picture.append(wire);
-    if (!isBack) picture.append(svg("text", { class: "port", x: start.x + 103, y: start.y + 14 }, portOf(from)), svg("text", { class: "port", x: end.x - 12, y: end.y + 14 }, portOf(to)));
+// The sign at the box where a path ends.
+function endSign(end) {
+  if (end === "delivered") return { sign: "\u2713", shade: "good" };
+  if (end === "stopped") return { sign: "\u25a0", shade: "soft" };
+  if (end === "cut") return { sign: "\u2026", shade: "warn" };
+  return end === undefined ? null : { sign: "\u2715", shade: "bad" };
+}
+
+// What is seen of a drawing: the point in the middle of the window and the scale.
+class View {
+  constructor(shape) {
+    this.shape = shape;
+    this.size = { width: 800, height: 300 };
+    this.scale = 1;
+    this.x = 0;
+    this.y = 0;
   }
-  for (const box of drawn) {
-    const at = spot.get(box);
-    const node = job ? job.nodes.get(box) : undefined;
-    const shape = svg("g", {}, svg("rect", { class: `box${roundBoxes.has(box) ? " round" : onWay.has(box) ? " on" : ""}`, x: at.x, y: at.y, width: 100, height: 36, rx: 4 }),
-      svg("text", { x: at.x + 50, y: at.y + 22, "text-anchor": "middle" }, box.length > 14 ? `${box.slice(0, 13)}\u2026` : box));
-    shape.append(svg("title", {}, node && node.table !== null ? `${box} = ${node.table}` : box));
-    picture.append(shape);
+
+  // The size of the window, as it is on the screen.
+  measure() {
+    const { width, height } = this.shape.getBoundingClientRect();
+    if (width > 0 && height > 0) this.size = { width, height };
   }
-  const note = isLine ? [element("p", { class: "soft" }, `${plural(boxes.length, "box", "boxes")}: only those on the way are drawn`)] : [];
-  return [...note, picture];
+
+  apply() {
+    const width = this.size.width / this.scale, height = this.size.height / this.scale;
+    this.shape.setAttribute("viewBox", `${this.x - width / 2} ${this.y - height / 2} ${width} ${height}`);
+  }
+
+  // Shows a rectangle as large as it fits, at its own size at most.
+  fit({ x, y, width, height }) {
+    this.measure();
+    this.scale = Math.max(Math.min(this.size.width / (width + 16), this.size.height / (height + 16), 1), LEAST_SCALE);
+    this.x = x + width / 2;
+    this.y = y + height / 2;
+    this.apply();
+  }
+
+  // Zooms so that the point of the drawing at this place of the window stays there.
+  zoom(factor, atX = this.size.width / 2, atY = this.size.height / 2) {
+    const scale = Math.min(Math.max(this.scale * factor, LEAST_SCALE), MOST_SCALE);
+    const [dx, dy] = [atX - this.size.width / 2, atY - this.size.height / 2];
+    this.x += dx / this.scale - dx / scale;
+    this.y += dy / this.scale - dy / scale;
+    this.scale = scale;
+    this.apply();
+  }
+
+  move(dx, dy) {
+    this.x -= dx / this.scale;
+    this.y -= dy / this.scale;
+    this.apply();
+  }
+}
+
+// A network drawn once; `mark` then marks the ways of paths in it.
+class Picture {
+  constructor(network) {
+    this.network = network;
+    this.isLarge = network.boxes.length > DRAWN;
+    this.folds = this.isLarge ? 0 : network.boxes.length - graphOf(network, null, true).groups.length;
+    this.isFolded = this.folds > 0 && network.boxes.length > FOLDED_FROM;
+    this.mode = null;
+    this.shape = svg("svg", { class: "picture", role: "img", "aria-label": "boxes and links", tabindex: 0 });
+    this.shape.append(svg("title", {}, "drag to move, Ctrl and the wheel to zoom"));
+    this.view = new View(this.shape);
+    this.note = element("span", { class: "soft" });
+    this.element = element("div", { class: "network" }, this.controls(), this.shape);
+    this.listen();
+    if (!this.isLarge) this.draw(null);
+  }
+
+  controls() {
+    const button = (words, title, click) => element("button", { type: "button", title, click }, words);
+    const fold = element("input", { type: "checkbox", class: "fold" });
+    fold.checked = this.isFolded;
+    fold.addEventListener("change", () => { this.isFolded = fold.checked; this.draw(null); this.remark(); this.show(this.mode); });
+    const folding = this.folds === 0 ? [] : [element("label", { title: "boxes named after another one, as east_ttl after east, and rows of boxes that only pass packets on" }, fold, ` fold ${plural(this.folds, "helper box", "helper boxes")}`)];
+    return element("div", { class: "controls" }, button("\u2212", "smaller", () => this.zoom(1 / 1.4)), button("+", "larger", () => this.zoom(1.4)),
+      button("all", "the whole network", () => this.show("all")), button("way", "the way of the path", () => this.show("way")), ...folding, this.note);
+  }
+
+  zoom(factor, x, y) {
+    this.mode = "own";
+    this.view.measure();
+    this.view.zoom(factor, x, y);
+  }
+
+  // Shows the whole network or the way; a view that was chosen by hand stays.
+  show(mode) {
+    if (mode === "own") { this.view.measure(); this.view.apply(); return; }
+    this.mode = mode;
+    const whole = { x: 0, y: 0, width: this.layout.width, height: this.layout.height };
+    this.view.fit(mode === "way" && this.marked.length > 0 ? this.around(this.marked) : whole);
+  }
+
+  around(groups) {
+    const boxes = groups.map((group) => this.layout.boxes[group]);
+    const x = Math.min(...boxes.map((box) => box.x)) - STUB, y = Math.min(...boxes.map((box) => box.y)) - 8;
+    return { x, y, width: Math.max(...boxes.map((box) => box.x + box.width)) + STUB - x, height: Math.max(...boxes.map((box) => box.y + box.height)) + 8 - y };
+  }
+
+  // Called once the picture stands in the page, and has a size.
+  begin() {
+    this.view.measure();
+    const { width, height } = this.layout;
+    this.show(this.mode || (Math.min(this.view.size.width / width, this.view.size.height / height) < READABLE ? "way" : "all"));
+  }
+
+  listen() {
+    const pointers = new Map();
+    const spread = () => { const [one, two] = [...pointers.values()]; return Math.hypot(one.x - two.x, one.y - two.y); };
+    const place = (event) => { const at = this.shape.getBoundingClientRect(); return { x: event.clientX - at.left, y: event.clientY - at.top }; };
+    this.shape.addEventListener("wheel", (event) => {
+      if (!event.ctrlKey && !event.metaKey) return;
+      event.preventDefault();
+      const { x, y } = place(event);
+      this.zoom(Math.exp(-event.deltaY / 300), x, y);
+    }, { passive: false });
+    this.shape.addEventListener("pointerdown", (event) => { pointers.set(event.pointerId, place(event)); this.shape.setPointerCapture(event.pointerId); this.view.measure(); });
+    this.shape.addEventListener("pointermove", (event) => {
+      const before = pointers.get(event.pointerId), after = place(event);
+      if (before === undefined) return;
+      this.mode = "own";
+      const wide = pointers.size === 2 ? spread() : 0;
+      pointers.set(event.pointerId, after);
+      if (wide > 0) this.view.zoom(spread() / wide, after.x, after.y);
+      else this.view.move(after.x - before.x, after.y - before.y);
+    });
+    for (const name of ["pointerup", "pointercancel"]) this.shape.addEventListener(name, (event) => pointers.delete(event.pointerId));
+    this.shape.addEventListener("keydown", (event) => {
+      const deed = { "+": () => this.zoom(1.4), "-": () => this.zoom(1 / 1.4), 0: () => this.show("all") }[event.key];
+      if (deed) { event.preventDefault(); deed(); }
+    });
+    new ResizeObserver(() => { if (this.layout && this.element.isConnected) this.begin(); }).observe(this.shape);
+  }
+
+  // Draws the boxes of the network, or these alone.
+  draw(only) {
+    this.graph = graphOf(this.network, only, this.isFolded);
+    const { groups, groupOf, links, stubs } = this.graph;
+    const labels = groups.map(() => 0);
+    const keepLabel = (group, text) => { labels[group] = Math.max(labels[group], textWidth(text, 9.5)); return text; };
+    const linkLabels = links.map(({ a, b, from, to }) => [keepLabel(a, endLabel(groups[a], from)), keepLabel(b, endLabel(groups[b], to))]);
+    const stubLabels = stubs.map(({ box, places }) => keepLabel(box, places.length === 1 ? endLabel(groups[box], places[0]) : "\u2026"));
+    const widths = groups.map(({ name }, group) => Math.ceil(Math.max(textWidth(shortName(name), 12), 24) + 2 * labels[group] + 26));
+    this.layout = layoutOf(widths, links, stubs, this.network.entry === null ? 0 : groupOf.get(boxOf(this.network.entry)) || 0);
+    this.wires = new Map();
+    const labelsOf = ({ from, to }, { ends }, texts) => [this.label(from, ends[0], texts[0]), this.label(to, ends[1], texts[1])];
+    const ends = links.map((link, number) => labelsOf(link, this.layout.links[number], linkLabels[number]));
+    const wires = links.flatMap((link, number) => this.linkShapes(link, this.layout.links[number], ends[number]));
+    const stubEnds = stubs.map(({ places }, number) => this.label(places[0], this.layout.stubs[number], stubLabels[number]));
+    const stubShapes = stubs.map((stub, number) => this.stubShape(stub, this.layout.stubs[number], stubEnds[number]));
+    this.boxes = groups.map((group, number) => this.boxShape(group, this.layout.boxes[number]));
+    this.badge = svg("g", { class: "badge" });
+    this.lines = svg("g", {}, ...wires, ...stubShapes);
+    this.drawing = svg("g", {}, this.lines, ...this.boxes.map(({ shape }) => shape), ...ends.flat(), ...stubEnds, this.badge);
+    this.shape.replaceChildren(this.shape.firstChild, this.drawing);
+    this.shape.style.aspectRatio = `${this.layout.width} / ${this.layout.height}`;
+    this.shape.style.maxHeight = `min(46vh, ${this.layout.height + 16}px)`;
+    this.marked = [];
+  }
+
+  boxShape({ name, members, isChain }, { x, y, width, height }) {
+    const { job } = this.network, node = job && members.length === 1 ? job.nodes.get(name) : undefined;
+    const rectangle = svg("rect", { class: "box", x, y, width, height, rx: 5 });
+    const words = svg("text", { class: isChain ? "name soft" : "name", x: x + width / 2, y: y + height / 2 + 4, "text-anchor": "middle" }, shortName(name));
+    const shape = svg("g", { class: "node", "data-box": name }, rectangle, words);
+    if (members.length > 1) {
+      rectangle.setAttribute("stroke-dasharray", "4 2");
+      if (!isChain) shape.append(svg("text", { class: "count", x: x + width / 2, y: y + height - 3, "text-anchor": "middle" }, `+ ${members.length - 1}`));
+    }
+    shape.append(svg("title", {}, node && node.table ? `${name} = ${node.table}` : members.join(", ")));
+    return { shape, rectangle };
+  }
+
+  // A line for each wire of a link, with a head where the packet comes out.
+  linkShapes({ wires, isBoth }, { path, ends }, labels) {
+    const title = wires.map(({ name }) => name).join("\n");
+    return wires.map((wire, at) => {
+      const end = at === 0 ? ends[1] : ends[0];
+      const line = svg("path", { class: "wire", d: path });
+      const shape = svg("g", { class: "link", "data-from": wire.from, "data-to": wire.to }, line, headAt(end, end.side === "left"), svg("title", {}, title));
+      if (isBoth) shape.classList.add("both");
+      this.wires.set(wire.name, { shape, parts: [line, shape.children[1]], labels, kind: "wire" });
+      return shape;
+    });
+  }
+
+  stubShape({ side, places }, { x, y }, label) {
+    const isEntry = side === "left", far = isEntry ? x - STUB : x + STUB;
+    const line = svg("path", { class: "lead", d: `M ${isEntry ? far : x} ${y} L ${isEntry ? x : far} ${y}` });
+    const head = isEntry ? headAt({ x, y }, true) : headAt({ x: far, y }, true);
+    const shape = svg("g", { class: isEntry ? "stub entry" : "stub exit" }, line, head, svg("title", {}, `${isEntry ? "packets enter by" : "packets leave by"} ${places.join(", ")}`));
+    for (const place of places) this.wires.set(`${isEntry ? "enter" : "leave"} ${place}`, { shape, parts: [line, head], labels: [label], kind: "lead" });
+    return shape;
+  }
+
+  // The number of a port, inside of its box at the end of its link.
+  label(place, { side, x, y }, text) {
+    return svg("text", { class: "port", "data-place": place, x: side === "left" ? x + 5 : x - 5, y: y + 3.3, "text-anchor": side === "left" ? "start" : "end" }, text);
+  }
+
+  // Marks the boxes and wires of these ways, and of a round; a sign says how the first way ends.
+  mark(ways, round, end) {
+    this.last = [ways, round, end];
+    const boxes = new Set(ways.flat().map(boxOf)), roundBoxes = new Set(round.map(boxOf));
+    if (this.isLarge) this.draw(new Set([...boxes, ...roundBoxes]));
+    this.note.textContent = this.isLarge ? `${plural(this.network.boxes.length, "box", "boxes")}: only those on the way are drawn` : "";
+    const on = new Set(), roundWires = wiresOn(round);
+    for (const places of ways) {
+      wiresOn(places, on);
+      if (places.length === 0) continue;
+      on.add(`enter ${places[0]}`);
+      on.add(`leave ${places[places.length - 1]}`);
+    }
+    this.marked = [];
+    this.graph.groups.forEach(({ members }, group) => {
+      const isOn = members.some((box) => boxes.has(box)), isRound = members.some((box) => roundBoxes.has(box));
+      this.boxes[group].rectangle.setAttribute("class", `box${isRound ? " round" : isOn ? " on" : ""}`);
+      if (isOn || isRound) this.marked.push(group);
+    });
+    for (const { labels } of this.wires.values()) for (const label of labels) label.setAttribute("class", "port");
+    for (const [name, { shape, parts: [line, head], labels, kind }] of this.wires) {
+      const shade = roundWires.has(name) ? " round" : on.has(name) ? " on" : "";
+      line.setAttribute("class", `${kind}${shade}`);
+      head.setAttribute("class", `head${shade}`);
+      if (shade === "") continue;
+      this.lines.append(shape);
+      for (const label of labels) label.setAttribute("class", `port${shade}`);
+    }
+    this.showEnd(ways[0], end);
+    if ((this.mode === "way" || this.isLarge) && this.element.isConnected) this.show("way");
+  }
+
+  remark() {
+    if (this.last) this.mark(...this.last);
+  }
+
+  showEnd(places, end) {
+    const sign = end === undefined || !places || places.length === 0 ? null : endSign(end);
+    const group = sign === null ? undefined : this.graph.groupOf.get(boxOf(places[places.length - 1]));
+    this.badge.replaceChildren();
+    if (group === undefined) return;
+    const { x, y, width } = this.layout.boxes[group];
+    this.badge.append(svg("circle", { class: sign.shade, cx: x + width - 2, cy: y + 2, r: 7 }), svg("text", { x: x + width - 2, y: y + 5.6, "text-anchor": "middle" }, sign.sign));
+  }
+}
+
+// The head of an arrow whose point is there.
+function headAt({ x, y }, isRightward) {
+  const back = isRightward ? x - 7 : x + 7;
+  return svg("path", { class: "head", d: `M ${x} ${y} L ${back} ${y - 3.5} L ${back} ${y + 3.5} Z` });
+}
+
+let shownPicture = null;
+
+// Draws the network of the report and the job, and marks the way of a record. The drawing is kept while these are the same.
+function drawNetwork(record, round) {
+  const { job, report } = state;
+  if (!shownPicture || shownPicture.network.job !== job || shownPicture.network.report !== report) shownPicture = new Picture(networkOf({ job, report }));
+  const places = record && record.places ? record.places : record ? steps(state.job, record).list.map((step) => step.place) : [];
+  shownPicture.mark([places], round, record ? record.end : undefined);
+  if (shownPicture.element.parentNode === byId("network")) return;
+  byId("network").replaceChildren(shownPicture.element);
+  shownPicture.begin();
+}
+
+// A picture of a network with these ways.
+function pictureOf(network, ways) {
+  const picture = new Picture(network);
+  picture.mark(ways, []);
+  return picture;
 }

@@ -28,14 +28,29 @@ function verdictWords(record) {
   return element("span", { class: "warn" }, `undecided: ${words}`);
 }
 
+// The ports of a way on one line, each box with the port that it is entered by before it, and the one that it is left by behind it.
+function wayLine(places) {
+  const hops = [];
+  for (const place of places) {
+    const isIn = place.startsWith("in "), last = hops[hops.length - 1];
+    if (isIn || last === undefined || last.out !== "" || last.box !== boxOf(place)) hops.push({ box: boxOf(place), in: isIn ? portOf(place) : "", out: isIn ? "" : portOf(place) });
+    else last.out = portOf(place);
+  }
+  const port = (text, before, after) => (text === "" ? [] : [before, element("span", { class: "soft" }, text), after]);
+  return element("div", { id: "way" }, ...hops.flatMap((hop, at) => [...(at === 0 ? [] : [" \u2192 "]),
+    element("span", { class: "hop" }, ...port(hop.in, "", " "), element("b", {}, hop.box), ...port(hop.out, " ", ""))]));
+}
+
 function detailOf(record, number) {
   const fields = unknownFields(state.job);
   const parts = [element("h2", { id: "title" }, `${record.kind === "path" ? "Path" : record.kind === "pruned" ? "Pruned side" : "Unexplored"} ${number}`)];
   if (record.kind === "path") {
     parts.push(element("p", { id: "end" }, endWords(record.end), " \u2014 ", verdictWords(record)));
+    const { traffic } = nameOfRecord(number);
+    if (traffic !== "") parts.push(element("p", { id: "traffic" }, `Its packets are ${traffic}.`));
     const fault = record.end && typeof record.end === "object" && state.job ? state.job.items.get(record.end.site) : undefined;
     if (fault) parts.push(element("p", {}, `line ${fault.line}: `, element("code", {}, fault.text)));
-    parts.push(...roundRows(number, fields), element("h2", {}, "Way"), element("pre", { id: "way" }, record.places.join("\n")));
+    parts.push(...roundRows(number, fields), element("h2", {}, "Way"), wayLine(record.places));
   }
   if (record.kind === "pruned") {
     parts.push(element("p", { id: "end", class: "soft" }, record.decisions.length === 0 ? "No packet meets the injection." : "No packet takes the last decision."));
@@ -64,16 +79,20 @@ function roundRows(number, fields) {
 function decisionRows(record) {
   if (record.decisions.length === 0) return [];
   const way = steps(state.job, record);
-  const rows = way.list.map(({ place, step, decision }, index) => element("tr", {},
-    element("td", {}, String(index)), element("td", {}, place), element("td", {}, `line ${step.line}`), element("td", {}, element("code", {}, codeWords(step.text))),
-    element("td", { class: decision === "broken" ? "bad" : "" }, decisionWords(step, decision)), rawCell(step.text, codeWords(step.text))));
-  const rest = record.decisions.slice(way.list.length);
+  const rows = way.list.map((made) => element("tr", {},
+    element("td", {}, made.count < 2 ? String(made.index) : `${made.index}..${made.index + made.count - 1}`), element("td", {}, made.place), element("td", {}, `line ${made.step.line}`),
+    element("td", {}, element("code", {}, codeWords(made.step.text))), element("td", { class: made.decision === "broken" ? "bad" : "" }, decisionWords(made)), rawCell(made.step.text, codeWords(made.step.text))));
+  const rest = record.decisions.slice(way.list.reduce((sum, { count }) => sum + count, 0));
   const table = element("table", { id: "decisions" }, ...rows);
   const others = rest.length === 0 ? [] : [element("pre", { class: "soft" }, `${way.list.length > 0 ? "then " : ""}${rest.join(" ")}`)];
   return [element("h2", {}, "Decisions"), table, ...others];
 }
 
-function decisionWords(step, decision) {
+function decisionWords({ step, decision, port, isNone, isFork, isTaken }) {
+  if (step.kind === "table") {
+    if (isFork || (!isNone && isTaken)) return port === null ? "no copy" : `${isFork ? "a copy" : "its address is"} of port ${port}`;
+    return isNone && port !== null && port !== undefined ? `no row has its address: a copy to port ${port}` : isNone ? "no row has its address" : `its address is not of port ${port}`;
+  }
   if (decision === "then") return "true: the first block";
   if (decision === "else") return "false: the other block";
   if (decision === "pass") return "true: goes on";

@@ -13,24 +13,38 @@ function groupOf(record, number) {
 
 const ORDER = ["goes round", "delivered", "fail", "fault", "stopped", "cut", "pruned", "not explored"];
 const rank = (name) => ORDER.findIndex((word) => name.startsWith(word));
+const SINGLES = "ends with one path each";
 
-function showReport() {
-  const { report } = state;
+// The records by what becomes of them, as {name, numbers}. Ends that one path has are one group, which tells the end of each.
+function groupsOfRecords(records) {
   const groups = new Map();
-  report.records.forEach((record, number) => {
+  records.forEach((record, number) => {
     const name = groupOf(record, number);
     if (!groups.has(name)) groups.set(name, []);
     groups.get(name).push(number);
   });
-  state.groups = [...groups.entries()].sort((a, b) => rank(a[0]) - rank(b[0]) || b[1].length - a[1].length);
+  const all = [...groups].map(([name, numbers]) => ({ name, numbers, rank: rank(name) })).sort((a, b) => a.rank - b.rank || b.numbers.length - a.numbers.length);
+  const singles = all.filter(({ numbers }) => numbers.length === 1 && records[numbers[0]].kind === "path");
+  if (singles.length < 2) return all;
+  const joined = { name: SINGLES, numbers: singles.map(({ numbers }) => numbers[0]), rank: singles[0].rank, isMixed: true };
+  return [...all.filter((group) => !singles.includes(group)), joined].sort((a, b) => a.rank - b.rank);
+}
+
+function showReport() {
+  const { report } = state;
+  state.groups = groupsOfRecords(report.records);
   state.shown.clear();
+  state.names.clear();
+  const { answer } = state;
+  const pointed = answer && answer.joined ? ANSWERS[answer.kind].record(answer) : undefined;
+  const wanted = state.chosen >= 0 ? state.chosen : pointed === undefined ? -1 : pointed;
+  const first = state.groups.length > 0 ? state.groups[0].numbers[0] : -1;
+  state.chosen = wanted < 0 ? first : Math.min(wanted, report.records.length - 1);
+  state.open = new Set(state.groups.filter(({ numbers }, index) => index === 0 || state.groups.length <= 3 || numbers.includes(state.chosen)).map(({ name }) => name));
   showGroups();
   const found = report.records.map((record, number) => ({ record, number })).filter(({ record }) => isUndecided(record));
   byId("undecided").textContent = undecidedLines(found, report.records.filter(({ kind }) => kind === "path").length, casesOf(report), "path", state.job).join("\n");
-  const { answer } = state;
-  const pointed = answer && answer.joined ? ANSWERS[answer.kind].record(answer) : undefined;
-  const wanted = state.chosen >= 0 ? state.chosen : pointed === undefined ? 0 : pointed;
-  choose(wanted < report.records.length ? wanted : report.records.length - 1);
+  choose(state.chosen);
 }
 
 // How many sides no packet takes, by the report's own count: `--pruned count` lists none of them.
@@ -79,7 +93,33 @@ function joinAnswer() {
 }
 
 const PAGE = 200;
-const recordWords = (record, number) => `${number}: ${record.decisions.join(" ") || "(no decision)"}`;
+
+// The name of a record: its way by boxes, and its traffic; of a side that no packet takes the test that is never so.
+function nameOfRecord(number) {
+  if (!state.names.has(number)) {
+    const record = state.report.records[number], { job, tables } = state;
+    state.names.set(number, { way: boxesOf(job, record).join(", "), traffic: record.kind === "pruned" ? neverWords(job, record) : trafficWords(job, tables, record) });
+  }
+  return state.names.get(number);
+}
+
+function neverWords(job, record) {
+  const { list } = steps(job, record), last = list[list.length - 1];
+  const isLast = last !== undefined && last.index + last.count === record.decisions.length;
+  if (record.decisions.length === 0) return "no packet meets the injection";
+  return isLast ? `never ${codeWords(last.step.text)}: ${decisionWords(last)}` : `after ${plural(record.decisions.length, "decision", "decisions")}`;
+}
+
+function recordRow(number, isMixed) {
+  const { way, traffic } = nameOfRecord(number), record = state.report.records[number];
+  const words = [way, traffic].filter((part) => part !== "");
+  const parts = [element("span", { class: "way" }, words[0] || plural(record.decisions.length, "decision", "decisions"))];
+  if (words.length > 1) parts.push("; ", element("span", { class: "traffic" }, words[1]));
+  if (isUndecided(record)) parts.push(element("span", { class: "warn" }, " (undecided)"));
+  if (isMixed) parts.push(element("span", { class: "end" }, ` \u2014 ${groupOf(record, number)}`));
+  return element("button", { class: `record${number === state.chosen ? " chosen" : ""}`, "data-number": number, click: () => choose(number) },
+    element("span", { class: "number" }, `${number}: `), element("span", {}, ...parts));
+}
 
 // What the filter says: a text that is looked for, or where a field has a value, as `10.1.0.0/16`, `where protocol UDP`, `where destination port 53`.
 function filterOf(text) {
@@ -126,26 +166,30 @@ function matches(record, number, filter) {
   if (filter.range !== undefined) return hasValue(record, filter);
   const wanted = filter.text;
   if (wanted === "") return true;
-  return recordWords(record, number).includes(wanted) || (record.places || []).some((place) => place.includes(wanted)) || (record.end ? endWords(record.end).includes(wanted) : false);
+  const { way, traffic } = nameOfRecord(number);
+  return [way, traffic, record.decisions.join(" "), ...(record.places || []), record.end ? endWords(record.end) : ""].some((text) => text.includes(wanted)) || String(number) === wanted;
 }
 
 function showGroups() {
-  const filter = filterOf(byId("filter").value);
+  const filter = filterOf(byId("filter").value), isAll = filter.text === "" && filter.range === undefined;
   byId("filter-note").textContent = filterNote(filter);
-  const rows = state.groups.map(([name, numbers], index) => {
-    const found = filter.text === "" && filter.range === undefined ? numbers : numbers.filter((number) => matches(state.report.records[number], number, filter));
+  const lists = state.groups.map(({ name, numbers, isMixed }) => {
+    const found = isAll ? numbers : numbers.filter((number) => matches(state.report.records[number], number, filter));
     if (found.length === 0) return null;
     const limit = state.shown.get(name) || PAGE;
-    const list = element("details", { class: "group", "data-count": found.length });
-    if (state.groups.length <= 3 || index === 0) list.open = true;
-    list.append(element("summary", {}, `${name} (${found.length.toLocaleString("en")})`));
-    for (const number of found.slice(0, limit)) {
-      list.append(element("button", { class: `record${number === state.chosen ? " chosen" : ""}`, "data-number": number, click: () => choose(number) }, recordWords(state.report.records[number], number)));
-    }
-    if (found.length > limit) {
-      list.append(element("button", { class: "more", click: () => { state.shown.set(name, limit + PAGE); showGroups(); } }, `${(found.length - limit).toLocaleString("en")} more`));
-    }
+    const list = element("details", { class: "group", "data-count": found.length }, element("summary", {}, `${name} (${found.length.toLocaleString("en")})`));
+    // The rows of a group are made once it is open.
+    const fillRows = () => {
+      list.append(...found.slice(0, limit).map((number) => recordRow(number, isMixed)));
+      if (found.length > limit) list.append(element("button", { class: "more", click: () => { state.shown.set(name, limit + PAGE); showGroups(); } }, `${(found.length - limit).toLocaleString("en")} more`));
+    };
+    list.open = state.open.has(name);
+    if (list.open) fillRows();
+    list.addEventListener("toggle", () => {
+      state.open[list.open ? "add" : "delete"](name);
+      if (list.open && list.children.length === 1) fillRows();
+    });
     return list;
   });
-  byId("groups").replaceChildren(...rows.filter((row) => row !== null));
+  byId("groups").replaceChildren(...lists.filter((list) => list !== null));
 }

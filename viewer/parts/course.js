@@ -1,0 +1,105 @@
+// What a record runs: the instructions of the job along its decisions.
+
+// The table of a node: its kind, file and style. Null where it is none that is known.
+function tableOf(node) {
+  const parts = /^(fib|mac) "([^"]*)" (chain|grouped|egress)$/.exec(node.table);
+  return parts ? { kind: parts[1], file: parts[2], style: parts[3] } : null;
+}
+
+const ADDRESSED = { fib: "head L3+128:32", mac: "head L2+0:48" };
+
+// The ports to which the tests of a table's node lead, in their order, where its file is given.
+function testedPorts({ kind, file, style }, tables) {
+  const table = tables.get(file.split("/").pop());
+  if (!table || table.kind !== kind || table.rows === null || style === "egress") return [];
+  if (style === "grouped") return [...setsOf(table).ports.keys()].sort((a, b) => a - b);
+  const order = (a, b) => (a.high - a.low === b.high - b.low ? a.low - b.low : a.high - a.low - b.high + b.low);
+  const rows = [...table.rows].sort((a, b) => { const by = order(a, b); return by < 0n ? -1 : by > 0n ? 1 : 0; });
+  return rows.filter(({ low, high }, at) => at === 0 || low !== rows[at - 1].low || high !== rows[at - 1].high).map(({ port }) => port);
+}
+
+// Follows a record through the code of the job: each instruction that is run, with its place and, of a test, a copy and a table, with its decisions. It stops at a
+// loop over names, whose iterations depend on what is allocated, and at a table where nothing tells by which port the path goes on.
+function courseOf(job, record) {
+  const events = [];
+  if (!job) return { events, isWhole: false };
+  const course = { events, decisions: record.decisions, at: 0, places: record.places || null };
+  let place = job.inject;
+  for (let hops = 0; hops < 600; hops += 1) {
+    const isIn = place.startsWith("in "), node = job.nodes.get(boxOf(place));
+    if (!node) return { events, isWhole: false };
+    const outcome = node.table !== null ? throughTable(course, node, place, hops) : runCode(course, node.ports.get(place) || [], place);
+    if (outcome === "unknown") return { events, isWhole: false };
+    if (outcome === "over") return { events, isWhole: true };
+    if (typeof outcome === "number") place = `out ${node.name}.${outcome}`;
+    else if (isIn || !job.links.has(place)) return { events, isWhole: true };
+    else place = job.links.get(place);
+  }
+  return { events, isWhole: false };
+}
+
+// The decisions of a table's node at a place, by the code of its style: see docs/formats.md, "Tables". The path's own places tell the port.
+function throughTable(course, node, place, hops) {
+  const table = tableOf(node), { decisions, at, places } = course;
+  if (table === null) return "unknown";
+  const take = (count) => { course.at += count; };
+  const tell = (count, more) => { course.events.push({ place, step: { kind: "table", line: node.line, text: `${node.text} = ${node.table}`, table }, index: at, decision: decisions.slice(at, at + count).join(" "), count, ...more }); };
+  if (place.startsWith("out ")) {
+    if (table.style !== "egress") return "off";
+    if (at >= decisions.length) return "over";
+    take(1);
+    tell(1, { port: Number(portOf(place)), isTaken: decisions[at] === "pass" });
+    return decisions[at] === "broken" ? "over" : "off";
+  }
+  let count = 0;
+  if (table.style !== "egress") while (decisions[at + count] === "else") count += 1;
+  const last = decisions[at + count], isFork = typeof last === "number", isFound = last === "then";
+  if (last !== undefined) count += 1;
+  take(count);
+  const next = places === null ? undefined : places[hops + 1];
+  const port = isFork ? last : !isFound ? null : next !== undefined ? Number(portOf(next)) : testedPorts(table, state.tables)[count - 1] ?? null;
+  if (table.style !== "egress") tell(count, isFound ? { port, isTaken: true } : { port, isTaken: false, isNone: true });
+  else tell(count, { port, isFork: true });
+  if (port !== null) return port;
+  return isFound ? "unknown" : "over";
+}
+
+// Runs a port's code along the decisions: "off" its end, "over" where nothing goes on, "unknown", or an output port.
+function runCode(course, code, place) {
+  const pending = [code.slice().reverse()];
+  while (pending.length > 0) {
+    const frame = pending[pending.length - 1];
+    if (frame.length === 0) { pending.pop(); continue; }
+    const step = frame.pop();
+    switch (step.kind) {
+      case "block": pending.push(step.body.slice().reverse()); break;
+      case "for": return "unknown";
+      case "forward": return step.port;
+      case "fail": return "over";
+      case "if": case "constrain": case "fork": {
+        const decision = course.decisions[course.at];
+        if (decision === undefined) return "over";
+        course.events.push({ place, step, decision, index: course.at, count: 1 });
+        course.at += 1;
+        if (step.kind === "fork") return step.ports[decision] === undefined ? "unknown" : step.ports[decision];
+        if (decision === "broken") return "over";
+        if (step.kind === "if") pending.push((decision === "then" ? step.then : step.other).slice().reverse());
+        break;
+      }
+      default: course.events.push({ place, step, decision: null, count: 0 });
+    }
+  }
+  return "off";
+}
+
+// The tests, copies and tables that a record's decisions stand for, and whether these are all.
+function steps(job, record) {
+  const { events, isWhole } = courseOf(job, record);
+  return { list: events.filter(({ decision }) => decision !== null), whole: isWhole };
+}
+
+// The boxes of a record's way; of one without places those of its tests.
+function boxesOf(job, record) {
+  if (record.places) return record.places.filter((place) => place.startsWith("in ")).map(boxOf);
+  return steps(job, record).list.map(({ place }) => boxOf(place)).filter((box, at, boxes) => at === 0 || box !== boxes[at - 1]);
+}
