@@ -24,6 +24,8 @@ PARTS, INDEX = VIEWER / "parts", VIEWER / "index.html"
 SCRIPTS = ("json", "job", "fields", "lists", "tables", "sets", "course", "traffic", "words", "page", "shape", "records", "answers", "record", "graph", "layout", "picture", "files")
 # The comment of index.html in whose place the desk comes.
 PLACE = "<!-- desk:"
+# The part of the policy of index.html that lets a notebook put a script with its texts there.
+ANY_SCRIPT = "script-src 'unsafe-inline'"
 # The commands of the desk, and the folder of examples that it opens with.
 COMMANDS = {"explore", "ask", "loops", "walk", "compare", "rules"}
 FIRST = "branch-office"
@@ -74,6 +76,13 @@ def script(identity, kind, text):
     return f'<script id="{identity}" type="{kind}">{text}</script>\n'
 
 
+def guarded(page):
+    """The page with a policy by which its own scripts run and no other one, and a module in a worker."""
+    scripts = re.findall(r"<script>(.*?)</script>", page, re.DOTALL)
+    sums = " ".join(f"'sha256-{base64.b64encode(hashlib.sha256(it.encode()).digest()).decode()}'" for it in scripts)
+    return page.replace(ANY_SCRIPT, f"script-src {sums} 'wasm-unsafe-eval'; worker-src blob:", 1)
+
+
 def whole(engine, unproved, module=None):
     """The text of the page. `engine` is "module", then its bytes are given, or "served"; `unproved` is the line that says what is not proved."""
     page = index()
@@ -85,7 +94,7 @@ def whole(engine, unproved, module=None):
         parts += script("engine-code", "text/plain", (VIEWER / "engine.js").read_text())
         parts += script("engine-module", "text/plain", base64.b64encode(gzip.compress(module, 9, mtime=0)).decode())
     parts += f"<script>\n{(VIEWER / 'desk.js').read_text()}</script>\n"
-    return page[:begin].replace("<title>SymNet report</title>", "<title>SymNet</title>") + parts + page[end:]
+    return guarded(page[:begin].replace("<title>SymNet report</title>", "<title>SymNet</title>") + parts + page[end:])
 
 
 def main(words):

@@ -175,12 +175,12 @@ const roundWords = (round) => `${round.slice(0, -1).join(" \u2192 ")} \u2192 ${r
 // Of two networks.
 
 function checkCompared(answer) {
-  const isGood = {
+  const forms = {
     same: () => true, partial: () => true,
     other: () => isCount(answer.number) && (answer.side === "left" || answer.side === "right") && isListOf(answer.values, isValue),
     unknown: () => isListOf(answer.left, isCount) && isListOf(answer.right, isCount),
-  }[answer.answer];
-  if (!isGood || !isGood()) throw new Error("the answer of compare is none of same, other, unknown and partial");
+  };
+  if (!Object.hasOwn(forms, answer.answer) || !forms[answer.answer]()) throw new Error("the answer of compare is none of same, other, unknown and partial");
 }
 
 function joinCompared(answer, { job, report }) {

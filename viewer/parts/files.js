@@ -4,7 +4,7 @@ let complaints = [];
 
 // Adds a line to what is told.
 function complain(text) {
-  complaints.push(text);
+  complaints.push(plain(text));
   showMessage(complaints.join("\n"));
 }
 

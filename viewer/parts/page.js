@@ -20,3 +20,13 @@ function showMessage(text) {
   byId("message").textContent = text;
   byId("message").style.display = text === "" ? "none" : "block";
 }
+
+// Characters that a terminal or a browser obeys in place of showing them: controls, and marks of direction.
+const UNSEEN = /[\u0000-\u001f\u007f-\u009f\u061c\u200e\u200f\u2028-\u202e\u2066-\u2069]/g;
+const MOST_SHOWN = 500;
+
+// A text of a file, or its name, as it may stand in a line.
+function plain(text, most = MOST_SHOWN) {
+  const shown = text.replace(UNSEEN, "?");
+  return shown.length > most ? `${shown.slice(0, most - 1)}\u2026` : shown;
+}

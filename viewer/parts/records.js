@@ -62,22 +62,30 @@ function reportWords(report) {
     + (casesOf(report) === ALL_CASES ? "all choices of cases" : `at most ${casesOf(report).toLocaleString("en")} choices of cases`);
 }
 
-// Shows all that was read.
+// Shows all that was read. Where that fails, which no file should bring about, nothing is shown of it, and the reason is told.
 function showAll() {
   const { report, answer } = state;
   if (!report && !answer) {
     if (state.job) complain("The job is read. Drop its report, walks or an answer.");
     else if (state.list) complain(`The filter list is read: ${plural(state.list.length, "rule", "rules")}. Drop the answer of rules.`);
+    else if (state.tables.size > 0) complain("The table is read. Drop the job that names it, and its report.");
     return;
   }
-  joinAnswer();
-  byId("summary").textContent = [report ? reportWords(report) : "", answer ? ANSWERS[answer.kind].words(answer) : ""].filter((words) => words !== "").join(" \u2014 ");
-  byId("drop").style.display = "none";
   const main = document.querySelector("main");
-  main.style.display = "grid";
-  main.classList.toggle("alone", !report);
-  byId("answer").replaceChildren(...(answer ? ANSWERS[answer.kind].show(answer) : []));
-  if (report) showReport();
+  try {
+    byId("drop").style.display = "none";
+    main.style.display = "grid";
+    main.classList.toggle("alone", !report);
+    joinAnswer();
+    byId("summary").textContent = [report ? reportWords(report) : "", answer ? ANSWERS[answer.kind].words(answer) : ""].filter((words) => words !== "").join(" \u2014 ");
+    byId("answer").replaceChildren(...(answer ? ANSWERS[answer.kind].show(answer) : []));
+    if (report) showReport();
+  } catch (error) {
+    main.style.display = "none";
+    byId("drop").style.display = "block";
+    byId("summary").textContent = "";
+    complain(`These files cannot be shown: ${error.message}`);
+  }
 }
 
 // What the answer says of the files that belong to it. Where they do not fit it, it is shown without them, and the reason is told.

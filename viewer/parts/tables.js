@@ -2,10 +2,11 @@
 
 const isTable = (text) => /^\s*(?:#[^\n]*\n\s*)*ports\s+\d/.test(text);
 // A larger table is not looked at: its addresses stand in no name of a path.
-const MOST_ROWS = 50000;
+const MOST_TABLE = 1 << 20;
 
 // Reads a table: its kind, and its rows as ranges of addresses with their ports.
 function readTable(text) {
+  if (text.length > MOST_TABLE) return { kind: null, rows: null, sets: null };
   const rows = [];
   let kind = null;
   text.split("\n").forEach((line, index) => {
@@ -16,7 +17,7 @@ function readTable(text) {
     kind = found;
     rows.push({ low: range.low, high: range.high, port: Number(words[1]) });
   });
-  return { kind, rows: rows.length > MOST_ROWS ? null : rows, sets: null };
+  return { kind, rows, sets: null };
 }
 
 // The addresses that go to each port, and those of all rows. Prefixes lie within one another or apart, and the inner one decides.

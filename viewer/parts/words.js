@@ -83,7 +83,8 @@ function openLines(report, numbers, job) {
   return lines;
 }
 
-const visitCause = (cause) => ({ cases: `there are ${tooMany(null)}; --cases all tries them`, coupled: COUPLED, outside: OUTSIDE }[cause] || cause);
+const VISIT_CAUSES = { cases: `there are ${tooMany(null)}; --cases all tries them`, coupled: COUPLED, outside: OUTSIDE };
+const visitCause = (cause) => (Object.hasOwn(VISIT_CAUSES, cause) ? VISIT_CAUSES[cause] : cause);
 
 // The field that a symbol is, or the number of a choice on the way.
 function symbolTarget(fields, symbol) {
@@ -119,7 +120,8 @@ function cellValue(cell, values) {
   if (cell.length < 3) return cell.length === 2 ? BigInt(cell[1]) : null;
   if (values === null) return null;
   let sum = BigInt(cell[1]);
-  for (const [symbol, coefficient] of cell[2]) sum += BigInt(coefficient) * BigInt(values[Number(symbol)] || 0);
+  if (cell[2].some(([symbol]) => symbol >= values.length)) return null;
+  for (const [symbol, coefficient] of cell[2]) sum += BigInt(coefficient) * BigInt(values[symbol]);
   return sum % (1n << BigInt(cell[0]));
 }
 
