@@ -328,6 +328,17 @@ function fill(to, parts) {
   to.replaceChildren(made);
 }
 
+// Shows the numbers of the lines, with the answers to questions before them, in as much room as these need.
+function showGutter(count) {
+  const answers = desk.names[0] === desk.open ? desk.answers : new Map(), gutter = byId("gutter");
+  fill(gutter.firstChild, Array.from({ length: count }, (_, index) => {
+    const answer = answers.get(index + 1);
+    return [...(answer ? [element("span", { class: SHADES[answer] }, `${answer} `)] : []), `${index + 1}\n`];
+  }).flat());
+  const widest = Math.max(0, ...[...answers].map(([, answer]) => answer.length + 1));
+  gutter.firstChild.style.width = `calc(${String(count).length + widest}ch + 14px)`;
+}
+
 // Shows the open file's colours, the numbers of its lines with the answers to questions beside them, and the place that the last run blames.
 function showText() {
   const text = byId("text").value, lines = text.split("\n");
@@ -335,11 +346,7 @@ function showText() {
   const isColoured = isJobName(desk.open) && text.length <= COLOURED;
   fill(byId("colours"), lines.flatMap((line, index) => [...(isColoured ? colouredLine(line) : [line]),
     ...(place && place.line === index + 1 ? [element("span", { class: "said" }, place.words)] : []), "\n"]));
-  const answers = desk.names[0] === desk.open ? desk.answers : new Map();
-  fill(byId("gutter").firstChild, lines.flatMap((_, index) => {
-    const answer = answers.get(index + 1);
-    return [...(answer ? [element("span", { class: SHADES[answer] }, `${answer} `)] : []), `${index + 1}\n`];
-  }));
+  showGutter(lines.length);
   if (place && place.line <= lines.length) {
     const before = lines[place.line - 1].slice(0, charactersBefore(lines[place.line - 1], place.column));
     const columns = [...before].reduce((sum, sign) => sum + (sign === "\t" ? 4 - (sum % 4) : 1), 0);

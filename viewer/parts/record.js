@@ -47,7 +47,7 @@ function detailOf(record, number) {
   if (record.kind === "path") {
     parts.push(element("p", { id: "end" }, endWords(record.end), " \u2014 ", verdictWords(record)));
     const { traffic } = nameOfRecord(number);
-    if (traffic !== "") parts.push(element("p", { id: "traffic" }, `Its packets are ${traffic}.`));
+    if (traffic !== "") parts.push(element("p", { id: "traffic" }, `Its packets: ${traffic}`));
     const fault = record.end && typeof record.end === "object" && state.job ? state.job.items.get(record.end.site) : undefined;
     if (fault) parts.push(element("p", {}, `line ${fault.line}: `, element("code", {}, fault.text)));
     parts.push(...roundRows(number, fields), element("h2", {}, "Way"), wayLine(record.places));

@@ -178,7 +178,7 @@ function trafficOf(job, tables, record) {
 
 // ---- in words
 
-const IN_WORDS = 2;
+const IN_WORDS = 3;
 // Behind which word a field stands in the name of a path, in this order; the others come behind with their names.
 const WORDS = new Map([["protocol", ""], ["next header", ""], ["source address", "from "], ["destination address", "to "], ["Ethernet source", "from "], ["Ethernet destination", "to "],
   ["source port", "source port "], ["destination port", "port "]]);
@@ -194,7 +194,7 @@ function setWords(kind, set, whole) {
     if (first[1] === last) return `\u2265 ${first[0]}`;
   }
   const words = listed.slice(0, IN_WORDS).map(([low, high]) => rangeWords(kind, low, high)), more = listed.length - IN_WORDS;
-  return `${isNot ? "not " : ""}${words.join(isNot ? ", " : more > 0 ? ", " : " or ")}${more > 0 ? ` and ${more.toLocaleString("en")} more` : ""}`;
+  return `${isNot ? "not " : ""}${more > 0 ? `${words.join(", ")} and ${more.toLocaleString("en")} more` : words.join(", ").replace(/, ([^,]*)$/, " or $1")}`;
 }
 
 // The traffic of a record in words, as `TCP to 10.2.0.0/16 port 80`. Empty where no test narrows a field, or no job is given.
