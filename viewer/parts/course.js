@@ -21,21 +21,22 @@ function testedPorts({ kind, file, style }, tables) {
 // Follows a record through the code of the job: each instruction that is run, with its place and, of a test, a copy and a table, with its decisions. It stops at a
 // loop over names, whose iterations depend on what is allocated, and at a table where nothing tells by which port the path goes on.
 function courseOf(job, record) {
-  const events = [];
-  if (!job) return { events, isWhole: false };
+  const events = [], visited = [];
+  if (!job) return { events, visited, isWhole: false };
   const course = { events, decisions: record.decisions, at: 0, places: record.places || null };
   let place = job.inject;
   for (let hops = 0; hops < 600; hops += 1) {
+    visited.push(place);
     const isIn = place.startsWith("in "), node = job.nodes.get(boxOf(place));
-    if (!node) return { events, isWhole: false };
+    if (!node) return { events, visited, isWhole: false };
     const outcome = node.table !== null ? throughTable(course, node, place, hops) : runCode(course, node.ports.get(place) || [], place);
-    if (outcome === "unknown") return { events, isWhole: false };
-    if (outcome === "over") return { events, isWhole: true };
+    if (outcome === "unknown") return { events, visited, isWhole: false };
+    if (outcome === "over") return { events, visited, isWhole: true };
     if (typeof outcome === "number") place = `out ${node.name}.${outcome}`;
-    else if (isIn || !job.links.has(place)) return { events, isWhole: true };
+    else if (isIn || !job.links.has(place)) return { events, visited, isWhole: true };
     else place = job.links.get(place);
   }
-  return { events, isWhole: false };
+  return { events, visited, isWhole: false };
 }
 
 // The decisions of a table's node at a place, by the code of its style: see docs/formats.md, "Tables". The path's own places tell the port.
@@ -98,8 +99,7 @@ function steps(job, record) {
   return { list: events.filter(({ decision }) => decision !== null), whole: isWhole };
 }
 
-// The boxes of a record's way; of one without places those of its tests.
-function boxesOf(job, record) {
-  if (record.places) return record.places.filter((place) => place.startsWith("in ")).map(boxOf);
-  return steps(job, record).list.map(({ place }) => boxOf(place)).filter((box, at, boxes) => at === 0 || box !== boxes[at - 1]);
-}
+// The ports of a record's way; of one without places as far as its decisions can be followed.
+const placesOf = (job, record) => record.places || courseOf(job, record).visited;
+
+const boxesOf = (job, record) => placesOf(job, record).filter((place) => place.startsWith("in ")).map(boxOf);

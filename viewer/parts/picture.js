@@ -286,7 +286,7 @@ let shownPicture = null;
 function drawNetwork(record, round) {
   const { job, report } = state;
   if (!shownPicture || shownPicture.network.job !== job || shownPicture.network.report !== report) shownPicture = new Picture(networkOf({ job, report }));
-  const places = record && record.places ? record.places : record ? steps(state.job, record).list.map((step) => step.place) : [];
+  const places = record ? placesOf(job, record) : [];
   shownPicture.mark([places], round, record ? record.end : undefined);
   if (shownPicture.element.parentNode === byId("network")) return;
   byId("network").replaceChildren(shownPicture.element);
