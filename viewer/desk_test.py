@@ -10,9 +10,12 @@ import importlib.util
 import json
 import shutil
 import subprocess
+import tempfile
 import threading
 from functools import partial
+from pathlib import Path
 
+import page as desk_page
 from browser import PageError
 from checkout import PROGRAM, TOP
 import row_tables
@@ -253,6 +256,60 @@ def test_drop(expect, page, name):
            (True, ["list.acl", "rules", 2]))
 
 
+# Names that a file may have, and that mean something elsewhere: to HTML, to the command line, to JavaScript, to a terminal, to the file system.
+NAMES = ("<img src=x onerror=hit()>.sefl", "'\"><script>hit()</script>.sefl", "--help.sefl", "-.sefl", "a  b \t.sefl", "__proto__.sefl", "constructor.sefl", "one\ntwo.sefl", "left\u202eright.sefl",
+         "a:1:2:.sefl", "\u00e9\u4e2d.sefl", "%s.sefl" % ("long" * 50))
+CHOSEN_NAMES = ("a  b \t.sefl", "__proto__.sefl")
+
+
+def test_file_names(expect, page, name):
+    """Files of hostile names run as others do; their names are shown as text, without what a browser obeys, and are chosen by what they are."""
+    page.value("(() => { window.hits = 0; window.hit = () => { window.hits += 1; }; byId('command').value = 'explore'; })()")
+    for given in NAMES:
+        file = json.dumps(given)
+        expect(f"{name}: {given!r}", (page.value("desk.files.clear()") or run_of(page, f"addFiles([[{file}, {json.dumps(JOB)}], ['other.sefl', '']])"), page.value("document.querySelectorAll('.record').length")), ("", 2))
+        expect(f"{name}: {given!r}: a fault of the page", page.value("byId('message').textContent"), "")
+        expect(f"{name}: {given!r}: elements and scripts", page.value("[document.querySelectorAll('#desk img, #desk script').length, window.hits]"), [0, 0])
+        shown = page.value("[...document.querySelectorAll('#tabs button'), ...document.querySelectorAll('#taken option'), byId('ran')].map((it) => it.textContent).join('')")
+        expect(f"{name}: {given!r}: as it is shown", [hex(ord(it)) for it in shown if ord(it) < 32 or 0x7f <= ord(it) < 0xa0 or 0x202a <= ord(it) <= 0x202e], [])
+        if given not in CHOSEN_NAMES:
+            continue
+        page.value("(() => { document.body.dataset.ran = 'no'; const list = document.querySelector('#taken select'); list.value = 'other.sefl'; list.dispatchEvent(new Event('change')); })()")
+        expect(f"{name}: {given!r}: another file", page.until("document.body.dataset.ran === 'yes'") and page.value("byId('refusal').textContent !== ''"), True)
+        page.value("(() => { document.body.dataset.ran = 'no'; const list = document.querySelector('#taken select'); list.selectedIndex = [...list.options].findIndex((it) => it.text !== 'other.sefl'); list.dispatchEvent(new Event('change')); })()")
+        expect(f"{name}: {given!r}: it again", (page.until("document.body.dataset.ran === 'yes'"), page.value("[desk.names[0], byId('refusal').textContent]")), (True, [given, ""]))
+    page.value("(() => { desk.files.clear(); byId('options').value = ''; })()")
+    dropped = "takeOntoDesk([new File(['permit any 0.0.0.0/0'], '<b>.acl'), new File(['{'], '<i>\\u202e.json')])"
+    page.value(dropped)
+    expect(f"{name}: a dropped file of a hostile name", page.value("[byId('message').textContent.split(':')[0], document.querySelectorAll('#message *').length]"), ["<b>.acl", 0])
+    expect(f"{name}: the next run", run_of(page, f"addFiles([['mine.sefl', {json.dumps(JOB)}]])"), "")
+
+
+# A module with a function `main` that stops at an instruction which no run may reach.
+STOPPING = bytes((0, 0x61, 0x73, 0x6D, 1, 0, 0, 0, 1, 7, 1, 0x60, 2, 0x7F, 0x7E, 1, 0x7F, 3, 2, 1, 0, 7, 8, 1, 4, 0x6D, 0x61, 0x69, 0x6E, 0, 0, 10, 5, 1, 3, 0, 0, 0x0B))
+
+
+def test_policy(expect, page):
+    """The policy of the page with an engine inside lets its own scripts, its worker and its module run, and no script that comes later; no data ends a script."""
+    whole = desk_page.whole("module", "A stand-in.", STOPPING)
+    expect("scripts of the page", (whole.count("<script"), whole.count("</script>")), (5, 5))
+    hostile = desk_page.as_data({"a": "</script><script>hit()</script><!--<script>"})
+    expect("data in a script", ("<" in hostile, json.loads(hostile)), (False, {"a": "</script><script>hit()</script><!--<script>"}))
+    with tempfile.TemporaryDirectory() as folder:
+        (Path(folder) / "page.html").write_text(whole)
+        page.open(f"file://{folder}/page.html")
+        expect("the page with a stand-in: a run", page.until("document.body && document.body.dataset.ran === 'yes'"), True)
+        expect("the page with a stand-in: its module ran", "to which no proved run comes" in page.value("byId('refusal').textContent"), True)
+        page.value("""(() => {
+          window.hits = [];
+          document.body.append(Object.assign(document.createElement('script'), { textContent: 'window.hits.push("script")' }));
+          document.body.insertAdjacentHTML('beforeend', '<img src="x:" onerror="window.hits.push(1)"><a id="link" href="javascript:window.hits.push(2)">a</a>');
+          byId('link').click();
+        })()""")
+        page.value("fetch('http://127.0.0.1:9/').catch(() => window.hits.push('no network'))")
+        expect("the page with a stand-in: scripts that came later, and the network", page.until("window.hits.length > 0", 20) and page.value("window.hits"), ["no network"])
+
+
 def test_desk(expect, page, name, unproved):
     """Each example runs and is shown; then typing, stopping and dropping."""
     expect(f"{name}: the first example", page.until("document.body && document.body.dataset.ran === 'yes'"), True)
@@ -270,6 +327,7 @@ def test_desk(expect, page, name, unproved):
     test_bad_inputs(expect, page, name)
     if page.value("DESK.engine") == "module":
         test_broken_engine(expect, page, name)
+    test_file_names(expect, page, name)
     test_stop(expect, page, name)
     test_drop(expect, page, name)
 
@@ -375,6 +433,8 @@ def test(expect, browser):
     with served() if PROGRAM.is_file() else contextlib.nullcontext((None, None)) as (address, serve):
         if address:
             pages.append(("the page of tools/serve", f"http://127.0.0.1:{address[1]}/", "Behind this page"))
+        if browser:
+            test_policy(expect, browser)
         if browser and pages:
             test_pages(expect, browser, pages)
             print("viewer: the desk is tested in Chromium")
