@@ -150,13 +150,13 @@ def test_drawings(look):
     look.expect("fabric: boxes", len(fabric["boxes"]), 44)
     for name, (links, entry) in NETS.items():
         look.show({"net.sefl": made_job(links, entry), "net.json": drawn_path([f"in {entry}.0"])})
-        look.value("shownPicture.zoom(1 / shownPicture.view.scale)")
+        look.value("shownPicture.show('all'); shownPicture.zoom(1 / shownPicture.view.scale)")
         drawn = look.value(DRAWN)
         check_drawing(look.expect, name, drawn)
         look.expect(f"{name}: links", len(drawn["links"]), len(links))
     for name in ("branch-office/office", "campus/campus", "fabric/fabric", "leak/leak", "click-border/border", "routing-loop/loop"):
         look.show({it: (TOP / f"examples/{name}{it}").read_text() for it in (".sefl", ".json")})
-        look.value("shownPicture.zoom(1 / shownPicture.view.scale)")
+        look.value("shownPicture.show('all'); shownPicture.zoom(1 / shownPicture.view.scale)")
         check_drawing(look.expect, name, look.value(DRAWN))
 
 
@@ -198,12 +198,25 @@ def test_view(look):
     look.browser.until(f"shownPicture.view.scale > {before[2]}", 20)
     after = look.value(under)
     look.expect("zoom keeps the point under the pointer", (abs(after[0] - before[0]) <= 2, abs(after[1] - before[1]) <= 2, after[2] > before[2] * 1.2), (True, True, True))
-    place = "shownPicture.boxes[0].rectangle.getBoundingClientRect().x"
+    place = "shownPicture.drawn.boxes[0].rectangle.getBoundingClientRect().x"
     at = look.value(place)
     for kind, dx in (("mousePressed", 0), ("mouseMoved", 30), ("mouseMoved", 60), ("mouseReleased", 60)):
         look.browser.call("Input.dispatchMouseEvent", type=kind, x=x + dx, y=y, button="left", buttons=0 if kind == "mouseReleased" else 1, clickCount=1)
     look.browser.until(f"Math.abs({place} - {at} - 60) < 2", 20)
     look.expect("dragging moves the picture", abs(look.value(place) - at - 60) < 2, True)
+
+
+def test_alone(look):
+    """Where neither the network nor the way with what is round it can be read, the way is drawn alone; `all` draws all."""
+    links = [(("hub", port), (f"leaf{port}", 0)) for port in range(90)] + [((f"leaf{port}", 0), (f"end{port}", 0)) for port in range(90)]
+    look.show({"net.sefl": made_job(links, "hub"), "net.json": made_files.report([made_files.path([], ["in hub.0", f"out hub.{port}", f"in leaf{port}.0", f"out leaf{port}.0", f"in end{port}.0"], "stopped", [0]) for port in (0, 88)])})
+    names = "[...document.querySelectorAll('svg.picture .node')].map((it) => it.dataset.box)"
+    look.expect("the way alone", look.value(names), ["hub", "leaf0", "end0"])
+    look.value("document.querySelectorAll('.record')[1].click()")
+    look.expect("the way of another path alone", look.value(names), ["hub", "leaf88", "end88"])
+    look.value("shownPicture.choose('all')")
+    look.expect("all boxes", len(look.value(names)), 181)
+    check_drawing(look.expect, "a hub", look.value(f"(() => {{ shownPicture.zoom(1 / shownPicture.view.scale); return {DRAWN}; }})()"))
 
 
 FOLDING = [(("r", 0), ("r_nat", 0)), (("r_nat", 0), ("one", 0)), (("one", 0), ("two", 0)), (("two", 0), ("three", 0)), (("three", 0), ("s", 0)), (("s", 0), ("r", 1)), (("s", 1), ("r", 2))]
@@ -244,6 +257,8 @@ def test_names(look):
     look.expect("office without its table", look.value(ROWS)[:1], ["3: ttl, routes, nat, filter, server, filter, nat, ttl, host; UDP port 53"])
     heights = look.value("(() => { const way = byId('way'), hops = [...way.querySelectorAll('.hop')].map((it) => it.getBoundingClientRect().top); return [new Set(hops).size, hops.length, way.getBoundingClientRect().height]; })()")
     look.expect("office: the way stands on one line", (heights[0], heights[1], heights[2] < 50), (1, 9, True))
+    look.open(report=FABRIC[0], job=FABRIC[1], record=148)
+    look.expect("fabric: the chosen row is seen", look.value("(() => { const [list, row] = [byId('records'), document.querySelector('.record.chosen')].map((it) => it.getBoundingClientRect()); return [row.top >= list.top, row.bottom <= list.bottom]; })()"), [True, True])
     look.open(report="/examples/border-filter/border.json", job="/examples/border-filter/border.sefl")
     look.expect("border: a path", look.value(ROWS)[10], "18: acl; TCP from 192.0.2.0/25 to 198.51.100.0/24 port 22")
     look.open(report="/examples/leak/leak.json")
@@ -401,6 +416,7 @@ def test(expect, browser, address, folder):
     test_drawings(look)
     test_sides(look)
     test_view(look)
+    test_alone(look)
     test_folds(look)
     test_names(look)
     test_traffic(look)

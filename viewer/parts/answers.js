@@ -214,7 +214,7 @@ function bothNetworks(answer) {
   return [element("div", { id: "both" }, ...sides.filter(([, , given]) => given.job || given.report).map(([side, title, given]) => {
     const records = !given.report ? [] : given.report.isWalks ? given.report.records : side === answer.side ? given.report.records.slice(answer.number, answer.number + 1) : [];
     const ends = given.report && given.report.isWalks ? records.map((walk) => `${endWords(walk.end)} at ${walk.places[walk.places.length - 1]}`).join("; ") : "";
-    return element("div", { class: "side" }, element("h2", {}, title), pictureOf(networkOf(given), records.map((record) => record.places || [])).element, element("p", {}, ends));
+    return element("div", { class: "side" }, element("h2", {}, title), pictureOf(networkOf(given), records).element, element("p", {}, ends));
   }))];
 }
 

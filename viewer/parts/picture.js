@@ -17,6 +17,7 @@ function textWidth(text, size) {
   return measures.measureText(text).width;
 }
 
+const isSameList = (one, two) => one.length === two.length && one.every((part, at) => part === two[at]);
 const shortName = (name) => (name.length > NAME_LENGTH ? `${name.slice(0, NAME_LENGTH - 1)}\u2026` : name);
 
 // The wires over which a way leads.
@@ -26,11 +27,11 @@ function wiresOn(places, found = new Set()) {
 }
 
 // The sign at the box where a path ends.
-function endSign(end) {
+function endSign(end, isRound) {
+  if (isRound) return { sign: "\u21bb", shade: "bad" };
   if (end === "delivered") return { sign: "\u2713", shade: "good" };
   if (end === "stopped") return { sign: "\u25a0", shade: "soft" };
-  if (end === "cut") return { sign: "\u2026", shade: "warn" };
-  return end === undefined ? null : { sign: "\u2715", shade: "bad" };
+  return end === "cut" ? { sign: "?", shade: "warn" } : { sign: "\u2715", shade: "bad" };
 }
 
 // What is seen of a drawing: the point in the middle of the window and the scale.
@@ -87,24 +88,27 @@ class Picture {
     this.isLarge = network.boxes.length > DRAWN;
     this.folds = this.isLarge ? 0 : network.boxes.length - graphOf(network, null, true).groups.length;
     this.isFolded = this.folds > 0 && network.boxes.length > FOLDED_FROM;
+    // what is shown: "all", "way" with its surroundings, the way "alone", or a view of one's "own"; null as long as nobody chose
     this.mode = null;
     this.shape = svg("svg", { class: "picture", role: "img", "aria-label": "boxes and links", tabindex: 0 });
     this.shape.append(svg("title", {}, "drag to move, Ctrl and the wheel to zoom"));
     this.view = new View(this.shape);
     this.note = element("span", { class: "soft" });
     this.element = element("div", { class: "network" }, this.controls(), this.shape);
+    this.whole = null;
     this.listen();
-    if (!this.isLarge) this.draw(null);
+    this.draw(this.isLarge ? new Set() : null);
   }
 
   controls() {
     const button = (words, title, click) => element("button", { type: "button", title, click }, words);
     const fold = element("input", { type: "checkbox", class: "fold" });
     fold.checked = this.isFolded;
-    fold.addEventListener("change", () => { this.isFolded = fold.checked; this.draw(null); this.remark(); this.show(this.mode); });
+    fold.addEventListener("change", () => { this.isFolded = fold.checked; this.whole = null; this.draw(null); this.remark(); this.begin(); });
     const folding = this.folds === 0 ? [] : [element("label", { title: "boxes named after another one, as east_ttl after east, and rows of boxes that only pass packets on" }, fold, ` fold ${plural(this.folds, "helper box", "helper boxes")}`)];
     return element("div", { class: "controls" }, button("\u2212", "smaller", () => this.zoom(1 / 1.4)), button("+", "larger", () => this.zoom(1.4)),
-      button("all", "the whole network", () => this.show("all")), button("way", "the way of the path", () => this.show("way")), ...folding, this.note);
+      button("all", "the whole network", () => this.choose("all")), button("way", "the way of the path, with what is round it", () => this.choose("way")),
+      button("way alone", "the boxes of the way, and no others", () => this.choose("alone")), ...folding, this.note);
   }
 
   zoom(factor, x, y) {
@@ -113,25 +117,46 @@ class Picture {
     this.view.zoom(factor, x, y);
   }
 
-  // Shows the whole network or the way; a view that was chosen by hand stays.
-  show(mode) {
-    if (mode === "own") { this.view.measure(); this.view.apply(); return; }
+  choose(mode) {
     this.mode = mode;
-    const whole = { x: 0, y: 0, width: this.layout.width, height: this.layout.height };
-    this.view.fit(mode === "way" && this.marked.length > 0 ? this.around(this.marked) : whole);
+    this.show(mode);
   }
 
-  around(groups) {
-    const boxes = groups.map((group) => this.layout.boxes[group]);
-    const x = Math.min(...boxes.map((box) => box.x)) - STUB, y = Math.min(...boxes.map((box) => box.y)) - 8;
-    return { x, y, width: Math.max(...boxes.map((box) => box.x + box.width)) + STUB - x, height: Math.max(...boxes.map((box) => box.y + box.height)) + 8 - y };
+  // Shows the whole network, the way, or the way alone; a view that was chosen by hand stays, as long as it has the way.
+  show(mode) {
+    const isAlone = this.isLarge || mode === "alone" || (mode === "own" && this.drawn.only !== null), only = isAlone ? this.onWay() : null;
+    const isSame = only === null ? this.drawn.only === null : this.drawn.only !== null && isSameList([...only], [...this.drawn.only]);
+    if (!isSame) { this.draw(only); this.remark(); }
+    this.note.textContent = only === null ? "" : `only the boxes on the way are drawn, of ${this.network.boxes.length.toLocaleString("en")}`;
+    if (mode === "own" && isSame) { this.view.measure(); this.view.apply(); return; }
+    const { layout, marked } = this.drawn;
+    this.view.fit(mode === "way" && marked.length > 0 ? around(layout, marked) : { x: 0, y: 0, width: layout.width, height: layout.height });
   }
 
-  // Called once the picture stands in the page, and has a size.
-  begin() {
+  onWay() {
+    const [ways, round] = this.last || [[], []];
+    return new Set([...ways.flat(), ...round].map(boxOf));
+  }
+
+  // The mode as long as nobody chose: the most of the network that can be read.
+  readable() {
+    if (this.isLarge) return "alone";
     this.view.measure();
-    const { width, height } = this.layout;
-    this.show(this.mode || (Math.min(this.view.size.width / width, this.view.size.height / height) < READABLE ? "way" : "all"));
+    const { layout, graph } = this.whole, groups = [...new Set([...this.onWay()].map((box) => graph.groupOf.get(box)))].filter((group) => group !== undefined);
+    const isReadable = ({ width, height }) => Math.min(this.view.size.width / width, this.view.size.height / height) >= READABLE;
+    return isReadable(layout) || groups.length === 0 ? "all" : isReadable(around(layout, groups)) ? "way" : "alone";
+  }
+
+  // Called once the picture stands in the page and has a size, and when that or the way changes.
+  begin() {
+    this.show(this.mode || this.readable());
+  }
+
+  resized() {
+    const { width, height } = this.view.size;
+    this.view.measure();
+    if (this.view.size.width === width && this.view.size.height === height) return;
+    this.begin();
   }
 
   listen() {
@@ -156,36 +181,38 @@ class Picture {
     });
     for (const name of ["pointerup", "pointercancel"]) this.shape.addEventListener(name, (event) => pointers.delete(event.pointerId));
     this.shape.addEventListener("keydown", (event) => {
-      const deed = { "+": () => this.zoom(1.4), "-": () => this.zoom(1 / 1.4), 0: () => this.show("all") }[event.key];
+      const deed = { "+": () => this.zoom(1.4), "-": () => this.zoom(1 / 1.4), 0: () => this.choose("all") }[event.key];
       if (deed) { event.preventDefault(); deed(); }
     });
-    new ResizeObserver(() => { if (this.layout && this.element.isConnected) this.begin(); }).observe(this.shape);
+    new ResizeObserver(() => { if (this.element.isConnected) this.resized(); }).observe(this.shape);
   }
 
-  // Draws the boxes of the network, or these alone.
+  // Draws the boxes of the network, or these alone. The drawing of all is kept.
   draw(only) {
-    this.graph = graphOf(this.network, only, this.isFolded);
-    const { groups, groupOf, links, stubs } = this.graph;
+    if (only !== null) this.drawn = this.drawingOf(only);
+    else this.drawn = this.whole = this.whole || this.drawingOf(null);
+    const { drawing, layout } = this.drawn;
+    this.shape.replaceChildren(this.shape.firstChild, drawing);
+    this.shape.style.aspectRatio = `${layout.width} / ${layout.height}`;
+    this.shape.style.maxHeight = `min(46vh, ${layout.height + 16}px)`;
+  }
+
+  // A drawing: the graph, where it stands, its elements, and the groups that are marked in it.
+  drawingOf(only) {
+    const graph = graphOf(this.network, only, this.isFolded), { groups, groupOf, links, stubs } = graph;
     const labels = groups.map(() => 0);
     const keepLabel = (group, text) => { labels[group] = Math.max(labels[group], textWidth(text, 9.5)); return text; };
     const linkLabels = links.map(({ a, b, from, to }) => [keepLabel(a, endLabel(groups[a], from)), keepLabel(b, endLabel(groups[b], to))]);
     const stubLabels = stubs.map(({ box, places }) => keepLabel(box, places.length === 1 ? endLabel(groups[box], places[0]) : "\u2026"));
     const widths = groups.map(({ name }, group) => Math.ceil(Math.max(textWidth(shortName(name), 12), 24) + 2 * labels[group] + 26));
-    this.layout = layoutOf(widths, links, stubs, this.network.entry === null ? 0 : groupOf.get(boxOf(this.network.entry)) || 0);
-    this.wires = new Map();
-    const labelsOf = ({ from, to }, { ends }, texts) => [this.label(from, ends[0], texts[0]), this.label(to, ends[1], texts[1])];
-    const ends = links.map((link, number) => labelsOf(link, this.layout.links[number], linkLabels[number]));
-    const wires = links.flatMap((link, number) => this.linkShapes(link, this.layout.links[number], ends[number]));
-    const stubEnds = stubs.map(({ places }, number) => this.label(places[0], this.layout.stubs[number], stubLabels[number]));
-    const stubShapes = stubs.map((stub, number) => this.stubShape(stub, this.layout.stubs[number], stubEnds[number]));
-    this.boxes = groups.map((group, number) => this.boxShape(group, this.layout.boxes[number]));
-    this.badge = svg("g", { class: "badge" });
-    this.lines = svg("g", {}, ...wires, ...stubShapes);
-    this.drawing = svg("g", {}, this.lines, ...this.boxes.map(({ shape }) => shape), ...ends.flat(), ...stubEnds, this.badge);
-    this.shape.replaceChildren(this.shape.firstChild, this.drawing);
-    this.shape.style.aspectRatio = `${this.layout.width} / ${this.layout.height}`;
-    this.shape.style.maxHeight = `min(46vh, ${this.layout.height + 16}px)`;
-    this.marked = [];
+    const layout = layoutOf(widths, links, stubs, this.network.entry === null ? 0 : groupOf.get(boxOf(this.network.entry)) || 0);
+    const wires = new Map(), keep = (name, drawn) => { wires.set(name, drawn); return drawn.shape; };
+    const ends = links.map(({ from, to }, number) => [from, to].map((place, side) => portShape(place, layout.links[number].ends[side], linkLabels[number][side])));
+    const stubEnds = stubs.map(({ places }, number) => portShape(places[0], layout.stubs[number], stubLabels[number]));
+    const lines = svg("g", {}, ...links.flatMap((link, number) => linkShapes(link, layout.links[number], ends[number], keep)), ...stubs.map((stub, number) => stubShape(stub, layout.stubs[number], stubEnds[number], keep)));
+    const boxes = groups.map((group, number) => this.boxShape(group, layout.boxes[number])), badge = svg("g", { class: "badge" });
+    const drawing = svg("g", {}, lines, ...boxes.map(({ shape }) => shape), ...ends.flat(), ...stubEnds, badge);
+    return { only, graph, layout, wires, lines, boxes, badge, drawing, marked: [] };
   }
 
   boxShape({ name, members, isChain }, { x, y, width, height }) {
@@ -201,39 +228,10 @@ class Picture {
     return { shape, rectangle };
   }
 
-  // A line for each wire of a link, with a head where the packet comes out.
-  linkShapes({ wires, isBoth }, { path, ends }, labels) {
-    const title = wires.map(({ name }) => name).join("\n");
-    return wires.map((wire, at) => {
-      const end = at === 0 ? ends[1] : ends[0];
-      const line = svg("path", { class: "wire", d: path });
-      const shape = svg("g", { class: "link", "data-from": wire.from, "data-to": wire.to }, line, headAt(end, end.side === "left"), svg("title", {}, title));
-      if (isBoth) shape.classList.add("both");
-      this.wires.set(wire.name, { shape, parts: [line, shape.children[1]], labels, kind: "wire" });
-      return shape;
-    });
-  }
-
-  stubShape({ side, places }, { x, y }, label) {
-    const isEntry = side === "left", far = isEntry ? x - STUB : x + STUB;
-    const line = svg("path", { class: "lead", d: `M ${isEntry ? far : x} ${y} L ${isEntry ? x : far} ${y}` });
-    const head = isEntry ? headAt({ x, y }, true) : headAt({ x: far, y }, true);
-    const shape = svg("g", { class: isEntry ? "stub entry" : "stub exit" }, line, head, svg("title", {}, `${isEntry ? "packets enter by" : "packets leave by"} ${places.join(", ")}`));
-    for (const place of places) this.wires.set(`${isEntry ? "enter" : "leave"} ${place}`, { shape, parts: [line, head], labels: [label], kind: "lead" });
-    return shape;
-  }
-
-  // The number of a port, inside of its box at the end of its link.
-  label(place, { side, x, y }, text) {
-    return svg("text", { class: "port", "data-place": place, x: side === "left" ? x + 5 : x - 5, y: y + 3.3, "text-anchor": side === "left" ? "start" : "end" }, text);
-  }
-
   // Marks the boxes and wires of these ways, and of a round; a sign says how the first way ends.
   mark(ways, round, end) {
     this.last = [ways, round, end];
     const boxes = new Set(ways.flat().map(boxOf)), roundBoxes = new Set(round.map(boxOf));
-    if (this.isLarge) this.draw(new Set([...boxes, ...roundBoxes]));
-    this.note.textContent = this.isLarge ? `${plural(this.network.boxes.length, "box", "boxes")}: only those on the way are drawn` : "";
     const on = new Set(), roundWires = wiresOn(round);
     for (const places of ways) {
       wiresOn(places, on);
@@ -241,37 +239,67 @@ class Picture {
       on.add(`enter ${places[0]}`);
       on.add(`leave ${places[places.length - 1]}`);
     }
-    this.marked = [];
-    this.graph.groups.forEach(({ members }, group) => {
+    const { graph, boxes: drawn, wires, lines } = this.drawn, marked = [];
+    graph.groups.forEach(({ members }, group) => {
       const isOn = members.some((box) => boxes.has(box)), isRound = members.some((box) => roundBoxes.has(box));
-      this.boxes[group].rectangle.setAttribute("class", `box${isRound ? " round" : isOn ? " on" : ""}`);
-      if (isOn || isRound) this.marked.push(group);
+      drawn[group].rectangle.setAttribute("class", `box${isRound ? " round" : isOn ? " on" : ""}`);
+      if (isOn || isRound) marked.push(group);
     });
-    for (const { labels } of this.wires.values()) for (const label of labels) label.setAttribute("class", "port");
-    for (const [name, { shape, parts: [line, head], labels, kind }] of this.wires) {
+    this.drawn.marked = marked;
+    for (const { labels } of wires.values()) for (const label of labels) label.setAttribute("class", "port");
+    for (const [name, { shape, line, head, labels, kind }] of wires) {
       const shade = roundWires.has(name) ? " round" : on.has(name) ? " on" : "";
       line.setAttribute("class", `${kind}${shade}`);
       head.setAttribute("class", `head${shade}`);
       if (shade === "") continue;
-      this.lines.append(shape);
+      lines.append(shape);
       for (const label of labels) label.setAttribute("class", `port${shade}`);
     }
-    this.showEnd(ways[0], end);
-    if ((this.mode === "way" || this.isLarge) && this.element.isConnected) this.show("way");
+    this.showEnd(ways[0], end, round.length > 0);
   }
 
   remark() {
     if (this.last) this.mark(...this.last);
   }
 
-  showEnd(places, end) {
-    const sign = end === undefined || !places || places.length === 0 ? null : endSign(end);
-    const group = sign === null ? undefined : this.graph.groupOf.get(boxOf(places[places.length - 1]));
-    this.badge.replaceChildren();
+  showEnd(places, end, isRound) {
+    const sign = end === undefined || !places || places.length === 0 ? null : endSign(end, isRound);
+    const { graph, layout, badge } = this.drawn, group = sign === null ? undefined : graph.groupOf.get(boxOf(places[places.length - 1]));
+    badge.replaceChildren();
     if (group === undefined) return;
-    const { x, y, width } = this.layout.boxes[group];
-    this.badge.append(svg("circle", { class: sign.shade, cx: x + width - 2, cy: y + 2, r: 7 }), svg("text", { x: x + width - 2, y: y + 5.6, "text-anchor": "middle" }, sign.sign));
+    const { x, y, width } = layout.boxes[group];
+    badge.append(svg("circle", { class: sign.shade, cx: x + width - 2, cy: y + 2, r: 7 }), svg("text", { x: x + width - 2, y: y + 5.6, "text-anchor": "middle" }, sign.sign));
   }
+}
+
+// The rectangle around these boxes of a layout.
+function around(layout, groups) {
+  const boxes = groups.map((group) => layout.boxes[group]);
+  const x = Math.min(...boxes.map((box) => box.x)) - STUB, y = Math.min(...boxes.map((box) => box.y)) - 8;
+  return { x, y, width: Math.max(...boxes.map((box) => box.x + box.width)) + STUB - x, height: Math.max(...boxes.map((box) => box.y + box.height)) + 8 - y };
+}
+
+// A line for each wire of a link, with a head where the packet comes out.
+function linkShapes({ wires, isBoth }, { path, ends }, labels, keep) {
+  const title = wires.map(({ name }) => name).join("\n");
+  return wires.map((wire, at) => {
+    const end = ends[at === 0 ? 1 : 0], line = svg("path", { class: "wire", d: path }), head = headAt(end, end.side === "left");
+    const shape = svg("g", { class: isBoth ? "link both" : "link", "data-from": wire.from, "data-to": wire.to }, line, head, svg("title", {}, title));
+    return keep(wire.name, { shape, line, head, labels, kind: "wire" });
+  });
+}
+
+function stubShape({ side, places }, { x, y }, label, keep) {
+  const isEntry = side === "left", far = isEntry ? x - STUB : x + STUB, verb = isEntry ? "enter" : "leave";
+  const line = svg("path", { class: "lead", d: `M ${isEntry ? far : x} ${y} L ${isEntry ? x : far} ${y}` }), head = headAt({ x: isEntry ? x : far, y }, true);
+  const shape = svg("g", { class: isEntry ? "stub entry" : "stub exit" }, line, head, svg("title", {}, `packets ${verb} by ${places.join(", ")}`));
+  for (const place of places) keep(`${verb} ${place}`, { shape, line, head, labels: [label], kind: "lead" });
+  return shape;
+}
+
+// The number of a port, inside of its box at the end of its link.
+function portShape(place, { side, x, y }, text) {
+  return svg("text", { class: "port", "data-place": place, x: side === "left" ? x + 5 : x - 5, y: y + 3.3, "text-anchor": side === "left" ? "start" : "end" }, text);
 }
 
 // The head of an arrow whose point is there.
@@ -288,14 +316,13 @@ function drawNetwork(record, round) {
   if (!shownPicture || shownPicture.network.job !== job || shownPicture.network.report !== report) shownPicture = new Picture(networkOf({ job, report }));
   const places = record ? placesOf(job, record) : [];
   shownPicture.mark([places], round, record ? record.end : undefined);
-  if (shownPicture.element.parentNode === byId("network")) return;
-  byId("network").replaceChildren(shownPicture.element);
+  if (shownPicture.element.parentNode !== byId("network")) byId("network").replaceChildren(shownPicture.element);
   shownPicture.begin();
 }
 
-// A picture of a network with these ways.
-function pictureOf(network, ways) {
-  const picture = new Picture(network);
-  picture.mark(ways, []);
+// A picture of a network with the ways of these records.
+function pictureOf(network, records) {
+  const picture = new Picture(network), [first] = records;
+  picture.mark(records.map((record) => record.places || []), [], first && first.end);
   return picture;
 }

@@ -4,7 +4,11 @@ function choose(number) {
   state.chosen = number;
   document.querySelectorAll(".record.chosen").forEach((row) => row.classList.remove("chosen"));
   const row = document.querySelector(`.record[data-number="${number}"]`);
-  if (row) row.classList.add("chosen");
+  if (row) {
+    row.classList.add("chosen");
+    const list = byId("records"), [seen, at] = [list, row].map((it) => it.getBoundingClientRect());
+    if (at.top < seen.top || at.bottom > seen.bottom) list.scrollTop += at.top - seen.top - seen.height / 3;
+  }
   const record = number < 0 ? null : state.report.records[number];
   drawNetwork(record, roundOf(number) || []);
   byId("detail").replaceChildren(...(record ? detailOf(record, number) : [element("p", {}, "The report has no records.")]));
@@ -29,7 +33,7 @@ function verdictWords(record) {
 }
 
 // The ports of a way on one line, each box with the port that it is entered by before it, and the one that it is left by behind it.
-function wayLine(places) {
+function wayLine(places, named = { id: "way" }) {
   const hops = [];
   for (const place of places) {
     const isIn = place.startsWith("in "), last = hops[hops.length - 1];
@@ -37,7 +41,7 @@ function wayLine(places) {
     else last.out = portOf(place);
   }
   const port = (text, before, after) => (text === "" ? [] : [before, element("span", { class: "soft" }, text), after]);
-  return element("div", { id: "way" }, ...hops.flatMap((hop, at) => [...(at === 0 ? [] : [" \u2192 "]),
+  return element("div", named, ...hops.flatMap((hop, at) => [...(at === 0 ? [] : [" \u2192 "]),
     element("span", { class: "hop" }, ...port(hop.in, "", " "), element("b", {}, hop.box), ...port(hop.out, " ", ""))]));
 }
 
@@ -68,7 +72,7 @@ function roundRows(number, fields) {
   const { answer } = state;
   if (!answer || answer.kind !== "loops") return [];
   const round = roundOf(number);
-  if (round !== null) return [element("h2", {}, "Round, for ever"), element("pre", { id: "round", class: "bad" }, round.join("\n"))];
+  if (round !== null) return [element("h2", {}, "Round, for ever"), wayLine(round, { id: "round", class: "bad" })];
   const path = answer.open.find((one) => openNumber(one) === number);
   if (path === undefined) return [];
   const visits = visitsOf(path).map((visit) => element("li", {}, visitWords(visit, fields)));

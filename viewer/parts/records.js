@@ -49,7 +49,7 @@ function showReport() {
 
 // How many sides no packet takes, by the report's own count: `--pruned count` lists none of them.
 function prunedWords(refuted, listed) {
-  const told = plural(refuted, "pruned side", "pruned sides"), left = refuted - listed;
+  const told = plural(Math.max(refuted, listed), "pruned side", "pruned sides"), left = refuted - listed;
   return left <= 0 ? told : `${told} (${listed === 0 ? "" : `${left.toLocaleString("en")} of them `}only counted)`;
 }
 
@@ -78,6 +78,7 @@ function showAll() {
     main.classList.toggle("alone", !report);
     joinAnswer();
     byId("summary").textContent = [report ? reportWords(report) : "", answer ? ANSWERS[answer.kind].words(answer) : ""].filter((words) => words !== "").join(" \u2014 ");
+    byId("answer").className = report && answer && answer.kind !== "answer" ? "beside" : "";
     byId("answer").replaceChildren(...(answer ? ANSWERS[answer.kind].show(answer) : []));
     if (report) showReport();
   } catch (error) {
@@ -174,8 +175,10 @@ function matches(record, number, filter) {
   if (filter.range !== undefined) return hasValue(record, filter);
   const wanted = filter.text;
   if (wanted === "") return true;
+  const has = (text) => text.includes(wanted);
+  if (String(number) === wanted || has(record.decisions.join(" ")) || (record.places || []).some(has) || (record.end && has(endWords(record.end)))) return true;
   const { way, traffic } = nameOfRecord(number);
-  return [way, traffic, record.decisions.join(" "), ...(record.places || []), record.end ? endWords(record.end) : ""].some((text) => text.includes(wanted)) || String(number) === wanted;
+  return has(way) || has(traffic);
 }
 
 function showGroups() {

@@ -28,13 +28,14 @@ function keepWritten(value) {
 const WIDEST = 128, FARTHEST = 1048576;
 const CAUSES = { coupled: (cause) => isValue(cause.count), cases: (cause) => isValue(cause.count), outside: (cause) => isCount(cause.pick) && isListOf(cause.values, isValue) };
 const isText = (value) => typeof value === "string";
+const DECISIONS = new Set(["then", "else", "pass", "broken"]), NAMED_ENDS = new Set(["delivered", "stopped", "cut"]);
 const isPlace = (value) => isText(value) && /^(in|out) [A-Za-z_]\w*\.\d{1,10}$/.test(value);
-const isDecision = (value) => isCount(value) || ["then", "else", "pass", "broken"].includes(value);
+const isDecision = (value) => DECISIONS.has(value) || isCount(value);
 const isPair = (value, first, second) => Array.isArray(value) && value.length === 2 && first(value[0]) && second(value[1]);
 const isAddress = (value) => Number.isInteger(value) && Math.abs(value) <= FARTHEST;
 
 function isEnd(end) {
-  if (["delivered", "stopped", "cut"].includes(end)) return true;
+  if (NAMED_ENDS.has(end)) return true;
   return isObject(end) && isCount(end.site) && isCount(end.fault) && end.fault >= 1 && (end.fault === 9 ? isText(end.text) : end.fault <= 8);
 }
 

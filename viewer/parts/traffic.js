@@ -3,32 +3,61 @@
 
 const MOST_RANGES = 4096;
 
+// An address of the text as {tag, offset}: `L3+160`, `112`, `-16`; NaN where it is none.
+function readAddress(text) {
+  const parts = /^(?:([A-Za-z_]\w*)\s*([+-])|(-)?)\s*(\d\w*)$/.exec(text.trim());
+  return parts ? { tag: parts[1] === undefined ? null : parts[1], offset: ((parts[2] || parts[3]) === "-" ? -1 : 1) * Number(parts[4]) } : { tag: null, offset: NaN };
+}
+
+// What texts are read as, kept since a report asks for the same ones again and again.
+class Kept {
+  constructor(read) {
+    this.read = read;
+    this.kept = new Map();
+  }
+
+  of(text) {
+    if (!this.kept.has(text)) {
+      if (this.kept.size > 20000) this.kept.clear();
+      this.kept.set(text, this.read(text));
+    }
+    return this.kept.get(text);
+  }
+}
+
+// A reference as {address}, or {name, isLocal} of metadata.
+const references = new Kept((text) => {
+  const head = /^head\s*(.*?)\s*:\s*\w+$/.exec(text), meta = /^(global|local)\s+(\w+)/.exec(text);
+  return head ? { address: readAddress(head[1]) } : meta ? { name: `${meta[1]} ${meta[2]}`, isLocal: meta[1] === "local" } : { name: "none", isLocal: false };
+});
+const referenceOf = (text) => references.of(text);
+
 // What the packet carries where a record is followed: the addresses of tags, and the cells at each place, each as {symbol, add}, {constant}, or null for anything else.
 class Carried {
   constructor(job) {
     this.job = job;
     this.tags = new Map();
     this.cells = new Map();
-    for (const rest of job.tags) { const [name, address] = rest.split("="); this.tags.set(name.trim(), [this.addressOf(address)]); }
+    for (const rest of job.tags) { const [name, address] = rest.split("="); this.tags.set(name.trim(), [this.addressOf(readAddress(address))]); }
     let symbol = 0;
     for (const { target, given, width } of job.fields) {
       this.stackOf(target, null).push(given === null ? { symbol: symbol++, add: 0n, width } : { constant: given });
     }
   }
 
-  // The number that an address of the text stands for: `L3+160`, `112`, `-16`. NaN where its tag is absent.
-  addressOf(text) {
-    const parts = /^(?:([A-Za-z_]\w*)\s*([+-])|(-)?)\s*(\d\w*)$/.exec(text.trim());
-    if (!parts) return NaN;
-    const stack = parts[1] === undefined ? [0] : this.tags.get(parts[1]) || [NaN];
-    return stack[stack.length - 1] + ((parts[2] || parts[3]) === "-" ? -1 : 1) * Number(parts[4]);
+  // The number that an address stands for. NaN where its tag is absent.
+  addressOf({ tag, offset }) {
+    if (tag === null) return offset;
+    const stack = this.tags.get(tag);
+    return stack === undefined || stack.length === 0 ? NaN : stack[stack.length - 1] + offset;
   }
 
-  stackOf(reference, box) {
-    const head = /^head\s*(.*?)\s*:\s*\w+$/.exec(reference), meta = /^(global|local)\s+(\w+)/.exec(reference);
-    const key = head ? `head ${this.addressOf(head[1])}` : meta ? (meta[1] === "global" ? `global ${meta[2]}` : `local ${meta[2]} ${box}`) : "none";
-    if (!this.cells.has(key)) this.cells.set(key, []);
-    return this.cells.get(key);
+  stackOf(text, box) {
+    const reference = referenceOf(text);
+    const key = reference.address ? this.addressOf(reference.address) : reference.isLocal ? `${reference.name} ${box}` : reference.name;
+    let stack = this.cells.get(key);
+    if (stack === undefined) { stack = []; this.cells.set(key, stack); }
+    return stack;
   }
 
   // What an expression is, as it is read by readExpression.
@@ -41,22 +70,21 @@ class Carried {
   }
 
   run({ kind, text }, box) {
-    const rest = text.slice(kind.length).trim();
-    const parts = /^(.*?)=(.*)$/s.exec(rest);
+    const { target, source, value } = settings.of(text.slice(kind.length).trim());
     switch (kind) {
-      case "allocate": this.stackOf(rest, box).push(null); break;
-      case "deallocate": this.stackOf(rest, box).pop(); break;
+      case "allocate": this.stackOf(target, box).push(null); break;
+      case "deallocate": this.stackOf(target, box).pop(); break;
       case "set": {
-        const value = this.valueOf(readExpression(parts[2].trim()), box), stack = this.stackOf(parts[1].trim(), box);
-        stack[Math.max(stack.length - 1, 0)] = value;
+        const given = this.valueOf(value, box), stack = this.stackOf(target, box);
+        stack[Math.max(stack.length - 1, 0)] = given;
         break;
       }
       case "tag": case "retag": {
-        const name = parts[1].trim(), address = this.addressOf(parts[2]), stack = this.tags.get(name) || [];
-        this.tags.set(name, kind === "tag" && this.job.version !== 1 ? [...stack, address] : [...stack.slice(0, -1), address]);
+        const address = this.addressOf(readAddress(source)), stack = this.tags.get(target) || [];
+        this.tags.set(target, kind === "tag" && this.job.version !== 1 ? [...stack, address] : [...stack.slice(0, -1), address]);
         break;
       }
-      case "untag": this.tags.set(rest, (this.tags.get(rest) || []).slice(0, -1)); break;
+      case "untag": this.tags.set(target, (this.tags.get(target) || []).slice(0, -1)); break;
       default: break;
     }
   }
@@ -131,18 +159,15 @@ function anyWay(ways) {
   return found;
 }
 
-// The tree of a condition, read once. Null where it cannot be read.
-const trees = new Map();
+// The tree of a condition. Null where it cannot be read.
+const trees = new Kept((text) => { try { return readCondition(text); } catch { return null; } });
+const treeOf = (text) => trees.of(text);
 
-function treeOf(text) {
-  if (!trees.has(text)) {
-    if (trees.size > 10000) trees.clear();
-    let tree = null;
-    try { tree = readCondition(text); } catch { tree = null; }
-    trees.set(text, tree);
-  }
-  return trees.get(text);
-}
+// The parts of an instruction's text behind its kind, and those on both sides of its `=`, which are read once.
+const settings = new Kept((text) => {
+  const parts = /^(.*?)=(.*)$/s.exec(text);
+  return parts ? { target: parts[1].trim(), source: parts[2].trim(), value: readExpression(parts[2].trim()) } : { target: text, source: "", value: null };
+});
 
 // The addresses that a table's decisions leave, where its file is given: {set, isTrue}. Null where they say nothing.
 function tableTest({ step: { table }, port, isTaken, isNone, isFork }, tables) {
