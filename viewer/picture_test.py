@@ -204,6 +204,13 @@ def test_view(look):
         look.browser.call("Input.dispatchMouseEvent", type=kind, x=x + dx, y=y, button="left", buttons=0 if kind == "mouseReleased" else 1, clickCount=1)
     look.browser.until(f"Math.abs({place} - {at} - 60) < 2", 20)
     look.expect("dragging moves the picture", abs(look.value(place) - at - 60) < 2, True)
+    look.value("shownPicture.show('all')")
+    box = next(it for it in look.value(DRAWN)["boxes"] if it["name"] == "core_3")
+    for kind in ("mousePressed", "mouseReleased"):
+        look.browser.call("Input.dispatchMouseEvent", type=kind, x=(box["left"] + box["right"]) / 2, y=(box["top"] + box["bottom"]) / 2, button="left", buttons=1 if kind == "mousePressed" else 0, clickCount=1)
+    look.browser.until("byId('filter').value !== ''", 20)
+    visits = sum("in core_3.0" in it.get("places", ()) for it in json.loads((TOP / "examples/fabric/fabric.json").read_text())["records"])
+    look.expect("a click on a box leaves the paths that come to it", look.value("[byId('filter').value, [...document.querySelectorAll('[data-count]')].reduce((sum, it) => sum + Number(it.dataset.count), 0)]"), ["in core_3.", visits])
 
 
 def test_alone(look):
@@ -283,6 +290,35 @@ def test_traffic(look):
         tables = {it.name: it.read_text() for it in job.parent.iterdir() if it.suffix in (".fib", ".mac")}
         look.show({job.name: job.read_text(), **tables, written.name: written.read_text()})
         look.expect(f"{written.name}: packets without the traffic of their path", look.value(OTHERS), [])
+
+
+# What the program writes of a box with a table in each style: the decisions of each path, its port where it leaves, its packet, and how the page names its traffic.
+TABLES = {"t.fib": "ports 2\n10.0.0.0/8 0\n10.1.0.0/16 1\n", "t.mac": "ports 2\n02:00:00:00:00:01 0\n02:00:00:00:00:02 1\n"}
+WIDE_ROW, INNER_ROW, FIRST, SECOND = "to 10.0.0.0/16 or 10.2.0.0..10.255.255.255", "to 10.1.0.0/16", "to 02:00:00:00:00:01", "to 02:00:00:00:00:02"
+NEITHER = "not to 02:00:00:00:00:01..02:00:00:00:00:02"
+OF_MACS = [(["then"], 0, 2 << 40 | 1, FIRST), (["else", "then"], 1, 2 << 40 | 2, SECOND), (["else", "else", 0], 0, 0, NEITHER), (["else", "else", 1], 1, 0, NEITHER)]
+STYLES = {
+    ("fib", "chain"): [(["then"], 1, 167837696, INNER_ROW), (["else", "then"], 0, 167772160, WIDE_ROW), (["else", "else"], None, 0, "not to 10.0.0.0/8")],
+    ("fib", "grouped"): [(["then"], 0, 167772160, WIDE_ROW), (["else", "then"], 1, 167837696, INNER_ROW), (["else", "else"], None, 0, "not to 10.0.0.0/8")],
+    ("fib", "egress"): [([0, "pass"], 0, 167772160, WIDE_ROW), ([0, "broken"], 0, 0, f"not {WIDE_ROW}"), ([1, "pass"], 1, 167837696, INNER_ROW), ([1, "broken"], 1, 0, f"not {INNER_ROW}")],
+    ("mac", "chain"): OF_MACS, ("mac", "grouped"): OF_MACS,
+    ("mac", "egress"): [([0, "pass"], 0, 0, f"not {SECOND}"), ([0, "broken"], 0, 2 << 40 | 2, SECOND), ([1, "pass"], 1, 0, f"not {FIRST}"), ([1, "broken"], 1, 2 << 40 | 1, FIRST)],
+}
+
+
+def test_tables(look):
+    """The decisions of tables say which addresses a path has, in each style; a side that ends within a table's tests says no more than these."""
+    for (kind, style), paths in STYLES.items():
+        job = f'symnet 2;\nnode t = {kind} "t.{kind}" {style};\ninject t.0 {{ tag L2 = 0; tag L3 = 112; field head L2+0:48; field head L3+128:32; }}\n'
+        records = [made_files.path(decisions, ["in t.0", *([] if port is None else [f"out t.{port}"])], "stopped" if port is None or decisions[-1] == "broken" else "delivered",
+                                   [value, 0] if kind == "mac" else [0, value]) for decisions, port, value, _ in paths]
+        untried = [{"decisions": ["else"], "kind": "unexplored"}] if style != "egress" else []
+        look.show({"t.sefl": job, f"t.{kind}": TABLES[f"t.{kind}"], "t.json": made_files.report([*records, *untried])})
+        names = look.value("state.report.records.map((record, number) => nameOfRecord(number).traffic)")
+        look.expect(f"{kind} {style}: the traffic of its paths", names, [words for *_, words in paths] + [""] * len(untried))
+        look.expect(f"{kind} {style}: packets without the traffic of their path", look.value(OTHERS), [])
+        if untried:
+            look.expect(f"{kind} {style}: one test of two", look.value("steps(state.job, state.report.records.at(-1)).list.map(decisionWords)"), ["its address is in none of the first 1 test of the table"])
 
 
 # Elements that stand out at the right of the window, except in what scrolls.
@@ -420,6 +456,7 @@ def test(expect, browser, address, folder):
     test_folds(look)
     test_names(look)
     test_traffic(look)
+    test_tables(look)
     test_phone(look)
     spoiled_count = test_spoiled(look)
     print(f"viewer: {spoiled_count:,} spoiled files; {test_large(look)}")

@@ -39,30 +39,41 @@ function courseOf(job, record) {
   return { events, visited, isWhole: false };
 }
 
-// The decisions of a table's node at a place, by the code of its style: see docs/formats.md, "Tables". The path's own places tell the port.
+// Tells what decisions of a table's node say: `port` where its address is or is not (`isTaken`), that no row has it (`isNone`), or that none of its first tests does.
+function tellTable(course, node, table, place, count, told) {
+  const { events, decisions, at } = course;
+  if (count > 0) events.push({ place, step: { kind: "table", line: node.line, text: `${node.text} = ${node.table}`, table }, index: at, decision: decisions.slice(at, at + count).join(" "), count, ...told });
+  course.at += count;
+}
+
+// The decisions of a table's node at a place, by the code of its style: see docs/formats.md, "Tables".
 function throughTable(course, node, place, hops) {
-  const table = tableOf(node), { decisions, at, places } = course;
+  const table = tableOf(node);
   if (table === null) return "unknown";
-  const take = (count) => { course.at += count; };
-  const tell = (count, more) => { course.events.push({ place, step: { kind: "table", line: node.line, text: `${node.text} = ${node.table}`, table }, index: at, decision: decisions.slice(at, at + count).join(" "), count, ...more }); };
-  if (place.startsWith("out ")) {
-    if (table.style !== "egress") return "off";
-    if (at >= decisions.length) return "over";
-    take(1);
-    tell(1, { port: Number(portOf(place)), isTaken: decisions[at] === "pass" });
-    return decisions[at] === "broken" ? "over" : "off";
-  }
+  return place.startsWith("out ") ? leaveTable(course, node, table, place) : enterTable(course, node, table, place, course.places === null ? undefined : course.places[hops + 1]);
+}
+
+// At an input port: tests that are false, and one that is true, or a copy for a port. The next of the path's own places tells the port; so does the table's file.
+function enterTable(course, node, table, place, next) {
+  const { decisions, at, places } = course, tests = testedPorts(table, state.tables);
   let count = 0;
   if (table.style !== "egress") while (decisions[at + count] === "else") count += 1;
   const last = decisions[at + count], isFork = typeof last === "number", isFound = last === "then";
-  if (last !== undefined) count += 1;
-  take(count);
-  const next = places === null ? undefined : places[hops + 1];
-  const port = isFork ? last : !isFound ? null : next !== undefined ? Number(portOf(next)) : testedPorts(table, state.tables)[count - 1] ?? null;
-  if (table.style !== "egress") tell(count, isFound ? { port, isTaken: true } : { port, isTaken: false, isNone: true });
-  else tell(count, { port, isFork: true });
+  // Where the decisions of a path end here, or a copy is made, or all tests are known, none of the tests is true; else some may be left.
+  const isNone = table.style !== "egress" && !isFound && (isFork || places !== null || (tests.length > 0 && count === tests.length));
+  const port = isFork ? last : !isFound ? null : next !== undefined ? Number(portOf(next)) : tests[count] ?? null;
+  tellTable(course, node, table, place, count + (last === undefined ? 0 : 1), { port, isTaken: isFound, isFork, isNone });
   if (port !== null) return port;
   return isFound ? "unknown" : "over";
+}
+
+// At an output port of the style egress the address is to be one of this port's.
+function leaveTable(course, node, table, place) {
+  const decision = course.decisions[course.at];
+  if (table.style !== "egress") return "off";
+  if (decision === undefined) return "over";
+  tellTable(course, node, table, place, 1, { port: Number(portOf(place)), isTaken: decision === "pass", isFork: false, isNone: false });
+  return decision === "broken" ? "over" : "off";
 }
 
 // Runs a port's code along the decisions: "off" its end, "over" where nothing goes on, "unknown", or an output port.

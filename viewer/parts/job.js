@@ -2,24 +2,34 @@
 
 const SIGNS = ["->", "..", "==", "!=", "<=", ">=", "{", "}", "[", "]", "(", ")", ";", ":", ",", ".", "=", "<", ">", "+", "-", "$"];
 
+// The line breaks in a part of a text.
+function breaksIn(part) {
+  let count = 0;
+  for (let at = part.indexOf("\n"); at >= 0; at = part.indexOf("\n", at + 1)) count += 1;
+  return count;
+}
+
 function tokensOf(text) {
   const tokens = [];
-  let notes = [];
+  let notes = [], line = 1, lastLine = 0;
   const pattern = /\s+|\/\/[^\n]*|[A-Za-z_]\w*|0x[0-9A-Fa-f]+|\d+|"[^"]*"|->|\.\.|==|!=|<=|>=|[{}\[\]();:,.=<>+\-$]/y;
-  let line = 1;
   while (pattern.lastIndex < text.length) {
     const start = pattern.lastIndex;
     const found = pattern.exec(text);
     if (!found) throw new Error(`the job has an unknown character in line ${line}`);
-    const part = found[0];
-    if (part.startsWith("//")) {
+    const part = found[0], code = part.charCodeAt(0);
+    if (code === 47) {
       // A comment on a line of its own is of the next token.
-      if (tokens.length === 0 || tokens[tokens.length - 1].line < line) notes.push(part.slice(2).trim());
-    } else if (!/^\s/.test(part)) {
-      tokens.push({ text: part, line, start, end: start + part.length, note: notes.join(" ") });
-      notes = [];
+      if (lastLine < line) notes.push(part.slice(2).trim());
+      continue;
     }
-    line += part.split("\n").length - 1;
+    if (code > 32 && code < 127) {
+      tokens.push({ text: part, line, start, end: start + part.length, note: notes.length === 0 ? "" : notes.join(" ") });
+      if (notes.length > 0) notes = [];
+      lastLine = line;
+      if (code !== 34) continue;
+    }
+    line += breaksIn(part);
   }
   return tokens;
 }

@@ -1,6 +1,8 @@
 // The picture of a network: layoutOf of layout.js drawn as SVG, with the way of a path marked, folding, zoom and pan.
 
 const DRAWN = 600, FOLDED_FROM = 60, READABLE = 0.5;
+// How many pixels a pointer moves at most that only presses.
+const STILL = 4;
 const NAME_LENGTH = 22, MOST_SCALE = 3, LEAST_SCALE = 0.02;
 
 function svg(tag, attributes, ...children) {
@@ -91,7 +93,7 @@ class Picture {
     // what is shown: "all", "way" with its surroundings, the way "alone", or a view of one's "own"; null as long as nobody chose
     this.mode = null;
     this.shape = svg("svg", { class: "picture", role: "img", "aria-label": "boxes and links", tabindex: 0 });
-    this.shape.append(svg("title", {}, "drag to move, Ctrl and the wheel to zoom"));
+    this.shape.append(svg("title", {}, "drag to move, Ctrl and the wheel to zoom, click a box for the paths that come to it"));
     this.view = new View(this.shape);
     this.note = element("span", { class: "soft" });
     this.element = element("div", { class: "network" }, this.controls(), this.shape);
@@ -159,6 +161,14 @@ class Picture {
     this.begin();
   }
 
+  // Leaves in the list the records that come to a box, or all of them again.
+  ask(box) {
+    if (!state.report || this.element.parentNode !== byId("network")) return;
+    const filter = byId("filter"), wanted = `in ${box}.`;
+    filter.value = filter.value === wanted ? "" : wanted;
+    showGroups();
+  }
+
   listen() {
     const pointers = new Map();
     const spread = () => { const [one, two] = [...pointers.values()]; return Math.hypot(one.x - two.x, one.y - two.y); };
@@ -169,17 +179,21 @@ class Picture {
       const { x, y } = place(event);
       this.zoom(Math.exp(-event.deltaY / 300), x, y);
     }, { passive: false });
-    this.shape.addEventListener("pointerdown", (event) => { pointers.set(event.pointerId, place(event)); this.shape.setPointerCapture(event.pointerId); this.view.measure(); });
+    let pressed = null;
+    this.shape.addEventListener("pointerdown", (event) => { pressed = pointers.size === 0 ? { ...place(event), box: event.target.closest(".node") } : null; pointers.set(event.pointerId, place(event)); this.view.measure(); });
     this.shape.addEventListener("pointermove", (event) => {
       const before = pointers.get(event.pointerId), after = place(event);
-      if (before === undefined) return;
+      if (before === undefined || (pressed !== null && Math.hypot(after.x - pressed.x, after.y - pressed.y) < STILL)) return;
+      if (pressed !== null) this.shape.setPointerCapture(event.pointerId);
+      pressed = null;
       this.mode = "own";
       const wide = pointers.size === 2 ? spread() : 0;
       pointers.set(event.pointerId, after);
       if (wide > 0) this.view.zoom(spread() / wide, after.x, after.y);
       else this.view.move(after.x - before.x, after.y - before.y);
     });
-    for (const name of ["pointerup", "pointercancel"]) this.shape.addEventListener(name, (event) => pointers.delete(event.pointerId));
+    this.shape.addEventListener("pointerup", () => { if (pressed !== null && pressed.box !== null) this.ask(pressed.box.dataset.box); });
+    for (const name of ["pointerup", "pointercancel", "pointerleave"]) this.shape.addEventListener(name, (event) => { pointers.delete(event.pointerId); pressed = null; });
     this.shape.addEventListener("keydown", (event) => {
       const deed = { "+": () => this.zoom(1.4), "-": () => this.zoom(1 / 1.4), 0: () => this.choose("all") }[event.key];
       if (deed) { event.preventDefault(); deed(); }

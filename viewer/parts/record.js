@@ -51,7 +51,7 @@ function detailOf(record, number) {
   if (record.kind === "path") {
     parts.push(element("p", { id: "end" }, endWords(record.end), " \u2014 ", verdictWords(record)));
     const { traffic } = nameOfRecord(number);
-    if (traffic !== "") parts.push(element("p", { id: "traffic" }, `Its packets: ${traffic}`));
+    if (traffic !== "" && record.verdict !== null) parts.push(element("p", { id: "traffic" }, `Its packets: ${traffic}`));
     const fault = record.end && typeof record.end === "object" && state.job ? state.job.items.get(record.end.site) : undefined;
     if (fault) parts.push(element("p", {}, `line ${fault.line}: `, element("code", {}, fault.text)));
     parts.push(...roundRows(number, fields), element("h2", {}, "Way"), wayLine(record.places));
@@ -92,11 +92,16 @@ function decisionRows(record) {
   return [element("h2", {}, "Decisions"), table, ...others];
 }
 
-function decisionWords({ step, decision, port, isNone, isFork, isTaken }) {
-  if (step.kind === "table") {
-    if (isFork || (!isNone && isTaken)) return port === null ? "no copy" : `${isFork ? "a copy" : "its address is"} of port ${port}`;
-    return isNone && port !== null && port !== undefined ? `no row has its address: a copy to port ${port}` : isNone ? "no row has its address" : `its address is not of port ${port}`;
-  }
+function tableWords({ port, count, isTaken, isFork, isNone, place }) {
+  if (isFork) return isNone ? `no row has its address: a copy to port ${port}` : `a copy to port ${port}`;
+  if (isNone) return "no row has its address";
+  if (place.startsWith("out ")) return `its address may ${isTaken ? "" : "not "}leave by port ${port}`;
+  return isTaken ? `its address is of ${port === null ? "a port" : `port ${port}`}` : `its address is in none of the first ${plural(count, "test", "tests")} of the table`;
+}
+
+function decisionWords(event) {
+  const { step, decision } = event;
+  if (step.kind === "table") return tableWords(event);
   if (decision === "then") return "true: the first block";
   if (decision === "else") return "false: the other block";
   if (decision === "pass") return "true: goes on";

@@ -170,14 +170,13 @@ const settings = new Kept((text) => {
 });
 
 // The addresses that a table's decisions leave, where its file is given: {set, isTrue}. Null where they say nothing.
-function tableTest({ step: { table }, port, isTaken, isNone, isFork }, tables) {
-  const file = tables.get(table.file.split("/").pop());
-  const sets = file && file.kind === table.kind && !isFork ? setsOf(file) : null;
+function tableTest({ place, step: { table }, port, isTaken, isNone }, tables) {
+  const file = tables.get(table.file.split("/").pop()), sets = file && file.kind === table.kind ? setsOf(file) : null;
   if (sets === null) return null;
   if (isNone) return { set: sets.all, isTrue: false };
   const own = sets.ports.get(port) || [];
-  if (table.style !== "egress" || table.kind === "fib") return { set: own, isTrue: isTaken };
-  return { set: joinedRanges([...own, ...without(allOf(48), sets.all)].map(([low, high]) => [low, high])), isTrue: isTaken };
+  if (!place.startsWith("out ")) return isTaken ? { set: own, isTrue: true } : null;
+  return { set: table.kind === "fib" ? own : joinedRanges([...own, ...without(allOf(48), sets.all)].map(([low, high]) => [low, high])), isTrue: isTaken };
 }
 
 // The traffic of a record: a map from symbols to sets, and that of the injection, which all records have.
