@@ -1,7 +1,5 @@
 // Jobs.
 
-const SIGNS = ["->", "..", "==", "!=", "<=", ">=", "{", "}", "[", "]", "(", ")", ";", ":", ",", ".", "=", "<", ">", "+", "-", "$"];
-
 // The line breaks in a part of a text.
 function breaksIn(part) {
   let count = 0;

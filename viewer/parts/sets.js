@@ -51,55 +51,91 @@ function shifted(set, add, width) {
 
 // ---- conditions
 
-// Reads a condition as a tree: {kind: "and" | "or", parts}, {kind: "not", part}, {kind: "true"}, or a test {kind: "in", left, ranges} or {kind: a comparison,
-// left, right} of expressions. An expression is {reference}, {number}, or null where it is a sum. Throws where it cannot be read.
-function readCondition(text) {
-  const tokens = tokensOf(text).map((token) => token.text);
-  let at = 0;
-  const peek = () => tokens[at];
-  const next = () => { if (at >= tokens.length) throw new Error("a condition ends too soon"); return tokens[at++]; };
-  const list = (kind, word, part) => (depth) => {
-    const parts = [part(depth)];
-    while (peek() === word) { next(); parts.push(part(depth)); }
-    return parts.length === 1 ? parts[0] : { kind, parts };
-  };
-  const negation = (depth) => {
-    if (depth > 70) throw new Error("a condition is nested too deep");
-    if (peek() === "not") { next(); return { kind: "not", part: negation(depth + 1) }; }
-    if (peek() === "true") { next(); return { kind: "true" }; }
-    if (peek() !== "[") return test();
-    next();
-    const inner = condition(depth + 1);
-    if (next() !== "]") throw new Error("a bracket is not closed");
-    return inner;
-  };
-  const test = () => {
-    const left = expression(), kind = next();
-    if (kind !== "in") return { kind, left, right: expression() };
+const COMPARISONS = ["==", "!=", "<=", ">=", "<", ">"], ENDS_EXPRESSION = new Set([...COMPARISONS, "in", "and", "or", "]", "}"]);
+// Behind these stands a name, which may be any word, as `and`.
+const BEFORE_NAME = new Set(["head", "global", "local", "$"]);
+const NESTING = 70;
+
+// A reader of conditions by the grammar of docs/grammar.md. It throws where a text is none.
+class ConditionReader {
+  constructor(text) {
+    this.tokens = tokensOf(text).map((token) => token.text);
+    this.at = 0;
+  }
+
+  peek() {
+    return this.tokens[this.at];
+  }
+
+  next() {
+    if (this.at >= this.tokens.length) throw new Error("a condition ends too soon");
+    this.at += 1;
+    return this.tokens[this.at - 1];
+  }
+
+  // Members that a word joins, as one tree.
+  joined(word, member) {
+    const parts = [member()];
+    while (this.peek() === word) { this.next(); parts.push(member()); }
+    return parts.length === 1 ? parts[0] : { kind: word, parts };
+  }
+
+  condition(depth) {
+    return this.joined("or", () => this.joined("and", () => this.negation(depth)));
+  }
+
+  negation(depth) {
+    if (depth > NESTING) throw new Error("a condition is nested too deep");
+    switch (this.peek()) {
+      case "not": this.next(); return { kind: "not", part: this.negation(depth + 1) };
+      case "true": this.next(); return { kind: "true" };
+      case "[": {
+        this.next();
+        const inner = this.condition(depth + 1);
+        if (this.next() !== "]") throw new Error("a bracket is not closed");
+        return inner;
+      }
+      default: return this.test();
+    }
+  }
+
+  test() {
+    const left = this.expression(), kind = this.next();
+    if (kind === "in") return { kind, left, ranges: this.ranges() };
+    if (!COMPARISONS.includes(kind)) throw new Error("a test compares nothing");
+    return { kind, left, right: this.expression() };
+  }
+
+  ranges() {
     const ranges = [];
-    next();
-    while (peek() !== "}") {
-      const low = BigInt(next());
+    this.next();
+    while (this.peek() !== "}") {
+      const low = BigInt(this.next());
       let high = low;
-      if (peek() === "..") { next(); high = BigInt(next()); }
-      if (peek() === ",") next();
+      if (this.peek() === "..") { this.next(); high = BigInt(this.next()); }
+      if (this.peek() === ",") this.next();
       if (low <= high) ranges.push([low, high]);
     }
-    next();
-    return { kind, left, ranges: joinedRanges(ranges) };
-  };
-  const expression = () => {
-    const first = at;
+    this.next();
+    return joinedRanges(ranges);
+  }
+
+  expression() {
+    const first = this.at;
     let open = 0;
-    while (at < tokens.length && !(open === 0 && /^(==|!=|<=|>=|<|>|in|and|or|\]|\})$/.test(peek()))) {
-      open += peek() === "(" ? 1 : peek() === ")" ? -1 : 0;
-      at += 1;
+    while (this.at < this.tokens.length && !(open === 0 && ENDS_EXPRESSION.has(this.peek()))) {
+      open += this.peek() === "(" ? 1 : this.peek() === ")" ? -1 : 0;
+      this.at += BEFORE_NAME.has(this.peek()) ? 2 : 1;
     }
-    return readExpression(tokens.slice(first, at).join(" "));
-  };
-  const condition = list("or", "or", list("and", "and", negation));
-  const tree = condition(0);
-  if (at < tokens.length) throw new Error("something stands behind a condition");
+    return readExpression(this.tokens.slice(first, this.at).join(" "));
+  }
+}
+
+// Reads a condition as a tree: {kind: "and" | "or", parts}, {kind: "not", part}, {kind: "true"}, or a test {kind: "in", left, ranges} or {kind: a comparison,
+// left, right} of expressions. An expression is {reference, add}, {number}, or null where it is anything else.
+function readCondition(text) {
+  const reader = new ConditionReader(text), tree = reader.condition(0);
+  if (reader.at < reader.tokens.length) throw new Error("something stands behind a condition");
   return tree;
 }
 
