@@ -12,7 +12,7 @@ from checkout import TOP
 FABRIC = ("/examples/fabric/fabric.json", "/examples/fabric/fabric.sefl")
 OFFICE = "/examples/branch-office/office"
 # Processor seconds in which the large report has to be open, or how many times as long as this loop, for machines that are slow or busy.
-SECONDS, LOOPS = 1.0, 10
+SECONDS, LOOPS = 1.0, 20
 LOOP = "(() => { let sum = 0; for (let at = 0; at < 2e7; at += 1) sum = (sum + at) | 0; return sum; })()"
 
 # What is drawn, in pixels: boxes, ports with the middle of their words, and 25 points of each link.
@@ -195,20 +195,20 @@ def test_view(look):
     under = "(() => { const at = new DOMPoint(%f, %f).matrixTransform(document.querySelector('svg.picture').getScreenCTM().inverse()); return [Math.round(at.x), Math.round(at.y), shownPicture.view.scale]; })()" % (x, y)
     before = look.value(under)
     look.browser.call("Input.dispatchMouseEvent", type="mouseWheel", x=x, y=y, deltaX=0, deltaY=-120, modifiers=2)
-    look.browser.until(f"shownPicture.view.scale > {before[2]}", 20)
+    look.browser.until(f"shownPicture.view.scale > {before[2]}")
     after = look.value(under)
     look.expect("zoom keeps the point under the pointer", (abs(after[0] - before[0]) <= 2, abs(after[1] - before[1]) <= 2, after[2] > before[2] * 1.2), (True, True, True))
     place = "shownPicture.drawn.boxes[0].rectangle.getBoundingClientRect().x"
     at = look.value(place)
     for kind, dx in (("mousePressed", 0), ("mouseMoved", 30), ("mouseMoved", 60), ("mouseReleased", 60)):
         look.browser.call("Input.dispatchMouseEvent", type=kind, x=x + dx, y=y, button="left", buttons=0 if kind == "mouseReleased" else 1, clickCount=1)
-    look.browser.until(f"Math.abs({place} - {at} - 60) < 2", 20)
+    look.browser.until(f"Math.abs({place} - {at} - 60) < 2")
     look.expect("dragging moves the picture", abs(look.value(place) - at - 60) < 2, True)
     look.value("shownPicture.show('all')")
     box = next(it for it in look.value(DRAWN)["boxes"] if it["name"] == "core_3")
     for kind in ("mousePressed", "mouseReleased"):
         look.browser.call("Input.dispatchMouseEvent", type=kind, x=(box["left"] + box["right"]) / 2, y=(box["top"] + box["bottom"]) / 2, button="left", buttons=1 if kind == "mousePressed" else 0, clickCount=1)
-    look.browser.until("byId('filter').value !== ''", 20)
+    look.browser.until("byId('filter').value !== ''")
     visits = sum("in core_3.0" in it.get("places", ()) for it in json.loads((TOP / "examples/fabric/fabric.json").read_text())["records"])
     look.expect("a click on a box leaves the paths that come to it", look.value("[byId('filter').value, [...document.querySelectorAll('[data-count]')].reduce((sum, it) => sum + Number(it.dataset.count), 0)]"), ["in core_3.", visits])
 
@@ -312,6 +312,15 @@ CODES = {
 }
 
 
+def test_other_job(look):
+    """A path is not named by the traffic of a job that is not its own."""
+    office = (TOP / f"{OFFICE[1:]}.json").read_text()
+    for what, job in (("another job", made_files.RING), ("a job with its names", 'symnet 2;\nnode ttl 2 -> 2 { in 0 { constrain head L3+64:8 > 9; forward 0; } }\ninject ttl.0 { tag L3 = 112; field head L3+64:8; }\n')):
+        look.show({"other.sefl": job, "office.json": office})
+        look.expect(f"{what}: names", look.value("[0, 3].map((number) => nameOfRecord(number)).map(({ way, traffic }) => [way, traffic])"),
+                    [["ttl", ""], ["ttl, routes, nat, filter, server, filter, nat, ttl, host", ""]])
+
+
 def test_conditions(look):
     """What tests say of fields, where they are true and where they are false, also where code has changed what stands there."""
     for code, wanted in CODES.items():
@@ -352,7 +361,7 @@ def test_tables(look):
         look.expect(f"{kind} {style}: the traffic of its paths", names, [words for *_, words in paths] + [""] * len(untried))
         look.expect(f"{kind} {style}: packets without the traffic of their path", look.value(OTHERS), [])
         if untried:
-            look.expect(f"{kind} {style}: one test of two", look.value("steps(state.job, state.report.records.at(-1)).list.map(decisionWords)"), ["its address is in none of the first 1 test of the table"])
+            look.expect(f"{kind} {style}: one test of two", look.value("stepsOf(state.job, state.report.records.at(-1)).map(decisionWords)"), ["its address is in none of the first 1 test of the table"])
 
 
 # Elements that stand out at the right of the window, except in what scrolls.
@@ -492,6 +501,7 @@ def test(expect, browser, address, folder):
     test_folds(look)
     test_names(look)
     test_traffic(look)
+    test_other_job(look)
     test_conditions(look)
     test_tables(look)
     test_phone(look)

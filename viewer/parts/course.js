@@ -22,21 +22,22 @@ function testedPorts({ kind, file, style }, tables) {
 // loop over names, whose iterations depend on what is allocated, and at a table where nothing tells by which port the path goes on.
 function courseOf(job, record) {
   const events = [], visited = [];
-  if (!job) return { events, visited, isWhole: false };
+  if (!job) return { events, visited };
   const course = { events, decisions: record.decisions, at: 0, places: record.places || null };
   let place = job.inject;
   for (let hops = 0; hops < 600; hops += 1) {
+    // Where the job is not that of the report, the record's own ports tell.
+    if (course.places !== null && course.places[hops] !== place) return { events, visited };
     visited.push(place);
     const isIn = place.startsWith("in "), node = job.nodes.get(boxOf(place));
-    if (!node) return { events, visited, isWhole: false };
+    if (!node) return { events, visited };
     const outcome = node.table !== null ? throughTable(course, node, place, hops) : runCode(course, node.ports.get(place) || [], place);
-    if (outcome === "unknown") return { events, visited, isWhole: false };
-    if (outcome === "over") return { events, visited, isWhole: true };
+    if (outcome === "unknown" || outcome === "over") return { events, visited };
     if (typeof outcome === "number") place = `out ${node.name}.${outcome}`;
-    else if (isIn || !job.links.has(place)) return { events, visited, isWhole: true };
+    else if (isIn || !job.links.has(place)) return { events, visited };
     else place = job.links.get(place);
   }
-  return { events, visited, isWhole: false };
+  return { events, visited };
 }
 
 // Tells what decisions of a table's node say: `port` where its address is or is not (`isTaken`), that no row has it (`isNone`), or that none of its first tests does.
@@ -76,6 +77,9 @@ function leaveTable(course, node, table, place) {
   return decision === "broken" ? "over" : "off";
 }
 
+// Whether a decision may be one of a test or a copy.
+const DECIDED = { if: (decision) => decision === "then" || decision === "else", constrain: (decision) => decision === "pass" || decision === "broken", fork: (decision) => isCount(decision) };
+
 // Runs a port's code along the decisions: "off" its end, "over" where nothing goes on, "unknown", or an output port.
 function runCode(course, code, place) {
   const pending = [code.slice().reverse()];
@@ -91,6 +95,7 @@ function runCode(course, code, place) {
       case "if": case "constrain": case "fork": {
         const decision = course.decisions[course.at];
         if (decision === undefined) return "over";
+        if (!DECIDED[step.kind](decision)) return "unknown";
         course.events.push({ place, step, decision, index: course.at, count: 1 });
         course.at += 1;
         if (step.kind === "fork") return step.ports[decision] === undefined ? "unknown" : step.ports[decision];
@@ -104,11 +109,8 @@ function runCode(course, code, place) {
   return "off";
 }
 
-// The tests, copies and tables that a record's decisions stand for, and whether these are all.
-function steps(job, record) {
-  const { events, isWhole } = courseOf(job, record);
-  return { list: events.filter(({ decision }) => decision !== null), whole: isWhole };
-}
+// The tests, copies and tables that a record's decisions stand for, as far as it can be followed.
+const stepsOf = (job, record) => courseOf(job, record).events.filter(({ decision }) => decision !== null);
 
 // The ports of a record's way; of one without places as far as its decisions can be followed.
 const placesOf = (job, record) => record.places || courseOf(job, record).visited;

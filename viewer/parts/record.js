@@ -82,13 +82,13 @@ function roundRows(number, fields) {
 
 function decisionRows(record) {
   if (record.decisions.length === 0) return [];
-  const way = steps(state.job, record);
-  const rows = way.list.map((made) => element("tr", {},
+  const way = stepsOf(state.job, record);
+  const rows = way.map((made) => element("tr", {},
     element("td", {}, made.count < 2 ? String(made.index) : `${made.index}..${made.index + made.count - 1}`), element("td", {}, made.place), element("td", {}, `line ${made.step.line}`),
     element("td", {}, element("code", {}, codeWords(made.step.text))), element("td", { class: made.decision === "broken" ? "bad" : "" }, decisionWords(made)), rawCell(made.step.text, codeWords(made.step.text))));
-  const rest = record.decisions.slice(way.list.reduce((sum, { count }) => sum + count, 0));
+  const rest = record.decisions.slice(way.reduce((sum, { count }) => sum + count, 0));
   const table = element("table", { id: "decisions" }, ...rows);
-  const others = rest.length === 0 ? [] : [element("pre", { class: "soft" }, `${way.list.length > 0 ? "then " : ""}${rest.join(" ")}`)];
+  const others = rest.length === 0 ? [] : [element("pre", { class: "soft" }, `${way.length > 0 ? "then " : ""}${rest.join(" ")}`)];
   return [element("h2", {}, "Decisions"), table, ...others];
 }
 

@@ -113,7 +113,7 @@ function nameOfRecord(number) {
 }
 
 function neverWords(job, record) {
-  const { list } = steps(job, record), last = list[list.length - 1];
+  const list = stepsOf(job, record), last = list[list.length - 1];
   const isLast = last !== undefined && last.index + last.count === record.decisions.length;
   if (record.decisions.length === 0) return "no packet meets the injection";
   return isLast ? `never ${codeWords(last.step.text)}: ${decisionWords(last)}` : `after ${plural(record.decisions.length, "decision", "decisions")}`;

@@ -34,7 +34,7 @@ function testWords(job, record, pick) {
   if (pick < job.wheres.length) return `line ${job.wheres[pick].line}, ${codeWords(job.wheres[pick].text)}`;
   const at = record.decisions.map((decision, index) => (typeof decision === "string" ? index : -1)).filter((index) => index >= 0)[pick - job.wheres.length];
   if (at === undefined) return `test ${pick}`;
-  const found = steps(job, record).list.find(({ index, count }) => index <= at && at < index + count);
+  const found = stepsOf(job, record).find(({ index, count }) => index <= at && at < index + count);
   return found === undefined ? `decision ${at}, ${record.decisions[at]}` : `line ${found.step.line}, ${codeWords(found.step.text)}`;
 }
 
