@@ -18,6 +18,7 @@ from pathlib import Path
 import page as desk_page
 from browser import PageError
 from checkout import PROGRAM, TOP
+from picture_test import WIDE
 import row_tables
 
 OUT = TOP / "viewer/out"
@@ -285,6 +286,22 @@ def test_file_names(expect, page, name):
     expect(f"{name}: the next run", run_of(page, f"addFiles([['mine.sefl', {json.dumps(JOB)}]])"), "")
 
 
+def test_room(expect, page, name):
+    """The gutter is as wide as what stands in it, its numbers beside their lines; at the width of a phone nothing sticks out."""
+    expect(f"{name}: a job in the gutter", run_of(page, f"desk.files.clear(), addFiles([['mine.sefl', {json.dumps(JOB)}]])"), "")
+    gutter = "(() => { const it = byId('gutter'), { left, right, top } = it.getBoundingClientRect(), text = byId('text').getBoundingClientRect(); return [right - left, it.scrollWidth > it.clientWidth, text.left - right, top - text.top]; })()"
+    width, is_cut, gap, above = page.value(gutter)
+    expect(f"{name}: the gutter with an answer ({width} pixels)", (30 < width < 70, is_cut, gap, above), (True, False, 0, 0))
+    answer = page.value("(() => { const range = document.createRange(), word = byId('gutter').querySelector('span'); range.selectNodeContents(word); return (range.getBoundingClientRect().top - byId('gutter').getBoundingClientRect().top - 4) / 18; })()")
+    expect(f"{name}: the line of the answer", round(answer) + 1, 6)
+    narrow = run_of(page, f"addFiles([['other.sefl', {json.dumps(JOB.split('ask')[0])}]])") or page.value(gutter)[0]
+    expect(f"{name}: the gutter without an answer ({narrow} pixels)", narrow < width - 15, True)
+    page.call("Emulation.setDeviceMetricsOverride", width=390, height=844, deviceScaleFactor=1, mobile=True)
+    expect(f"{name}: at the width of a phone, what sticks out", page.value(WIDE), [False])
+    expect(f"{name}: at the width of a phone, the text", page.value("byId('text').getBoundingClientRect().width > 260 && byId('editor').getBoundingClientRect().height > 200"), True)
+    page.call("Emulation.clearDeviceMetricsOverride")
+
+
 # A module with a function `main` that stops at an instruction which no run may reach.
 STOPPING = bytes((0, 0x61, 0x73, 0x6D, 1, 0, 0, 0, 1, 7, 1, 0x60, 2, 0x7F, 0x7E, 1, 0x7F, 3, 2, 1, 0, 7, 8, 1, 4, 0x6D, 0x61, 0x69, 0x6E, 0, 0, 10, 5, 1, 3, 0, 0, 0x0B))
 
@@ -328,6 +345,7 @@ def test_desk(expect, page, name, unproved):
     if page.value("DESK.engine") == "module":
         test_broken_engine(expect, page, name)
     test_file_names(expect, page, name)
+    test_room(expect, page, name)
     test_stop(expect, page, name)
     test_drop(expect, page, name)
 
