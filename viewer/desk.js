@@ -113,6 +113,11 @@ function bytesOf(text) {
 
 // ---------------------------------------------------------------- commands
 
+// The words of a run: names that begin as options do stand behind `--`.
+const wordsOf = (command, names, options) => (names.some((name) => name.startsWith("-")) ? [command, ...options, "--", ...names] : [command, ...names, ...options]);
+// The most characters of a name in a tab or a list.
+const NAME_SHOWN = 40;
+
 const isJobName = (name) => name.endsWith(".sefl"), isPacketName = (name) => name.endsWith(".packet"), isListName = (name) => name.endsWith(".acl");
 const wrote = (end) => end.status === 0 || end.status === 12;
 // The options of a name among these, with their values.
@@ -122,6 +127,8 @@ const hopsOf = (options) => optionOf(options, "--hops");
 const boundsOf = (options) => ["--hops", "--limit", "--cases"].flatMap((name) => optionOf(options, name));
 // The options, with all choices of cases where no bound on them is said: `--cases 4096` is the bound of the program itself.
 const withCases = (options) => (optionOf(options, "--cases").length === 0 ? [...options, "--cases", "all"] : options);
+// A job with the tables that it names, as the page shows them together.
+const withTables = (name, textOf) => [[name, textOf(name)], ...[...textOf(name).matchAll(/=\s*(?:mac|fib)\s*"([^"]*)"/g)].map(([, table]) => [table, textOf(table)]).filter(([, text]) => text !== "")];
 const hasQuestions = (text) => /\bask\s+(reach|invariant|visible)\b/.test(text);
 
 // Each command: which files it takes, and its plan. A plan runs the program by `call`, and gives the ends of its runs, the command's own first, and what the
@@ -133,26 +140,26 @@ const COMMANDS = {
     takes: [isJobName],
     async plan(call, { names, options, textOf }) {
       const given = withCases(options);
-      const found = await call(["loops", names[0], ...given]);
-      const report = wrote(found) ? [await call(["explore", names[0], ...boundsOf(given)])] : [];
-      return { ends: [found, ...report], shown: [[names[0], textOf(names[0])], ...report.map(({ output }) => ["report.json", output]), ["loops.json", found.output]] };
+      const found = await call(wordsOf("loops", [names[0]], given));
+      const report = wrote(found) ? [await call(wordsOf("explore", [names[0]], boundsOf(given)))] : [];
+      return { ends: [found, ...report], shown: [...withTables(names[0], textOf), ...report.map(({ output }) => ["report.json", output]), ["loops.json", found.output]] };
     },
   },
   walk: {
     takes: [isJobName, isPacketName],
     async plan(call, { names, options, textOf }) {
-      const walks = await call(["walk", ...names, ...options]);
-      return { ends: [walks], shown: [[names[0], textOf(names[0])], ["walks.json", walks.output]] };
+      const walks = await call(wordsOf("walk", names, options));
+      return { ends: [walks], shown: [...withTables(names[0], textOf), ["walks.json", walks.output]] };
     },
   },
   compare: {
     takes: [isJobName, isJobName],
     async plan(call, { names, options, textOf }) {
-      const compared = await call(["compare", ...names, ...withCases(options)]);
+      const compared = await call(wordsOf("compare", names, withCases(options)));
       const answer = wrote(compared) ? readJson(compared.output) : {};
       // The packet that shows a difference is walked in both networks.
       const packet = "difference.packet", walks = [];
-      if (answer.answer === "other") for (const name of names) walks.push(await call(["walk", name, packet, ...hopsOf(options)], [[packet, answer.values.join(" ")]]));
+      if (answer.answer === "other") for (const name of names) walks.push(await call(wordsOf("walk", [name, packet], hopsOf(options)), [[packet, answer.values.join(" ")]]));
       const sides = names.map((name, side) => [[name, textOf(name)], ...walks.slice(side, side + 1).map(({ output }) => ["walks.json", output])]);
       return { ends: [compared, ...walks], shown: [...sides[0], ["compared.json", compared.output]], others: sides[1] };
     },
@@ -160,7 +167,7 @@ const COMMANDS = {
   rules: {
     takes: [isListName],
     async plan(call, { names, options, textOf }) {
-      const rules = await call(["rules", names[0], ...options]);
+      const rules = await call(wordsOf("rules", [names[0]], options));
       return { ends: [rules], shown: [[names[0], textOf(names[0])], ["answer.rules", rules.output]] };
     },
   },
@@ -169,11 +176,11 @@ const COMMANDS = {
 // The paths of a job, and the answers to its questions where it has some: they are shown together, whichever was asked for.
 async function exploredAndAsked(call, { names, options, textOf }, command) {
   const [job] = names, given = withCases(options);
-  const own = await call([command, job, ...given]);
+  const own = await call(wordsOf(command, [job], given));
   const isMore = wrote(own) && (command === "ask" || hasQuestions(textOf(job)));
-  const more = isMore ? [await call([command === "ask" ? "explore" : "ask", job, ...boundsOf(given)])] : [];
+  const more = isMore ? [await call(wordsOf(command === "ask" ? "explore" : "ask", [job], boundsOf(given)))] : [];
   const files = [own, ...more].filter(wrote).map(({ words, output }) => [words[0] === "ask" ? "answers.json" : "report.json", output]);
-  return { ends: [own, ...more], shown: [[job, textOf(job)], ...files] };
+  return { ends: [own, ...more], shown: [...withTables(job, textOf), ...files] };
 }
 
 // ---------------------------------------------------------------- what standard error says
@@ -292,7 +299,7 @@ function showTaken() {
   const command = byId("command").value;
   desk.names = namesFor(command, desk.names);
   byId("taken").replaceChildren(...desk.names.map((chosen, index) => {
-    const made = element("select", { "aria-label": `file ${index + 1}` }, ...[...desk.files.keys()].map((name) => element("option", {}, name)));
+    const made = element("select", { "aria-label": `file ${index + 1}` }, ...[...desk.files.keys()].map((name) => element("option", { value: name }, plain(name, NAME_SHOWN))));
     made.value = chosen;
     made.addEventListener("change", () => { desk.names[index] = made.value; openFile(made.value); runSoon(0); });
     return made;
@@ -301,7 +308,7 @@ function showTaken() {
 
 function showTabs() {
   const tabs = [...desk.files.keys()].map((name) => element("button", {
-    class: `${name === desk.open ? "open" : ""}${desk.place && desk.place.name === name ? " at-fault" : ""}`, click: () => openFile(name) }, name));
+    class: `${name === desk.open ? "open" : ""}${desk.place && desk.place.name === name ? " at-fault" : ""}`, title: plain(name), click: () => openFile(name) }, plain(name, NAME_SHOWN)));
   const name = element("input", { id: "new-name", placeholder: "new file, as r1.fib", "aria-label": "name of a new file" });
   name.addEventListener("change", () => { if (name.value.trim() !== "") addFiles([[name.value.trim(), textOf(name.value.trim())]]); });
   const gone = element("button", { id: "remove", title: "removes the open file", click: () => { desk.files.delete(desk.open); openFile([...desk.files.keys()][0] || ""); showTaken(); runSoon(0); } }, "\u00d7");
@@ -321,6 +328,17 @@ function fill(to, parts) {
   to.replaceChildren(made);
 }
 
+// Shows the numbers of the lines, with the answers to questions before them, in as much room as these need.
+function showGutter(count) {
+  const answers = desk.names[0] === desk.open ? desk.answers : new Map(), gutter = byId("gutter");
+  fill(gutter.firstChild, Array.from({ length: count }, (_, index) => {
+    const answer = answers.get(index + 1);
+    return [...(answer ? [element("span", { class: SHADES[answer] }, `${answer} `)] : []), `${index + 1}\n`];
+  }).flat());
+  const widest = Math.max(0, ...[...answers].map(([, answer]) => answer.length + 1));
+  gutter.firstChild.style.width = `calc(${String(count).length + widest}ch + 14px)`;
+}
+
 // Shows the open file's colours, the numbers of its lines with the answers to questions beside them, and the place that the last run blames.
 function showText() {
   const text = byId("text").value, lines = text.split("\n");
@@ -328,11 +346,7 @@ function showText() {
   const isColoured = isJobName(desk.open) && text.length <= COLOURED;
   fill(byId("colours"), lines.flatMap((line, index) => [...(isColoured ? colouredLine(line) : [line]),
     ...(place && place.line === index + 1 ? [element("span", { class: "said" }, place.words)] : []), "\n"]));
-  const answers = desk.names[0] === desk.open ? desk.answers : new Map();
-  fill(byId("gutter").firstChild, lines.flatMap((_, index) => {
-    const answer = answers.get(index + 1);
-    return [...(answer ? [element("span", { class: SHADES[answer] }, `${answer} `)] : []), `${index + 1}\n`];
-  }));
+  showGutter(lines.length);
   if (place && place.line <= lines.length) {
     const before = lines[place.line - 1].slice(0, charactersBefore(lines[place.line - 1], place.column));
     const columns = [...before].reduce((sum, sign) => sum + (sign === "\t" ? 4 - (sum % 4) : 1), 0);
@@ -405,7 +419,7 @@ async function runNow(isAsked = false) {
   document.body.dataset.ran = "no";
   byId("run").textContent = "stop";
   let words = [];
-  const tell = () => { byId("ran").textContent = `${words.join(" ")} .. ${seconds() < 1 ? "" : `${Math.floor(seconds())} s`}`; };
+  const tell = () => { byId("ran").textContent = `${plain(words.join(" "))} .. ${seconds() < 1 ? "" : `${Math.floor(seconds())} s`}`; };
   const clock = setInterval(() => {
     if (run === desk.runs) tell();
     if (run !== desk.runs || isAsked || seconds() <= desk.seconds) return;
@@ -422,7 +436,7 @@ async function runNow(isAsked = false) {
     const seen = await COMMANDS[command].plan(call, { names: [...desk.names], options: optionWords(), textOf });
     if (run !== desk.runs) return;
     showRun(seen);
-    byId("ran").textContent = `${seen.ends.map((end) => end.words.join(" ")).join("; ")}: ${seconds().toFixed(1)} s`;
+    byId("ran").textContent = `${seen.ends.map((end) => plain(end.words.join(" "))).join("; ")}: ${seconds().toFixed(1)} s`;
   } catch (error) {
     if (run !== desk.runs) return;
     showRefusal([{ status: null, error: error.message }]);

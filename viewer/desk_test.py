@@ -9,11 +9,15 @@ import importlib.util
 import json
 import shutil
 import subprocess
+import tempfile
 import threading
 from functools import partial
+from pathlib import Path
 
-from browser import Browser, PageError
+import page as desk_page
+from browser import PageError
 from checkout import PROGRAM, TOP
+from picture_test import WIDE
 import row_tables
 
 OUT = TOP / "viewer/out"
@@ -146,7 +150,7 @@ def test_typing(expect, page, name):
     page.value("addFiles([['mine.sefl', '']])")
     expect(f"{name}: a job is typed", typed(page, JOB), True)
     expect(f"{name}: nothing is refused", told("refusal"), "")
-    expect(f"{name}: its paths", page.value("[...document.querySelectorAll('.record')].map((it) => it.textContent)"), ["1: else", "0: then"])
+    expect(f"{name}: its paths", page.value("[...document.querySelectorAll('.record')].map((it) => it.textContent)"), ["1: r \u2014 delivered at out r.0", "0: r; TTL \u2264 1 \u2014 fail \"dead\" (item 3) at in r.0"])
     expect(f"{name}: the way of one is drawn", page.value("[...document.querySelectorAll('#network .box.on')].length"), 1)
     expect(f"{name}: the answer beside its question", page.value("byId('gutter').textContent.split('\\n')[5]"), "no 6")
     expect(f"{name}: it is broken", typed(page, "forward 7;", "forward 0;"), True)
@@ -252,6 +256,76 @@ def test_drop(expect, page, name):
            (True, ["list.acl", "rules", 2]))
 
 
+# Names that a file may have, and that mean something elsewhere: to HTML, to the command line, to JavaScript, to a terminal, to the file system.
+NAMES = ("<img src=x onerror=hit()>.sefl", "'\"><script>hit()</script>.sefl", "--help.sefl", "-.sefl", "a  b \t.sefl", "__proto__.sefl", "constructor.sefl", "one\ntwo.sefl", "left\u202eright.sefl",
+         "a:1:2:.sefl", "\u00e9\u4e2d.sefl", "%s.sefl" % ("long" * 50))
+CHOSEN_NAMES = ("a  b \t.sefl", "__proto__.sefl")
+
+
+def test_file_names(expect, page, name):
+    """Files of hostile names run as others do; their names are shown as text, without what a browser obeys, and are chosen by what they are."""
+    page.value("(() => { window.hits = 0; window.hit = () => { window.hits += 1; }; byId('command').value = 'explore'; })()")
+    for given in NAMES:
+        file = json.dumps(given)
+        expect(f"{name}: {given!r}", (page.value("desk.files.clear()") or run_of(page, f"addFiles([[{file}, {json.dumps(JOB)}], ['other.sefl', '']])"), page.value("document.querySelectorAll('.record').length")), ("", 2))
+        expect(f"{name}: {given!r}: a fault of the page", page.value("byId('message').textContent"), "")
+        expect(f"{name}: {given!r}: elements and scripts", page.value("[document.querySelectorAll('#desk img, #desk script').length, window.hits]"), [0, 0])
+        shown = page.value("[...document.querySelectorAll('#tabs button'), ...document.querySelectorAll('#taken option'), byId('ran')].map((it) => it.textContent).join('')")
+        expect(f"{name}: {given!r}: as it is shown", [hex(ord(it)) for it in shown if ord(it) < 32 or 0x7f <= ord(it) < 0xa0 or 0x202a <= ord(it) <= 0x202e], [])
+        if given not in CHOSEN_NAMES:
+            continue
+        page.value("(() => { document.body.dataset.ran = 'no'; const list = document.querySelector('#taken select'); list.value = 'other.sefl'; list.dispatchEvent(new Event('change')); })()")
+        expect(f"{name}: {given!r}: another file", page.until("document.body.dataset.ran === 'yes'") and page.value("byId('refusal').textContent !== ''"), True)
+        page.value("(() => { document.body.dataset.ran = 'no'; const list = document.querySelector('#taken select'); list.selectedIndex = [...list.options].findIndex((it) => it.text !== 'other.sefl'); list.dispatchEvent(new Event('change')); })()")
+        expect(f"{name}: {given!r}: it again", (page.until("document.body.dataset.ran === 'yes'"), page.value("[desk.names[0], byId('refusal').textContent]")), (True, [given, ""]))
+    page.value("(() => { desk.files.clear(); byId('options').value = ''; })()")
+    dropped = "takeOntoDesk([new File(['permit any 0.0.0.0/0'], '<b>.acl'), new File(['{'], '<i>\\u202e.json')])"
+    page.value(dropped)
+    expect(f"{name}: a dropped file of a hostile name", page.value("[byId('message').textContent.split(':')[0], document.querySelectorAll('#message *').length]"), ["<b>.acl", 0])
+    expect(f"{name}: the next run", run_of(page, f"addFiles([['mine.sefl', {json.dumps(JOB)}]])"), "")
+
+
+def test_room(expect, page, name):
+    """The gutter is as wide as what stands in it, its numbers beside their lines; at the width of a phone nothing sticks out."""
+    expect(f"{name}: a job in the gutter", run_of(page, f"desk.files.clear(), addFiles([['mine.sefl', {json.dumps(JOB)}]])"), "")
+    gutter = "(() => { const it = byId('gutter'), { left, right, top } = it.getBoundingClientRect(), text = byId('text').getBoundingClientRect(); return [right - left, it.scrollWidth > it.clientWidth, text.left - right, top - text.top]; })()"
+    width, is_cut, gap, above = page.value(gutter)
+    expect(f"{name}: the gutter with an answer ({width} pixels)", (30 < width < 70, is_cut, gap, above), (True, False, 0, 0))
+    answer = page.value("(() => { const range = document.createRange(), word = byId('gutter').querySelector('span'); range.selectNodeContents(word); return (range.getBoundingClientRect().top - byId('gutter').getBoundingClientRect().top - 4) / 18; })()")
+    expect(f"{name}: the line of the answer", round(answer) + 1, 6)
+    narrow = run_of(page, f"addFiles([['other.sefl', {json.dumps(JOB.split('ask')[0])}]])") or page.value(gutter)[0]
+    expect(f"{name}: the gutter without an answer ({narrow} pixels)", narrow < width - 15, True)
+    page.call("Emulation.setDeviceMetricsOverride", width=390, height=844, deviceScaleFactor=1, mobile=True)
+    expect(f"{name}: at the width of a phone, what sticks out", page.value(WIDE), [False])
+    expect(f"{name}: at the width of a phone, the text", page.value("byId('text').getBoundingClientRect().width > 260 && byId('editor').getBoundingClientRect().height > 200"), True)
+    page.call("Emulation.clearDeviceMetricsOverride")
+
+
+# A module with a function `main` that stops at an instruction which no run may reach.
+STOPPING = bytes((0, 0x61, 0x73, 0x6D, 1, 0, 0, 0, 1, 7, 1, 0x60, 2, 0x7F, 0x7E, 1, 0x7F, 3, 2, 1, 0, 7, 8, 1, 4, 0x6D, 0x61, 0x69, 0x6E, 0, 0, 10, 5, 1, 3, 0, 0, 0x0B))
+
+
+def test_policy(expect, page):
+    """The policy of the page with an engine inside lets its own scripts, its worker and its module run, and no script that comes later; no data ends a script."""
+    whole = desk_page.whole("module", "A stand-in.", STOPPING)
+    expect("scripts of the page", (whole.count("<script"), whole.count("</script>")), (5, 5))
+    hostile = desk_page.as_data({"a": "</script><script>hit()</script><!--<script>"})
+    expect("data in a script", ("<" in hostile, json.loads(hostile)), (False, {"a": "</script><script>hit()</script><!--<script>"}))
+    with tempfile.TemporaryDirectory() as folder:
+        (Path(folder) / "page.html").write_text(whole)
+        page.open(f"file://{folder}/page.html")
+        expect("the page with a stand-in: a run", page.until("document.body && document.body.dataset.ran === 'yes'"), True)
+        expect("the page with a stand-in: its module ran", "to which no proved run comes" in page.value("byId('refusal').textContent"), True)
+        page.value("""(() => {
+          window.hits = [];
+          document.body.append(Object.assign(document.createElement('script'), { textContent: 'window.hits.push("script")' }));
+          document.body.insertAdjacentHTML('beforeend', '<img src="x:" onerror="window.hits.push(1)"><a id="link" href="javascript:window.hits.push(2)">a</a>');
+          byId('link').click();
+        })()""")
+        page.value("fetch('http://127.0.0.1:9/').catch(() => window.hits.push('no network'))")
+        expect("the page with a stand-in: scripts that came later, and the network", page.until("window.hits.length > 0", 20) and page.value("window.hits"), ["no network"])
+
+
 def test_desk(expect, page, name, unproved):
     """Each example runs and is shown; then typing, stopping and dropping."""
     expect(f"{name}: the first example", page.until("document.body && document.body.dataset.ran === 'yes'"), True)
@@ -269,6 +343,8 @@ def test_desk(expect, page, name, unproved):
     test_bad_inputs(expect, page, name)
     if page.value("DESK.engine") == "module":
         test_broken_engine(expect, page, name)
+    test_file_names(expect, page, name)
+    test_room(expect, page, name)
     test_stop(expect, page, name)
     test_drop(expect, page, name)
 
@@ -297,23 +373,19 @@ def test_handed_out(expect, page):
         expect("the page by http: its paths", page.value("[document.querySelectorAll('.record').length > 0, byId('refusal').textContent]"), [True, ""])
 
 
-def test_pages(expect, browser, pages):
+def test_pages(expect, page, pages):
     """Opens each of these pages: its name, its address and the words by which it says what is not proved."""
-    page = Browser(browser)
-    try:
-        for name, address, unproved in pages:
-            if address.startswith("file:") and not page.value(KNOWS):
-                print("viewer: the page with the engine is not tested, since this Chromium knows no 64-bit memory")
-                continue
-            page.open(address)
-            try:
-                test_desk(expect, page, name, unproved)
-                if address.startswith("file:"):
-                    test_handed_out(expect, page)
-            except PageError as error:
-                expect(name, f"{error}", "no error")
-    finally:
-        page.close()
+    for name, address, unproved in pages:
+        if address.startswith("file:") and not page.value(KNOWS):
+            print("viewer: the page with the engine is not tested, since this Chromium knows no 64-bit memory")
+            continue
+        page.open(address)
+        try:
+            test_desk(expect, page, name, unproved)
+            if address.startswith("file:"):
+                test_handed_out(expect, page)
+        except PageError as error:
+            expect(name, f"{error}", "no error")
 
 
 @contextlib.contextmanager
@@ -347,6 +419,8 @@ def test(expect, browser):
     with served() if PROGRAM.is_file() else contextlib.nullcontext() as address:
         if address:
             pages.append(("the page of tools/serve", address, "Behind this page"))
+        if browser:
+            test_policy(expect, browser)
         if browser and pages:
             test_pages(expect, browser, pages)
-            print("viewer: the desk is tested in", browser)
+            print("viewer: the desk is tested in Chromium")
