@@ -1,6 +1,7 @@
 #!/usr/bin/env python3
 """Tests what is told of a run that takes long, with small programs in its place."""
 
+import contextlib
 import os
 import pty
 import re
@@ -70,6 +71,15 @@ def lines_fit_the_terminal():
     run.wait()
 
 
+def everything(control):
+    """What was written to a terminal that is closed."""
+    shown = b""
+    with contextlib.suppress(OSError):
+        while part := os.read(control, 4096):
+            shown += part
+    return shown
+
+
 def stands_on_a_terminal():
     """The process itself, on a terminal that no one looks at."""
     run = started("import time\ntime.sleep(0.6)\n", subprocess.DEVNULL)
@@ -77,7 +87,7 @@ def stands_on_a_terminal():
     beside = subprocess.run([sys.executable, progress.__file__, str(run.pid), "loops", "2"], stdin=subprocess.DEVNULL, stderr=terminal, check=False)
     run.wait()
     os.close(terminal)
-    shown = os.read(control, 4096)
+    shown = everything(control)
     os.close(control)
     expect("it ends with the run", beside.returncode, 0)
     expect("its line stands on the terminal, and is taken away", (shown.startswith(b"\rsymnet loops: "), shown.endswith(b"\r\x1b[K")), (True, True))
