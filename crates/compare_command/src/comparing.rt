@@ -4,6 +4,8 @@ ghost use Rattle.std.specs.Prelude.{◌≡◌, ◌<◌, IfOk, IfErr, string_byte
 ghost use Rattle.net_check.specs.Network.{entry, network};
 ghost use Rattle.net_check.specs.Sound.{AreOfOneJob};
 ghost use Rattle.exact_records.specs.View.{record_trees};
+ghost use Rattle.path_questions.specs.Formulas.{explored};
+ghost use Rattle.net_compare.specs.Delivering.{AreStatesOf};
 ghost use Rattle.command_edge.specs.Puts.{text as a_text};
 ghost use Rattle.command_runs.specs.Runs.{IsRefusal};
 ghost use Rattle.explore_command.specs.Explores.{IsEnding};
@@ -12,14 +14,13 @@ ghost use Rattle.compare_command.specs.Compares.{AreFoundFor, ComparesTo, fault_
 use crate::text::{compared_text, partial_text};
 use command_edge::{Ending, OwnFault};
 use net_check::Accepted;
-use net_compare::{CompareFault, compare};
+use net_compare::{CompareFault, Explored, compare, explore};
 use path_records::Record;
 use same_injections::same_injection;
 use sn_width::{NoMemory, Steps};
 use std::alloc::Global;
 use std::marker::Brand;
 use std::sync::ledger::{Blank, Ledger};
-use symbolic_engine::explore;
 
 /// The refusal that tells why two jobs are not compared.
 fn fault_of(fault: CompareFault) -> OwnFault
@@ -52,25 +53,27 @@ fn ending_of(records: &[Record]) -> Ending
     Ending::Done
 }
 
-/// The records of one exploration of a job, and how it ended.
-fn records_of<L: Ledger>(
+/// One exploration of a job, and how it ended.
+fn explored_of<L: Ledger>(
     alloc: Global,
     job: &Accepted,
     hops: u32,
     limit: u32,
     blank: Blank,
-) -> Result<(Ending, Vec<Record>), NoMemory>
+) -> Result<(Ending, Explored), NoMemory>
     requires job { AreOfOneJob (network job.now.net) (entry job.now.injection) }
     requires limit { 0 < limit }
     requires name { blank.name ≡ L.name }
     requires parts { blank.parts ≡ L.parts }
     requires some { 0 < blank.parts }
-    ensures { IfOk result (λ r. AreFoundFor hops limit (network job.now.net) (entry job.now.injection) r.0
-        (record_trees r.1.items)) }
+    ensures found { IfOk result (λ r. AreFoundFor hops limit (network job.now.net) (entry job.now.injection) r.0
+        (record_trees r.1.records.items)) }
+    ensures states { IfOk result (λ r. AreStatesOf (explored (network job.now.net) (entry job.now.injection) hops)
+        (record_trees r.1.records.items) r.1.states.items) }
 {
     let mut steps = Steps::<L>::new(blank);
-    let records = explore(alloc, &job.net, &job.injection, hops, limit, &mut steps)?;
-    Ok((ending_of(&records), records))
+    let found = explore(alloc, &job.net, &job.injection, hops, limit, &mut steps)?;
+    Ok((ending_of(&found.records), found))
 }
 
 /// The text of the comparison of two jobs, with its ending; or why they are not compared. Nothing is explored where their injections
@@ -93,11 +96,11 @@ pub(crate) fn text_of_comparison(
     if !same_injection(&left.injection, &right.injection) {
         return Err(fault_of(CompareFault::OtherInjection));
     }
-    let (ending, lefts) = records_of::<Brand>(alloc, left, hops, limit, Blank::new(1))?;
+    let (ending, lefts) = explored_of::<Brand>(alloc, left, hops, limit, Blank::new(1))?;
     if let Ending::Partial = ending {
         return Ok((Ending::Partial, partial_text(alloc)?));
     }
-    let (ending, rights) = records_of::<Brand>(alloc, right, hops, limit, Blank::new(1))?;
+    let (ending, rights) = explored_of::<Brand>(alloc, right, hops, limit, Blank::new(1))?;
     if let Ending::Partial = ending {
         return Ok((Ending::Partial, partial_text(alloc)?));
     }

@@ -10,7 +10,7 @@ use Rattle.exact_records.specs.Records.{Satisfy, SymCondition}
 use Rattle.compare_meaning.specs.Answers.{IsMissedBy}
 use Rattle.compare_meaning.specs.Below.{Below}
 use Rattle.compare_meaning.specs.Comparing.{IsFirstMet, IsMetAt, IsOutAt, same, other, unknown}
-use Rattle.compare_meaning.specs.Facing.{AreFacingBy, AreFacingFormulas, Faces, HasRefutation, IsApart, IsFacingFormula, IsKnownMiss, joined, longer, longest, must_not}
+use Rattle.compare_meaning.specs.Facing.{AreFacingBy, AreFacingFormulas, Faces, IsApart, IsFacingFormula, IsImpossible, IsKnownMiss, joined, longer, longest, must_not}
 use Rattle.compare_meaning.specs.Laws.{KnownIsRight}
 use Rattle.compare_meaning.specs.Outputs.{Delivers, Output, layout_of, output_of}
 use Rattle.compare_meaning.specs.Paths.{DeliveredPath, Half, IsWhole, paths_of}
@@ -118,15 +118,15 @@ module _ (below : Below) (hops : ℕ) (l r : Half) (own : l.entry.own ≡ r.entr
 
   -- ---- where the miss condition of each left path is refuted, what is delivered on the left is so on the right
 
-  delivered_too : AllByRecursion (IsOutAt IsKnownMiss HasRefutation rs) ls → (v : List ℕ) (seen : Output)
+  delivered_too : AllByRecursion (IsOutAt IsKnownMiss IsImpossible rs) ls → (v : List ℕ) (seen : Output)
       → Delivers l.net l.entry hops v seen → Delivers r.net r.entry hops v seen
   delivered_too out v seen d =
       let t : TakenPath v (output_of l.net d.walk) ls = walk_path below hops l wl v d.walk d.is d.delivered in
       let p = t.path' in
-      let here = has_all (IsOutAt IsKnownMiss HasRefutation rs) ls p out t.among in
+      let here = has_all (IsOutAt IsKnownMiss IsImpossible rs) ls p out t.among in
       let c = here.0 in
       let miss = here.1 in
-      let fails : list_all (holds_there v) c.entries ≡ false = below.refute c here.2.1.0 v here.2.1.1.typed here.2.1.1.accepted in
+      let fails : list_all (holds_there v) c.entries ≡ false = here.2.never v in
       let later = later_fails (holds_there v) p.condition.entries (map must_not miss.formulas) t.holds
       (subst (λ es. list_all (holds_there v) es ≡ false) miss.entries fails) in
       let found = true_of v p miss.facing miss.formulas miss.are_formulas later in
@@ -146,7 +146,7 @@ module _ (below : Below) (hops : ℕ) (l r : Half) (own : l.entry.own ≡ r.entr
   starts_alike : (q : DeliveredPath) → Has rs q → StartsWith l.start.unknowns q.condition.widths
   starts_alike q has = let k = path_widths below hops r wr q has in (k.0, k.1 ∙ ap (λ us. us ++ k.0) (sym unknowns_alike))
 
-  module _ (p : DeliveredPath) (has : Has ls p) (values : List ℕ) (met : IsMetAt IsKnownMiss HasRefutation rs p values) where
+  module _ (p : DeliveredPath) (has : Has ls p) (values : List ℕ) (met : IsMetAt IsKnownMiss IsImpossible rs p values) where
     abbrev c : SymCondition
     c = met.0
 
@@ -188,7 +188,7 @@ module _ (below : Below) (hops : ℕ) (l r : Half) (own : l.entry.own ≡ r.entr
     not_apart q holds heads exit (inr (inl k)) = k (sym (heads_laid values q.heads) ∙ (ap layout_of (sym heads) ∙ heads_laid values p.heads))
     not_apart q holds heads exit (inr (inr k)) =
         true≢false (sym (pass_append (holds_there values) p.condition.entries q.condition.entries own_here holds)
-        ∙ below.refute (joined p q) k.1.0 values k.1.1.typed k.1.1.accepted)
+        ∙ k.never values)
 
     not_delivered : Delivers r.net r.entry hops values (output_of l.net its_walk.walk) → ⊥
     not_delivered d =
@@ -214,7 +214,7 @@ module _ (below : Below) (hops : ℕ) (l r : Half) (own : l.entry.own ≡ r.entr
     }
 
   first_missed : (ps : List DeliveredPath) → ((p : DeliveredPath) → Has ps p → Has ls p) → (number : ℕ) (values : List ℕ)
-      → IsFirstMet IsKnownMiss HasRefutation rs ps number values → IsMissedBy hops l r number values
+      → IsFirstMet IsKnownMiss IsImpossible rs ps number values → IsMissedBy hops l r number values
   first_missed [] within number values h = absurd h
   first_missed (p ∷ ps) within number values (inl h) =
       subst (λ n. IsMissedBy hops l r n values) (sym h.0) (missed p (within p (inl refl)) values h.1)

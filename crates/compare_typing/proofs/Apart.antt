@@ -9,9 +9,10 @@ use Rattle.path_cond.specs.Seen.{AllTyped, entry_holds, in_domain, is_entry_on, 
 use Rattle.path_cond.specs.Choices.{is_simple_pick, passes, pick_holds}
 use Rattle.refutation_check.specs.Longer.{with_entries}
 use Rattle.refutation_check.specs.Seen.{HasEmptyDomain, IsUnmeetable}
+use Rattle.refutation_check.specs.Trees.{AcceptedRefute}
 use Rattle.refutation_check.specs.declared.steps.Refute.TheVariants.{Empty}
 use Rattle.exact_records.specs.Records.{SymCondition}
-use Rattle.compare_meaning.specs.Facing.{HasRefutation, joined}
+use Rattle.compare_meaning.specs.Facing.{IsImpossible, joined}
 use Rattle.compare_typing.specs.Typing.{ApartDomainsRefute, EmptyStays}
 use Rattle.compare_typing.proofs.Typed.{StayTyped, joined_typed}
 use Rattle.compare_typing.proofs.Widths.{begun_index, begun_length, both_begin}
@@ -54,8 +55,8 @@ module _ (c : SymCondition) (s : SymId) (values : List ℕ) where
           λ i. first i && rest i
       by false rest = rest
 
-pub empty_refuted : (c : SymCondition) → AllTyped itself c.widths c.entries → HasEmptyDomain itself c → HasRefutation c
-empty_refuted c typed h =
+pub empty_refuted : AcceptedRefute itself → (c : SymCondition) → AllTyped itself c.widths c.entries → HasEmptyDomain itself c → IsImpossible c
+empty_refuted refute c typed h =
     let s = h.symbol in
     let picks = simple_picks itself s c in
     let at : (k : ℕ) → slice_get c.entries (0 + k) ≡ slice_get c.entries k = λ k. ap (slice_get c.entries) (omega arith) in
@@ -65,7 +66,7 @@ empty_refuted c typed h =
       no_value = λ value.
           ap (λ b. fits_width (slice_index c.widths s.0) value && b) (meets_from c s (alone s value) 0 c.entries at) ∙ h.no_value value;
     } in
-    (inl (inr h), (Empty s picks ∷ [], record { accepted = ([], (unmeetable, refl), tt); typed = typed }))
+    record { refuted = inl (inr h); never = λ values. refute c (Empty s picks ∷ []) values typed ([], (unmeetable, refl), tt) }
 
 -- ---- more formulas
 
@@ -100,8 +101,8 @@ neither true true false h = refl
 neither true false b h = refl
 neither false a b h = refl
 
-pub apart_refutes : StayTyped → ApartDomainsRefute
-apart_refutes stay p q s agree h k in_p in_q apart =
+pub apart_refutes : StayTyped → AcceptedRefute itself → ApartDomainsRefute
+apart_refutes stay refute p q s agree h k in_p in_q apart =
     let begin = both_begin p.condition.widths q.condition.widths agree in
     let ws = (joined p q).widths in
     let first : slice_index ws s.0 ≡ slice_index p.condition.widths s.0 = begun_index p.condition.widths ws s.0 begin.0 in_p in
@@ -117,7 +118,7 @@ apart_refutes stay p q s agree h k in_p in_q apart =
           apart value (subst (λ w. (fits_width w value && in_domain itself s p.condition value) ≡ true) first x)
           (subst (λ w. (fits_width w value && in_domain itself s q.condition value) ≡ true) second y));
     } in
-    empty_refuted (joined p q) (joined_typed stay p q agree h k) empty
+    empty_refuted refute (joined p q) (joined_typed stay p q agree h k) empty
 
-pub stays : EmptyStays
-stays = record { more = empty_stays; refuted = empty_refuted }
+pub stays : AcceptedRefute itself → EmptyStays
+stays refute = record { more = empty_stays; refuted = empty_refuted refute }

@@ -1,6 +1,6 @@
 -- Paths that clash, one after another.
 use Rattle.std.proofs.Common.{◌≡◌, ◌∙◌, ◌<◌, ◌≤◌, inl, inr, ℕ, zero, suc, ◌+◌, ◌-◌, List, [], ◌∷◌, ◌++◌, arith, drop, get_or, length, map, refl, sym, ap, take}
-use Rattle.std.proofs.lemmas.List.{drop_more, take_all}
+use Rattle.std.proofs.lemmas.List.{take_all}
 use Rattle.std.specs.List.{AllByRecursion}
 use Rattle.net_check.specs.Network.{Network}
 use Rattle.sefl_meaning.specs.declared.walk.End.TheVariants.{Stopped, Delivered, Failed, Cut}
@@ -12,9 +12,6 @@ use Rattle.net_compare.specs.Clashing.{IsWithin, shifted}
 use Rattle.net_compare.proofs.Matched.{both_match, matched_is_begun}
 
 -- ---- slices
-
-pub split_mapped : {A B : Type 0} (f : A → B) (xs : List A) (n : ℕ) (x : A) → n < length xs → x ≡ get_or xs n x → map f (drop n xs) ≡ f x ∷ map f (drop (n + 1) xs)
-split_mapped f xs n x less is = ap (map f) (drop_more xs n x less ∙ ap (λ y. y ∷ drop (n + 1) xs) (sym is))
 
 -- what stands at a place, whatever is put for one that is not there
 pub same_there : {A : Type 0} (xs : List A) (n : ℕ) (x y : A) → n < length xs → get_or xs n x ≡ get_or xs n y

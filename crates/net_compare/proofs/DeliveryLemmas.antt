@@ -13,7 +13,7 @@ use Rattle.sefl_meaning.specs.declared.walk.End.{End}
 use Rattle.sefl_meaning.specs.declared.walk.Place.{Place}
 use Rattle.sefl_meaning.specs.Carried.{Carried}
 use Rattle.sefl_meaning.specs.Fields.{Fields}
-use Rattle.sefl_meaning.specs.Routes.{IsFirstClosed, route}
+use Rattle.sefl_meaning.specs.Routes.{route}
 use Rattle.sefl_meaning.specs.Start.{progress_of}
 use Rattle.sefl_meaning.specs.Valued.{CellFits, Fits, HeldFits, StacksFit}
 use Rattle.term_values.specs.Fits.{term_fits, typed_fits}
@@ -23,9 +23,6 @@ use Rattle.exact_records.specs.Packets.{AreExactFor, IsExplored}
 use Rattle.exact_records.specs.Records.{HasMeaning, IsPath, Leads, RecordTree, SymRoute, SymStart, SymTree, condition_on}
 use Rattle.exact_records.specs.View.{record_tree, record_trees}
 use Rattle.sym_state.specs.Symbolic.{Symbolic}
-use Rattle.symbolic_engine.specs.declared.guiding.Led.{Led}
-use Rattle.symbolic_engine.specs.Exploring.{FollowsTo}
-use Rattle.symbolic_engine.specs.Leading.{LeadsThere}
 use Rattle.path_questions.specs.Formulas.{explored, no_start, start_or}
 use Rattle.compare_meaning.specs.Outputs.{Heads, exit_of, last_of, name_in}
 use Rattle.compare_meaning.specs.Paths.{DeliveredPath, condition_along, condition_by, delivered, delivered_from, with_one}
@@ -44,16 +41,6 @@ none_some e = cc e
 module _ (net : Network) (i : Entry) (hops : ℕ) where
   pub start_is : (start : SymStart) → IsExplored net i hops start → start ≡ explored net i hops
   start_is start is = sym (ap (start_or no_start) is)
-
-  pub led_there : (ds : List Decision) (led : Led) → FollowsTo net i hops (λ start. LeadsThere start ds led) → LeadsToState (explored net i hops) ds led.state
-  led_there ds led h =
-      let there = subst (λ s. LeadsThere s ds led) (start_is h.start h.explored) h.holds in
-      record { way = there.way; leads = there.leads; carries = there.carries; condition = there.condition }
-
-  pub led_nowhere : ((t : SymTree) (ds : List Decision) (index : ℕ) → IsFirstClosed t ds index → route t ds ≡ None)
-      → (ds : List Decision) (index : ℕ) → FollowsTo net i hops (λ start. IsFirstClosed start.tree ds index) → route (explored net i hops).tree ds ≡ None
-  led_nowhere closed ds index h =
-      closed (explored net i hops).tree ds index (subst (λ (s : SymStart). IsFirstClosed s.tree ds index) (start_is h.start h.explored) h.holds)
 
 -- ---- the condition and the fields
 
@@ -122,7 +109,7 @@ module _ (net : Network) (start : SymStart) (records : List Record) (n : ℕ) (d
   abbrev rest : List RecordTree
   rest = record_trees (drop (n + 1) records)
 
-  split : record_trees (drop n records) ≡ record_tree d ∷ rest
+  pub split : record_trees (drop n records) ≡ record_tree d ∷ rest
   split = ap record_trees (drop_more records n d less ∙ ap (λ y. y ∷ drop (n + 1) records) (sym is))
 
   more : suc number ≡ number + 1

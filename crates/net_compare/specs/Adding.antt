@@ -1,7 +1,5 @@
 -- Formulas that are added to others.
 use Rattle.std.specs.Prelude.{◌≡◌, ◌⊎◌, Bool, List, [], ◌∷◌, ◌++◌, map}
-use Rattle.path_cond.specs.Conditions.{Condition}
-use Rattle.path_cond.specs.Seen.{entry_seen}
 use Rattle.path_formula.specs.Formulas.{FormulaTree}
 use Rattle.path_formula.specs.View.{view}
 use Rattle.path_formula.specs.declared.formula.Formula.{Formula}
@@ -11,10 +9,6 @@ use Rattle.compare_meaning.specs.Facing.{must_be}
 -- a formula as it must be, unless it is had
 abbrev pub AddsMissing : List (FormulaTree × Bool) → FormulaTree × Bool → List FormulaTree → List FormulaTree → Type 0
 AddsMissing had e before after = (Has had e × (after ≡ before)) ⊎ ((Has had e → ⊥) × (after ≡ before ++ must_be e ∷ []))
-
--- the formulas of a condition, with their truths
-abbrev pub formulas_in : Condition → List (FormulaTree × Bool)
-formulas_in c = map (entry_seen view) c.entries
 
 -- formulas that are these
 abbrev pub Adds : (List FormulaTree → Type 0) → List Formula → List Formula → Type 0

@@ -42,7 +42,7 @@ fn first_with(path: &Delivery<'_>, others: &[(u64, &Delivery<'_>)]) -> Option<u6
 fn clash(path: &Delivery<'_>, other: &Delivery<'_>) -> bool
     ensures { IsTrue result ↔ Clash (seen_path path.now) (seen_path other.now) }
 {
-    same_exit(path, other) && !agree(&path.condition, &other.condition)
+    same_exit(path, other) && !agree(path.condition, other.condition)
 }
 
 /// Whether the widths of the symbols of each of these begin those of a condition. Where they do, none clash.
@@ -50,7 +50,7 @@ pub(crate) fn are_within(paths: &[Delivery<'_>], longest: &PathCond) -> bool
     ensures { IsTrue result ↔ AllByRecursion (IsWithin longest.now.widths) (map seen_path paths.now) }
 {
     for path in paths {
-        if !begins(&path.condition, longest) {
+        if !begins(path.condition, longest) {
             return false;
         }
     }

@@ -1,46 +1,45 @@
 //! The delivered paths of the records of an exploration.
 
-ghost use Rattle.std.specs.Prelude.{◌≡◌, ℕ, IfOk, IfSome, map, option_map};
+ghost use Rattle.std.specs.Prelude.{◌≡◌, ℕ, IfOk, IfSome, Some, map, option_map, slice_get};
 ghost use Rattle.std.specs.List.{AllByRecursion};
 ghost use Rattle.net_check.specs.Network.{entry, network};
-ghost use Rattle.net_check.specs.Sound.{AreOfOneJob};
 ghost use Rattle.exact_records.specs.Packets.{AreExactFor};
 ghost use Rattle.exact_records.specs.Records.{HasMeaning};
 ghost use Rattle.exact_records.specs.View.{record_tree, record_trees};
 ghost use Rattle.compare_meaning.specs.Outputs.{exit_of, name_in};
 ghost use Rattle.compare_meaning.specs.Paths.{delivered, delivered_from};
 ghost use Rattle.path_questions.specs.Formulas.{explored};
-ghost use Rattle.net_compare.specs.Delivering.{TellsState};
+ghost use Rattle.net_compare.specs.Delivering.{AreStatesOf, LeadsIfDelivered};
 ghost use Rattle.net_compare.specs.Facings.{IsSound};
 ghost use Rattle.net_compare.specs.Saying.{exit_seen, seen_path};
 
 use crate::delivery::Delivery;
-use lin_term::Term;
+use crate::marks::{Known, marks_of};
+use crate::rows::row_of;
 use net_check::{Injection, Net};
-use path_exec::FollowFault;
 use path_records::Record;
 use refutation_check::laws::a_condition_is_judged_by_its_trees;
-use sefl_meaning::laws::the_first_closed_decision_is_one;
-use sefl_meaning::{Decision, End, Place};
+use sefl_meaning::{End, Place};
 use sn_width::NoMemory;
 use std::alloc::Global;
 use sym_state::SymState;
-use symbolic_engine::follow;
-use term_values::Formulas;
 use term_values::laws::the_tests_of_fitting_terms;
 
 /// The delivered paths among the records of an exploration, in order, each with its number among all of them, its condition and its
-/// domains. Each is followed once.
+/// domains, which are those of its state. Formulas that are known are marked as they are there.
 pub(crate) fn deliveries_of<'a>(
     alloc: Global,
     net: &'a Net,
     injection: &Injection,
     hops: u32,
     records: &'a [Record],
+    states: &'a [SymState],
+    known: &mut Known<'_>,
 ) -> Result<Vec<Delivery<'a>>, NoMemory>
-    requires job { AreOfOneJob (network net.now) (entry injection.now) }
     requires exact { (limit : ℕ) × AreExactFor (network net.now) (entry injection.now) hops limit
         (record_trees records.now) }
+    requires states { AreStatesOf (explored (network net.now) (entry injection.now) hops) (record_trees records.now)
+        states.now }
     ensures paths { IfOk result (λ list. map seen_path list.items
         ≡ delivered_from (network net.now) (explored (network net.now) (entry injection.now) hops) 0
         (record_trees records.now)) }
@@ -49,7 +48,18 @@ pub(crate) fn deliveries_of<'a>(
     let mut list = Vec::new(alloc);
     let mut number: u64 = 0;
     for record in records {
-        if let Some(delivery) = delivery_of(alloc, net, injection, hops, number, record)? {
+        let state = state_at(states, list.len());
+        if let Some(delivery) = delivery_of(
+            alloc,
+            net,
+            injection,
+            hops,
+            number,
+            record,
+            state,
+            list.last(),
+            known,
+        )? {
             list.push(delivery)?;
         }
         let Some(next) = number.checked_add(1) else {
@@ -60,7 +70,14 @@ pub(crate) fn deliveries_of<'a>(
     Ok(list)
 }
 
-/// The delivered path that a record of this number is, if it is one.
+/// The state of this place.
+fn state_at<'a>(states: &'a [SymState], place: usize) -> Option<&'a SymState>
+    ensures { option_map (λ s. s.now) result ≡ slice_get states.now place }
+{
+    states.get(place)
+}
+
+/// The delivered path that a record of this number is, if it is one. It has this state.
 fn delivery_of<'a>(
     alloc: Global,
     net: &'a Net,
@@ -68,9 +85,13 @@ fn delivery_of<'a>(
     hops: u32,
     number: u64,
     one: &'a Record,
+    state: Option<&'a SymState>,
+    previous: Option<&Delivery<'_>>,
+    known: &mut Known<'_>,
 ) -> Result<Option<Delivery<'a>>, NoMemory>
-    requires job { AreOfOneJob (network net.now) (entry injection.now) }
     requires meaning { HasMeaning (explored (network net.now) (entry injection.now) hops) (record_tree one.now) }
+    requires state { LeadsIfDelivered (explored (network net.now) (entry injection.now) hops) (record_tree one.now)
+        (option_map (λ s. s.now) state) }
     ensures path { IfOk result (λ found. option_map seen_path found
         ≡ delivered (network net.now) (explored (network net.now) (entry injection.now) hops) number
         (record_tree one.now)) }
@@ -84,43 +105,28 @@ fn delivery_of<'a>(
             fields,
             verdict: _,
         } => {
-            let Some(state) = state_of(alloc, net, injection, hops, decisions)? else {
+            let Some(state) = state else {
                 return Ok(None);
             };
             the_tests_of_fitting_terms();
             a_condition_is_judged_by_its_trees();
             state.terms_are_typed();
-            let condition = state.condition().fork()?;
+            let condition = state.condition();
             condition.formulas_are_typed();
-            let domains = state.domains().fork()?;
+            let formulas = row_of(alloc, condition)?;
+            let marks = marks_of(alloc, previous, decisions, &formulas, known)?;
             Ok(Some(Delivery {
                 number,
                 exit: exit_of(net, places),
                 heads: &fields.heads,
                 condition,
-                domains,
+                domains: state.domains(),
+                formulas,
+                decisions,
+                marks,
             }))
         }
         _ => Ok(None),
-    }
-}
-
-/// The state to which decisions lead; None where they are not offered.
-fn state_of(
-    alloc: Global,
-    net: &Net,
-    injection: &Injection,
-    hops: u32,
-    decisions: &[Decision],
-) -> Result<Option<SymState>, NoMemory>
-    requires job { AreOfOneJob (network net.now) (entry injection.now) }
-    ensures { IfOk result (TellsState (explored (network net.now) (entry injection.now) hops) decisions.now) }
-{
-    the_first_closed_decision_is_one::<Term, Formulas>();
-    match follow(alloc, net, injection, hops, decisions) {
-        Ok(led) => Ok(Some(led.state)),
-        Err(FollowFault::Impossible { .. }) => Ok(None),
-        Err(FollowFault::NoMemory) => Err(NoMemory),
     }
 }
 

@@ -16,8 +16,8 @@ pub(crate) fn are_domains_apart(
     path: &Delivery<'_>,
     other: &Delivery<'_>,
 ) -> Result<bool, NoMemory>
-    requires path { AreDomainsOf path.now.condition path.now.domains }
-    requires other { AreDomainsOf other.now.condition other.now.domains }
+    requires path { AreDomainsOf path.now.condition.now path.now.domains.now }
+    requires other { AreDomainsOf other.now.condition.now other.now.domains.now }
     ensures { IfOk result (TellsApart (seen_path path.now) (seen_path other.now)) }
 {
     let count = path.condition.symbols().min(other.condition.symbols());
@@ -36,8 +36,8 @@ fn is_apart_at(
     other: &Delivery<'_>,
     symbol: SymId,
 ) -> Result<bool, NoMemory>
-    requires path { AreDomainsOf path.now.condition path.now.domains }
-    requires other { AreDomainsOf other.now.condition other.now.domains }
+    requires path { AreDomainsOf path.now.condition.now path.now.domains.now }
+    requires other { AreDomainsOf other.now.condition.now other.now.domains.now }
     ensures { IfOk result (λ yes. IsTrue yes → IsApartAt (seen_path path.now) (seen_path other.now) symbol) }
 {
     a_condition_is_judged_by_its_trees();

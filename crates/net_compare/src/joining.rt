@@ -3,10 +3,12 @@
 ghost use Rattle.std.specs.Prelude.{◌≡◌, IfOk, map};
 ghost use Rattle.std.specs.List.{AllByRecursion};
 ghost use Rattle.interval_solver.specs.Domains.{AreDomainsOf};
-ghost use Rattle.path_cond.specs.Seen.{AllTyped, seen};
+ghost use Rattle.path_cond.specs.Seen.{AllTyped, itself, seen};
 ghost use Rattle.path_formula.specs.Typed.{IsTyped};
 ghost use Rattle.path_formula.specs.View.{view};
-ghost use Rattle.net_compare.specs.Joining.{IsReady, denied_by, one_more, with_all_of};
+ghost use Rattle.refutation_check.specs.Longer.{with_entries};
+ghost use Rattle.net_compare.specs.Joining.{IsReady, each_with, one_more};
+ghost use Rattle.net_compare.specs.Rows.{row_seen};
 
 use interval_solver::Domains;
 use interval_solver::laws::one_formula_more_may_be_met;
@@ -40,42 +42,43 @@ pub fn with_formula(
     Ok(Decidable { condition, domains })
 }
 
-/// With these formulas, which must all be false.
-pub fn denied(alloc: Global, start: Decidable, formulas: &[Formula]) -> Result<Decidable, NoMemory>
+/// With these formulas, which must all have this truth.
+pub fn with_each(
+    alloc: Global,
+    start: Decidable,
+    formulas: &[Formula],
+    holds: bool,
+) -> Result<Decidable, NoMemory>
     requires ready { IsReady start }
     requires typed { AllByRecursion (λ f. IsTyped start.condition.widths (view f)) formulas.now }
     ensures ready { IfOk result IsReady }
-    ensures denied { IfOk result (λ next. seen view next.condition
-        ≡ denied_by (seen view start.condition) (map view formulas.now)) }
+    ensures longer { IfOk result (λ next. seen view next.condition
+        ≡ with_entries (seen view start.condition) (each_with holds (map view formulas.now))) }
 {
     let mut now = start;
     for formula in formulas {
         let copy = formula.copy(alloc)?;
-        now = with_formula(alloc, &now, copy, false)?;
+        now = with_formula(alloc, &now, copy, holds)?;
     }
     Ok(now)
 }
 
-/// With all formulas of another condition, and their truths.
-pub fn joined_with(alloc: Global, start: Decidable, other: &PathCond) -> Result<Decidable, NoMemory>
+/// With all formulas of a row, and their truths.
+pub fn with_row(
+    alloc: Global,
+    start: Decidable,
+    row: &[(&Formula, bool)],
+) -> Result<Decidable, NoMemory>
     requires ready { IsReady start }
-    requires typed { AllTyped view start.condition.widths other.now.entries }
+    requires typed { AllTyped itself start.condition.widths (row_seen row.now) }
     ensures ready { IfOk result IsReady }
-    ensures joined { IfOk result (λ next. seen view next.condition
-        ≡ with_all_of (seen view start.condition) (seen view other.now)) }
+    ensures longer { IfOk result (λ next. seen view next.condition
+        ≡ with_entries (seen view start.condition) (row_seen row.now)) }
 {
     let mut now = start;
-    for pick in 0..other.len() {
-        let Ok(at) = u32::try_from(pick) else {
-            return Err(NoMemory);
-        };
-        match other.entry(at) {
-            None => unreachable!(),
-            Some((formula, holds)) => {
-                let copy = formula.copy(alloc)?;
-                now = with_formula(alloc, &now, copy, holds)?;
-            }
-        }
+    for (formula, holds) in row {
+        let copy = formula.copy(alloc)?;
+        now = with_formula(alloc, &now, copy, *holds)?;
     }
     Ok(now)
 }

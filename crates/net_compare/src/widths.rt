@@ -41,6 +41,16 @@ fn do_match(one: &PathCond, other: &PathCond) -> bool
     true
 }
 
+/// The one of two conditions that has more symbols.
+pub(crate) fn with_more_symbols<'d>(one: &'d PathCond, other: &'d PathCond) -> &'d PathCond
+    ensures { result.now.widths ≡ longer one.now.widths other.now.widths }
+{
+    if one.symbols() < other.symbols() {
+        return other;
+    }
+    one
+}
+
 /// With the symbols of another condition, where that has more. The ones begin the others.
 #[tactic(auto, using(crate::proofs::Matched::symbols_first, crate::proofs::Matched::symbols_next, crate::proofs::Matched::symbols_end))]
 pub(crate) fn with_symbols_of(

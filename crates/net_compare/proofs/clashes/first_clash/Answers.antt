@@ -2,7 +2,8 @@ use Rattle.std.proofs.Common.{◌≡◌, ◌∙◌, ◌+◌, ◌≤◌, ℕ, ari
 use Rattle.compare_meaning.specs.Clashes.{IsFirstClash, IsFirstWith}
 use Rattle.net_compare.specs.Clashing.{numbered_path}
 use Rattle.net_compare.specs.Saying.{seen_path}
-use Rattle.net_compare.proofs.ClashLemmas.{ClashOn, first_two_here, same_there, split_mapped, take_rest}
+use Rattle.net_compare.proofs.ClashLemmas.{ClashOn, first_two_here, same_there, take_rest}
+use Rattle.net_compare.proofs.SliceLemmas.{split_mapped}
 use Rattle.net_compare.proofs.clashes.first_clash.Goals as goal
 
 pub returns-in-Some-clause-some : goal.returns-in-Some-clause-some

@@ -1,7 +1,8 @@
 use Rattle.std.proofs.Common.{◌∙◌, ◌+◌, drop, map, sym, subst, true≢false}
 use Rattle.net_compare.specs.Clashing.{numbered_path}
 use Rattle.net_compare.specs.Saying.{seen_path}
-use Rattle.net_compare.proofs.ClashLemmas.{FitsOn, fits_on_next, split_mapped}
+use Rattle.net_compare.proofs.ClashLemmas.{FitsOn, fits_on_next}
+use Rattle.net_compare.proofs.SliceLemmas.{split_mapped}
 use Rattle.net_compare.proofs.clashes.first_with.Goals as goal
 
 pub loop-number-preserved : goal.loop-number-preserved

@@ -9,7 +9,7 @@ use Rattle.net_compare.specs.Facings.{TellsFacing}
 use Rattle.net_compare.specs.Saying.{seen_path}
 use Rattle.net_compare.specs.declared.delivery.Delivery.{Delivery}
 use Rattle.net_compare.specs.declared.joining.Decidable.{Decidable}
-use Rattle.net_compare.proofs.ClashLemmas.{split_mapped}
+use Rattle.net_compare.proofs.SliceLemmas.{split_mapped}
 use Rattle.net_compare.proofs.FacedSoFar.{SoFar, miss_end, so_far_first, so_far_past, so_far_with, symbols_agree, typed_end, typed_paths}
 use Rattle.net_compare.proofs.facing.facing_formulas.Goals.{then-branch+in_ok-start-2+in_ok-facing_formula+in_ok-push, else-branch}
 use Rattle.net_compare.proofs.facing.facing_formulas.Goals as goal
@@ -77,5 +77,6 @@ returns c =
     let own = c.requires.sound.typed in (
       so.ready,
       typed_end p all c.miss_conditions_are_typed.ensures own start formulas so,
+      so.entries,
       miss_end p all c.miss_conditions_are_typed.ensures own start formulas so,
     )

@@ -1,4 +1,4 @@
-use Rattle.std.proofs.Common.{◌∙◌, ◌++◌, Some, length, map, ap, refl, sym, subst}
+use Rattle.std.proofs.Common.{◌≡◌, ◌∙◌, ◌++◌, Some, length, map, ap, refl, sym, subst}
 use Rattle.net_check.specs.Network.{entry, network}
 use Rattle.compare_meaning.specs.Clashes.{IsFirstClash, NoneClash}
 use Rattle.compare_meaning.specs.Comparing.{IsKnown}
@@ -8,35 +8,41 @@ use Rattle.net_compare.proofs.ClashLemmas.{unshifted}
 use Rattle.net_compare.proofs.NetLemmas.{answered, both_are}
 use Rattle.net_compare.proofs.nets.compare.Goals as goal
 
+pub paths_of-requires-clause-exact : goal.paths_of-requires-clause-exact
+paths_of-requires-clause-exact c = (c.requires.left.limit, c.requires.left.exact)
+
+pub paths_of-others-requires-clause-exact : goal.paths_of-others-requires-clause-exact
+paths_of-others-requires-clause-exact c = (c.requires.right.limit, c.requires.right.exact)
+
 pub returns-in-Some : goal.returns-in-Some
 returns-in-Some c =
     let lefts = map seen_path c.deref.result.now in
     let rights = map seen_path c.deref-2.result.now in
-    let left = ap (map seen_path) c.deref.ensures.value ∙ c.in_ok-lefts.ensures.paths in
-    let right = ap (map seen_path) c.deref-2.ensures.value ∙ c.in_ok-rights.ensures.paths in
-    let n = length c.args.left_records.now in
+    let left = ap (map seen_path) c.deref.ensures.value ∙ c.in_ok-own.ensures.paths in
+    let right = ap (map seen_path) c.deref-2.ensures.value ∙ c.in_ok-others.ensures.paths in
+    let n = length c.args.lefts.now.records.items in
     let clash : TellsClash (lefts ++ map (shifted n) rights) (Some (c.in-Some.one, c.in-Some.other)) =
     subst (TellsClash (lefts ++ map (shifted n) rights)) c.in-Some.is c.in_ok-one.ensures in (
       c.same_injection.ensures.0 c.if-not-same_injection.false,
       subst (λ ps. IsFirstClash ps c.in-Some.one c.in-Some.other)
           (both_are c.args.hops (network c.args.left.now.net) (network c.args.right.now.net) (entry c.args.left.now.injection) (entry c.args.right.now.injection)
-          c.args.left_records.now c.args.right_records.now lefts rights left right n refl) clash,
+          c.args.lefts.now.records.items c.args.rights.now.records.items lefts rights left right n refl) clash,
     )
 
 pub compare_paths-requires-clause-none : goal.compare_paths-requires-clause-none
 compare_paths-requires-clause-none c =
     let lefts = map seen_path c.deref.result.now in
     let rights = map seen_path c.deref-2.result.now in
-    let n = length c.args.left_records.now in
+    let n = length c.args.lefts.now.records.items in
     let none : NoneClash (lefts ++ map (shifted n) rights) = subst (TellsClash (lefts ++ map (shifted n) rights)) c.in_default.is c.in_ok-one.ensures in
     subst (λ ls. NoneClash (map seen_path ls ++ map seen_path c.deref-4.result.now)) (c.deref.ensures.value ∙ sym c.deref-3.ensures.value)
     (subst (λ rs. NoneClash (lefts ++ map seen_path rs)) (c.deref-2.ensures.value ∙ sym c.deref-4.ensures.value) (unshifted n lefts rights none))
 
 pub returns : goal.returns
 returns c =
-    let lefts = map seen_path c.in_ok-lefts.lefts.items in
-    let rights = map seen_path c.in_ok-rights.rights.items in
-    let n = length c.args.left_records.now in
+    let lefts = map seen_path c.in_ok-own.own.items in
+    let rights = map seen_path c.in_ok-others.others.items in
+    let n = length c.args.lefts.now.records.items in
     let answer = compared_seen c.in_ok-compared.compared in
     let told = subst (TellsClash (map seen_path c.deref.result.now ++ map (shifted n) (map seen_path c.deref-2.result.now))) c.in_default.is c.in_ok-one.ensures in
     let none : NoneClash (lefts ++ map (shifted n) rights) =
@@ -46,6 +52,6 @@ returns c =
     subst (λ ls. IsKnown (map seen_path ls) rights answer) c.deref-3.ensures.value
     (subst (λ rs. IsKnown (map seen_path c.deref-3.result.now) (map seen_path rs) answer) c.deref-4.ensures.value c.in_ok-compared.ensures) in
     answered c.args.hops (network c.args.left.now.net) (network c.args.right.now.net) (entry c.args.left.now.injection) (entry c.args.right.now.injection)
-    c.args.left_records.now c.args.right_records.now lefts rights c.in_ok-lefts.ensures.paths c.in_ok-rights.ensures.paths
+    c.args.lefts.now.records.items c.args.rights.now.records.items lefts rights c.in_ok-own.ensures.paths c.in_ok-others.ensures.paths
     (c.known_comparisons_are_right.ensures c.args.hops) c.what_is_known_is_the_comparison.ensures (c.same_injection.ensures.0 c.if-not-same_injection.false)
     c.requires.left c.requires.right n refl none answer known
