@@ -4,7 +4,7 @@ use command_edge::InputFault;
 use command_runs::{JobFile, Source};
 use command_words::{Command, reading};
 use sn_edge::{Folder, Patterns};
-use std::alloc::Global;
+use std::alloc::{AllocError, Global};
 
 /// The files of the jobs that a command reads: the first, and a second one.
 fn jobs_of(command: Command<'_>) -> Option<(&str, Option<&str>)> {
@@ -25,10 +25,10 @@ fn jobs_of(command: Command<'_>) -> Option<(&str, Option<&str>)> {
 }
 
 /// Whether the words name a job.
-pub(crate) fn names_job(alloc: Global, words: &[String]) -> bool {
-    match reading(alloc, words) {
-        Ok(Some(command)) => jobs_of(command).is_some(),
-        _ => false,
+pub(crate) fn names_job(alloc: Global, words: &[String]) -> Result<bool, AllocError> {
+    match reading(alloc, words)? {
+        Some(command) => Ok(jobs_of(command).is_some()),
+        None => Ok(false),
     }
 }
 

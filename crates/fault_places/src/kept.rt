@@ -19,7 +19,15 @@ struct KeptFile {
 #[derive(Drop)]
 pub struct KeepingFolder<F> {
     folder: F,
+    kept: Kept,
+}
+
+/// The files that are kept.
+#[derive(Drop)]
+struct Kept {
     files: Vec<KeptFile>,
+    /// The bytes of all of them.
+    size: usize,
 }
 
 impl<F: Drop> KeepingFolder<F> {
@@ -27,15 +35,21 @@ impl<F: Drop> KeepingFolder<F> {
     pub fn new(alloc: Global, folder: F) -> KeepingFolder<F> {
         KeepingFolder {
             folder,
-            files: Vec::new(alloc),
+            kept: Kept {
+                files: Vec::new(alloc),
+                size: 0,
+            },
         }
     }
 
     /// What was kept.
     pub fn kept(self) -> KeptFolder {
-        let KeepingFolder { folder, files } = self;
+        let KeepingFolder { folder, kept } = self;
         drop(folder);
-        KeptFolder { files, next: 0 }
+        KeptFolder {
+            files: kept.files,
+            next: 0,
+        }
     }
 }
 
@@ -46,42 +60,40 @@ impl<F: Folder> Folder for KeepingFolder<F> {
 
     fn load(&mut self, alloc: Global, name: &str, limit: u64) -> Loaded {
         let answer = self.folder.load(alloc, name, limit);
-        keep(alloc, &mut self.files, name, &answer);
+        keep(alloc, &mut self.kept, name, &answer);
         answer
     }
 }
 
 /// Keeps the file, where one was loaded. A file that is longer than all that is kept, and one for which there is no memory, is not kept.
-fn keep(alloc: Global, files: &mut Vec<KeptFile>, name: &str, answer: &Loaded) {
+fn keep(alloc: Global, kept: &mut Kept, name: &str, answer: &Loaded) {
     let Loaded::Bytes(bytes) = answer else {
         return;
     };
     if bytes.len() <= MOST_KEPT {
-        let _ = keep_bytes(alloc, files, name, bytes);
+        let _ = keep_bytes(alloc, kept, name, bytes);
     }
 }
 
-fn keep_bytes(
-    alloc: Global,
-    files: &mut Vec<KeptFile>,
-    name: &str,
-    bytes: &[u8],
-) -> Result<(), AllocError> {
-    if MOST_KEPT < size_of_all(files).saturating_add(bytes.len()) {
-        files.truncate(1);
+fn keep_bytes(alloc: Global, kept: &mut Kept, name: &str, bytes: &[u8]) -> Result<(), AllocError> {
+    if MOST_KEPT < kept.size.saturating_add(bytes.len()) {
+        forget_behind_first(kept);
     }
     let name = String::from_str(alloc, name)?;
+    let size = kept.size.saturating_add(bytes.len());
     let bytes = bytes.to_vec(alloc)?;
-    files.push(KeptFile { name, bytes })?;
+    kept.files.push(KeptFile { name, bytes })?;
+    kept.size = size;
     Ok(())
 }
 
-fn size_of_all(files: &[KeptFile]) -> usize {
-    let mut size = 0usize;
-    for file in files {
-        size = size.saturating_add(file.bytes.len());
-    }
-    size
+/// Keeps the first file alone.
+fn forget_behind_first(kept: &mut Kept) {
+    kept.files.truncate(1);
+    kept.size = match kept.files.first() {
+        Some(file) => file.bytes.len(),
+        None => 0,
+    };
 }
 
 /// The files that were kept, in the order in which they were loaded. It opens nothing.

@@ -18,6 +18,6 @@ pub use kept::{KeepingFolder, KeptFolder};
 pub use line::{indent_of, line_of};
 pub use number::{behind_node, own_number};
 pub use place::{item_number, place_text, statement_at};
-pub use plain::{is_plain, plain_text};
+pub use plain::{is_plain, plain_text, plain_word};
 pub use stage::Sought;
 pub use statement::statement_start;

@@ -111,7 +111,8 @@ fn table_text<F: Folder>(
     folder: &mut F,
 ) -> Option<Vec<u8>> {
     let text = line_text(alloc, name, line, folder)?;
-    if !names_job(alloc, words) || is_within(name) {
+    let is_of_job = names_job(alloc, words).ok()?;
+    if !is_of_job || is_within(name) {
         return Some(text);
     }
     place_alone(alloc, &text)

@@ -1,4 +1,5 @@
-//! The text of a status as a terminal may show it: a name in it may hold whatever the system allows in the name of a file.
+//! Texts as a terminal may show them: a name in a status may hold whatever the system allows in the name of a file, and a word of the command
+//! line whatever was typed.
 
 use command_runs::Status;
 use std::alloc::{AllocError, Global};
@@ -33,12 +34,35 @@ pub fn is_plain(status: &Status) -> bool {
     }
 }
 
-/// The text of the status, with a question mark for each other character.
-pub fn plain_text(alloc: Global, status: &Status) -> Result<String, AllocError> {
-    let text = status.to_string(alloc)?;
+/// The text with a question mark for each other character.
+fn shown(alloc: Global, text: &str) -> Result<String, AllocError> {
     let mut plain = String::new(alloc);
     for letter in text.chars() {
         plain.push(if is_unseen(letter) { '?' } else { letter })?;
+    }
+    Ok(plain)
+}
+
+/// The text of the status, with a question mark for each other character.
+pub fn plain_text(alloc: Global, status: &Status) -> Result<String, AllocError> {
+    let text = status.to_string(alloc)?;
+    shown(alloc, text.as_str())
+}
+
+/// The most characters of a word of the command line that are shown.
+const MOST_LETTERS: usize = 100;
+
+/// A word of the command line, with a question mark for each other character; of a long one its beginning and `..`.
+pub fn plain_word(alloc: Global, word: &str) -> Result<String, AllocError> {
+    let mut plain = String::new(alloc);
+    let mut count: usize = 0;
+    for letter in word.chars() {
+        if MOST_LETTERS <= count {
+            plain.push_str("..")?;
+            return Ok(plain);
+        }
+        plain.push(if is_unseen(letter) { '?' } else { letter })?;
+        count = count.saturating_add(1);
     }
     Ok(plain)
 }

@@ -2,7 +2,8 @@
 
 use crate::probe::{PROBES, Probe};
 use sefl_grammar::{Finding, examine};
-use sefl_lex::{Token, tokens};
+use sefl_lex::{LexFault, Token, tokens};
+use sn_width::NoMemory;
 use std::alloc::{AllocError, Global};
 
 /// The most bytes of a text for which this is looked for: the text is read again for each word that is tried.
@@ -29,24 +30,27 @@ fn with_word(alloc: Global, bytes: &[u8], word: &str) -> Result<Vec<u8>, AllocEr
     Ok(out)
 }
 
-/// The number of the first token that no job has there; None where there is none.
-fn first_unexpected(alloc: Global, bytes: &[u8]) -> Option<usize> {
-    let text = str::from_utf8(bytes).ok()?;
-    let tokens = tokens(alloc, text).ok()?;
-    match examine(alloc, text, &tokens) {
-        Ok(Finding::Unexpected { place }) => Some(place),
-        _ => None,
+/// The number of the first token of a text that no job has there; None where there is none, and where the text has no tokens.
+fn first_unexpected(alloc: Global, text: &str) -> Result<Option<usize>, NoMemory> {
+    match tokens(alloc, text) {
+        Ok(tokens) => match examine(alloc, text, &tokens)? {
+            Finding::Unexpected { place } => Ok(Some(place)),
+            _ => Ok(None),
+        },
+        Err(LexFault::NoMemory) => Err(NoMemory),
+        Err(_) => Ok(None),
     }
 }
 
 /// Whether a word may stand behind the bytes, as the token of this number.
-fn may_stand(alloc: Global, bytes: &[u8], place: usize, word: &str) -> bool {
-    let Ok(tried) = with_word(alloc, bytes, word) else {
-        return false;
+fn may_stand(alloc: Global, bytes: &[u8], place: usize, word: &str) -> Result<bool, NoMemory> {
+    let tried = with_word(alloc, bytes, word)?;
+    let Ok(text) = str::from_utf8(&tried) else {
+        return Ok(true);
     };
-    match first_unexpected(alloc, &tried) {
-        Some(found) => place < found,
-        None => true,
+    match first_unexpected(alloc, text)? {
+        Some(found) => Ok(place < found),
+        None => Ok(true),
     }
 }
 
@@ -63,11 +67,11 @@ fn put_probe(out: &mut Vec<String>, alloc: Global, probe: Probe) -> Result<(), A
 }
 
 /// What may stand behind the bytes, as the token of this number.
-fn all_expected(alloc: Global, bytes: &[u8], place: usize) -> Result<Vec<String>, AllocError> {
+fn all_expected(alloc: Global, bytes: &[u8], place: usize) -> Result<Vec<String>, NoMemory> {
     let mut out = Vec::new(alloc);
     let mut shown = 0;
     for probe in PROBES {
-        if shown & probe.3 == 0 && may_stand(alloc, bytes, place, probe.0) {
+        if shown & probe.3 == 0 && may_stand(alloc, bytes, place, probe.0)? {
             shown |= probe.2;
             put_probe(&mut out, alloc, *probe)?;
         }
@@ -96,19 +100,26 @@ fn joined(alloc: Global, words: &[String]) -> Result<String, AllocError> {
     Ok(out)
 }
 
-/// What may stand where the words of a job's text leave the grammar. None where the text is a job's, or too large to look.
-pub(crate) fn expected_text(alloc: Global, bytes: &[u8]) -> Option<String> {
+/// What may stand where the words of a job's text leave the grammar. None where the text is a job's, or too large to look. After an `Err` nothing is
+/// known: a word that was not tried for want of memory is not one that may not stand there.
+pub(crate) fn expected_text(alloc: Global, bytes: &[u8]) -> Result<Option<String>, NoMemory> {
     if MOST_BYTES < bytes.len() {
-        return None;
+        return Ok(None);
     }
-    let text = str::from_utf8(bytes).ok()?;
-    let tokens = tokens(alloc, text).ok()?;
-    let Ok(Finding::Unexpected { place }) = examine(alloc, text, &tokens) else {
-        return None;
+    let Ok(text) = str::from_utf8(bytes) else {
+        return Ok(None);
     };
-    let words = all_expected(alloc, before(bytes, &tokens, place), place).ok()?;
+    let tokens = match tokens(alloc, text) {
+        Ok(tokens) => tokens,
+        Err(LexFault::NoMemory) => return Err(NoMemory),
+        Err(_) => return Ok(None),
+    };
+    let Finding::Unexpected { place } = examine(alloc, text, &tokens)? else {
+        return Ok(None);
+    };
+    let words = all_expected(alloc, before(bytes, &tokens, place), place)?;
     if words.is_empty() {
-        return None;
+        return Ok(None);
     }
-    joined(alloc, &words).ok()
+    Ok(Some(joined(alloc, &words)?))
 }

@@ -14,6 +14,7 @@ use fault_places::{Sought, blamed_job, item_number, statement_at};
 use sefl_lex::tokens;
 use sefl_syntax::NodeDecl;
 use sn_edge::{Folder, Patterns};
+use sn_width::NoMemory;
 use std::alloc::Global;
 
 fn fixed(alloc: Global, text: Option<&'static str>) -> Option<String> {
@@ -50,9 +51,13 @@ fn expected_in<F: Folder, P: Patterns>(
     words: &[String],
     folder: &mut F,
     patterns: &mut P,
-) -> Option<String> {
-    let job = blamed_job(alloc, words, folder, patterns)?;
-    let bytes = load_text(alloc, job, folder).ok()?;
+) -> Result<Option<String>, NoMemory> {
+    let Some(job) = blamed_job(alloc, words, folder, patterns) else {
+        return Ok(None);
+    };
+    let Ok(bytes) = load_text(alloc, job, folder) else {
+        return Ok(None);
+    };
     expected_text(alloc, &bytes)
 }
 
@@ -84,8 +89,9 @@ pub fn reason_text<F: Folder, P: Patterns>(
             None => absent_word_text(alloc),
         },
         Status::Syntax { kind: 5, .. } => match expected_in(alloc, words, folder, patterns) {
-            Some(text) => Some(text),
-            None => fixed(alloc, of_syntax(5)),
+            Ok(Some(text)) => Some(text),
+            Ok(None) => fixed(alloc, of_syntax(5)),
+            Err(NoMemory) => None,
         },
         Status::Syntax { kind, .. } => fixed(alloc, of_syntax(*kind)),
         Status::Refused { site, kind: 3 } => match port_in(alloc, words, site.0, folder, patterns) {

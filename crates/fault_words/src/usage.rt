@@ -1,6 +1,7 @@
 //! What is said of words that have no reading.
 
 use crate::wrong::wrong_word;
+use fault_places::plain_word;
 use std::alloc::{AllocError, Global};
 
 /// The commands, with their options and what these are where they are not given.
@@ -29,7 +30,8 @@ options stand anywhere behind the command, also as --hops=N; behind -- all words
 pub(crate) fn usage_text(alloc: Global, words: &[String]) -> Result<String, AllocError> {
     match wrong_word(words) {
         Some(wrong) => {
-            let (word, what, why) = (wrong.word, wrong.what, wrong.why);
+            let (what, why) = (wrong.what, wrong.why);
+            let word = plain_word(alloc, wrong.word)?;
             format!(in alloc; "`{word}`: {what}{why}\n{FORMS}")
         }
         None => String::from_str(alloc, FORMS),

@@ -45,6 +45,14 @@ fn status_without_words(error: &io::Error) -> Status {
     }
 }
 
+/// Shows why there are no words: where memory has not ended, one of them is no text.
+fn show_unread<R: Eprint>(rt: &R, status: &Status) -> io::Result<()> {
+    match status {
+        Status::Usage => rt.eprintln("a word is no UTF-8"),
+        _ => Ok(()),
+    }
+}
+
 /// Shows a status on standard error. One with a name that a terminal may not be shown as it is, and no memory to change that, is not shown.
 fn show_named<R: Eprint + AllocGlobal>(rt: &R, status: &Status) -> io::Result<()> {
     if is_plain(status) {
@@ -108,6 +116,7 @@ fn run_and_show<R: Env + Files + Print + Eprint + AllocGlobal>(rt: &R) -> Status
         Err(error) => {
             let status = status_without_words(&error);
             let _ = show(rt, &status);
+            let _ = show_unread(rt, &status);
             status
         }
     }
