@@ -77,14 +77,7 @@ pub fn compare<'c>(
         return Err(CompareFault::OtherInjection);
     }
     let mut nothing = Known::nothing(alloc);
-    let own = paths_of(
-        alloc,
-        &left.net,
-        &left.injection,
-        hops,
-        lefts,
-        &mut nothing,
-    )?;
+    let own = paths_of(alloc, &left.net, &left.injection, hops, lefts, &mut nothing)?;
     let mut known = Known::of(alloc, own.as_slice())?;
     let others = paths_of(
         alloc,
