@@ -13,8 +13,8 @@ pub returns : goal.returns
 returns c =
     let qs = map seen_path c.args.others.now in
     let p = seen_path c.args.path.now in
-    let start = c.in_ok-start.start.condition in
-    let fs = c.in_ok-start.formulas.items in
+    let start = c.in_ok-start.field-0.start.condition in
+    let fs = c.in_ok-start.field-0.formulas.items in
     let denied = denied_by (seen view start) (map view fs) in
     let longer : seen view c.in_ok-longer.longer.condition ≡ denied =
     c.in_ok-longer.ensures.longer ∙ (ap (λ (xs : List Formula). with_entries (seen view start) (each_with false (map view xs))) c.deref-2.ensures.value ∙ with_denied (seen view start) (map view fs)) in
