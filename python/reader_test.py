@@ -335,7 +335,8 @@ def documented():
             found = PIPED.fullmatch(line)
             if found:
                 end = next(below for below in range(at + 1, len(lines) + 1) if below == len(lines) or (lines[below] and not lines[below].startswith("    ")) or "symnet " in lines[below])
-                yield page, found[1].split(), found[2].split(), [it[4:] for it in lines[at + 1:end] if it.strip() not in ("", "..")]
+                # results of tests are not written by a test
+                yield page, found[1].split(), re.sub(r"--junit \S+", "", found[2]).split(), [it[4:] for it in lines[at + 1:end] if it.strip() not in ("", "..")]
 
 
 def check_documents(expect):

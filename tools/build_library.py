@@ -12,7 +12,11 @@ How --unproved works: `rt try` compiles a program with no proof and with checks 
 `main` that calls it, as far as the module that goes to the kit's clang; takes the checks out; and compiles and links the module as a library.
 """
 
+import contextlib
+import fcntl
+import os
 import shutil
+import signal
 import subprocess
 import sys
 import tempfile
@@ -87,10 +91,25 @@ def for_callers(lines):
         raise Stop(f"the module has no {INNER}: this kit names functions in another way")
 
 
+@contextlib.contextmanager
+def alone():
+    """Waits until no other build without a proof is at work here, and removes what one left that was killed."""
+    folder = os.open(OUT, os.O_RDONLY)
+    try:
+        fcntl.flock(folder, fcntl.LOCK_EX)
+        for it in OUT.glob("unproved-*"):
+            shutil.rmtree(it, ignore_errors=True)
+        yield
+    finally:
+        os.close(folder)
+
+
 def unproved():
     """Makes the library of a module that was made without a proof."""
+    for it in (signal.SIGINT, signal.SIGTERM, signal.SIGHUP):
+        signal.signal(it, build_program.interrupted)
     started, rattle = time.monotonic(), kit()
-    with tempfile.TemporaryDirectory(prefix="unproved-", dir=OUT) as room:
+    with alone(), tempfile.TemporaryDirectory(prefix="unproved-", dir=OUT) as room:
         work = Path(room)
         module, text, ready, code = (work / it for it in ("kept.bc", "module.ll", "ready.ll", "module.o"))
         keep_unproved(rattle, CRATE, as_program(work), work, module)

@@ -5,6 +5,7 @@ Each case is a name, a function that runs the program in a folder, and what come
 written is the text or a beginning of it.
 """
 
+import functools
 import os
 import resource
 import signal
@@ -23,6 +24,8 @@ NO_OUTPUT = b"symnet: cannot write\n"
 NO_MEMORY = b"symnet: out of memory\n"
 # The seconds after which a run that does not end is wrong, on the slowest machine.
 SECONDS = 300
+# The most bytes of a file, and of a report.
+JOB, LONG_REPORT = 67_108_864, 268_435_456
 # A job with a file of a table, and the table.
 NAMED = "symnet 2;\nnode sw = mac \"{}\" chain;\ninject sw.0 {{ tag L2 = 0; field head L2+0:48; }}\n"
 SECRET = b"root:secret:1\n"
@@ -123,6 +126,56 @@ def too_long(words, name, most, **files):
     return case
 
 
+@functools.cache
+def long_files():
+    """A folder for long files, which goes with this process."""
+    return tempfile.TemporaryDirectory()
+
+
+@functools.cache
+def filled(fill):
+    """A file of 64 MiB that is filled so."""
+    place = Path(long_files().name, fill.hex())
+    with open(place, "wb") as file:
+        for _ in range(JOB >> 20):
+            file.write(fill * ((1 << 20) // len(fill)))
+    return place
+
+
+# The bytes of a page of a terminal: what is shown of a fault, with the place and the words for people.
+PAGE = 1_500
+
+
+def one_line(words, name, fill, status):
+    """A file of 64 MiB that is one line: what is shown of it is short and plain, and it takes four times its size at most."""
+    def case(program, folder):
+        written(folder, ttl=TTL.read_bytes(), list=b"permit any 0.0.0.0/0 0.0.0.0/0 any any\n")
+        (folder / name).symlink_to(filled(fill))
+        ran = run(program, folder, words.split(), preexec_fn=limited(resource.RLIMIT_AS, 4 * JOB))
+        is_plain = all(it == b"\n"[0] or 0x20 <= it < 0x7f for it in ran.error)
+        return ran.status == status and is_plain and len(ran.error) < PAGE, ran
+    return case
+
+
+# The words, the file that is long, and how the run ends where it is a line of letters, of control characters, of bytes that are no UTF-8, and of a comment; what is not tried is
+# read by what reads another one.
+LINES = (
+    ("explore job", "job", 7, 7, 7, 7), ("ask job", "job", 7), ("loops job", "job", 7), ("compare job ttl", "job", 7), ("compare ttl job", "job", 7), ("walk job packet", "job", 7),
+    ("replay job report", "job", 7), ("walk ttl packet", "packet", 11, 11, 11, 11), ("replay ttl report", "report", 14, 14, 14, 14), ("model mac table", "table", 10),
+    ("model fib table", "table", 10, 10, 10, 10), ("model click table", "table", 10, 10, 10, 0), ("model acl table", "table", 10), ("rules table", "table", 10, 10, 10, 0),
+    ("rules table list", "table", 10), ("rules list table", "table", 10),
+)
+FILLS = (("letters", b"x"), ("control characters", b"\x1b"), ("no UTF-8", b"\xff"), ("a comment", b"#"))
+
+
+def long_lines():
+    for words, name, *statuses in LINES:
+        for (what, fill), status in zip(FILLS, statuses):
+            # (a comment of a Click configuration begins with two bytes, and so does that of a job, which is no job then)
+            given = b"//" if fill == b"#" and ("click" in words or name == "job") else fill
+            yield f"{words}: 64 MiB of {what} in one line", one_line(words, name, given, status)
+
+
 # ---- outputs
 
 
@@ -221,8 +274,6 @@ PROGRAM = 32 << 20
 # A stack that serves a job with no pattern whose code and conditions are nested little, and one that serves every job.
 STACK, DEEP_STACK = 64 << 10, 512 << 10
 
-JOB, LONG_REPORT = 67_108_864, 268_435_456
-
 CASES = {
     "a refused job through a named pipe": fifo,
     "a folder as a job": folder_as(["explore", "dir"]),
@@ -262,6 +313,7 @@ CASES = {
     "a stack for nested brackets": nested("constrain " + "[" * 62 + "head L3+64:8 <= 1" + "]" * 62 + "; forward 0;"),
     "a stack for negations": nested("constrain " + "not " * 60 + "head L3+64:8 <= 1; forward 0;"),
     "a stack for nested blocks": nested("{ " * 62 + "forward 0;" + " }" * 62),
+    **dict(long_lines()),
     "a stack for a nested pattern": nested('allocate global abc:8; for n in "' + "[" * 200 + "a" + "]" * 200 + '" { noop; } forward 0;'),
 }
 

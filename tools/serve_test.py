@@ -26,7 +26,7 @@ case "$1" in
   sleep) echo $$ > "$MARK/$2"; exec sleep 60 ;;
   much) yes | head -c 4000000 ;;
   bytes) printf 'caf\\303\\251 \\377 "\\n' ; echo said >&2; exit 7 ;;
-  *) cat "$2" ;;
+  *) cat -- "$2" ;;
 esac
 """
 WAIT = 20
@@ -109,6 +109,26 @@ def check_refused(expect, asker):
             ("a word past the system's limit", json.dumps({"words": ["a" * 200000], "files": {}}), "does not take"), ("a word that is no text", json.dumps({"words": ["\ud800"], "files": {}}), "does not take")):
         status, text, _ = asker.ask("POST", f"{asker.path}1/run", body.encode("latin-1"))
         expect(f"serve: {what}", (status, part in text), (400, True))
+
+
+# Names that a file on the desk may have, and that stay in the folder of a run.
+NAMES = ("-x", "--hops", "a b", "a\nb", "a\tb", "\x1b[31m", "\u202efdp.exe", "<img src=x onerror=alert(1)>", "'; rm -rf . #", "$(touch x)", "`touch x`", "*", "?", "~", "..a", "a..", "...", "a/b", "./a", "a//b", "a/./b",
+         "caf\u00e9", "\U0001f600", "con", "a:b", "a\\b", "%2e%2e", "&amp;", '"', "n" * 255, "d/" * 100 + "a")
+# Names that lead out of it, or that no file can have.
+NO_NAMES = ("..", "../a", "a/..", "a/../../b", "/a", "//a", "a\0b", ".", "./", "n" * 256, "\u00e9" * 128, "d/" * 3000 + "a")
+
+
+def check_names(expect, asker, room):
+    """Files of hostile names: each is given to the program as it is, or refused, and nothing is written outside of the run's folder."""
+    kept, tempfile.tempdir = tempfile.tempdir, str(room)
+    for name in NAMES:
+        expect(f"serve: a file of the name {name[:40]!r}", asker.run("1", "show", name, files={name: "text"}), (200, {"status": 0, "output": "text", "error": ""}))
+    for name in NO_NAMES:
+        status, text = asker.run("1", "show", "a", files={name: "text"})
+        expect(f"serve: no file of the name {name[:40]!r}", (status, "leads out" in text or "no file can have" in text), (400, True))
+    expect("serve: all these names at once", asker.run("1", "show", "a b", files={name: "text" for name in NAMES if name not in ("a/b", "a//b", "a/./b", "./a")})[1]["output"], "text")
+    tempfile.tempdir = kept
+    expect("serve: nothing else is written", (list(room.rglob("*")), sorted(it.name for it in room.parent.iterdir())), ([], ["marks", "program", "room"]))
 
 
 def check_written(expect, asker):
@@ -216,6 +236,7 @@ def check(expect):
         try:
             check_asked(expect, server, asker)
             check_refused(expect, asker)
+            check_names(expect, asker, room)
             check_written(expect, asker)
             check_ends(expect, server, asker, marks)
             check_connections(expect, serve, server, asker)

@@ -1,9 +1,9 @@
 #!/usr/bin/env python3
 """Reads what symnet writes into plain objects, and prints it for people.
 
-    tools/symnet_report.py WRITTEN [FILE ..] [--pruned]
+    tools/symnet_report.py WRITTEN [FILE ..] [OPTION ..]
 
-The reader is the module `symnet.report` of the package in python/, whose head says the words; nothing has to be installed or built for it.
+The reader is the module `symnet.report` of the package in python/, whose head says the words, as --help does; nothing has to be installed or built for it.
 """
 
 import signal

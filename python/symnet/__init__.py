@@ -13,6 +13,7 @@ from types import ModuleType
 
 from .answers import Answer, Compared, ComparedRules, Fate, ListSide, Loops, NotAnswer, Part, Visit
 from .commands import Asked, Confirmed, Grown, Rules, ask, compare, compare_rules, explore, grow, loops, model, replay, rules, run, walk
+from .expected import NotExpected, Unmet, expect
 from .inputs import NotInput
 from .jobs import Net
 from .library import Ended, NotBuilt
@@ -22,7 +23,7 @@ from .records import Cell, Fields, NotReport, Path, Pruned, Report, Unexplored
 from .sefl import canonical
 
 __all__ = ["Answer", "Asked", "Cell", "Compared", "ComparedRules", "Confirmed", "Ended", "Fate", "Fields", "Grown", "ListSide", "Loops", "Net", "NotAnswer", "NotBuilt",
-           "NotInput", "NotReport", "Packet", "Part", "Path", "Pruned", "Refusal", "Report", "Rules", "Unexplored", "Visit", "ask", "canonical", "compare", "compare_rules", "explore", "grow",
+           "NotExpected", "NotInput", "NotReport", "Packet", "Part", "Path", "Pruned", "Refusal", "Report", "Rules", "Unexplored", "Unmet", "Visit", "ask", "canonical", "compare", "compare_rules", "expect", "explore", "grow",
            "loops", "model", "replay", "rules", "run", "walk"]
 
 

@@ -44,26 +44,30 @@ def place_of(question: str) -> str:
 
 
 def asked_lines(answers: Sequence[Answer], job: Optional[Job], why: Optional[Callable[[Sequence[int]], List[str]]] = None, ways: Optional[Ways] = None) -> List[str]:
+    """What is said of all answers, one after another."""
+    return [line for lines in asked_parts(answers, job, why, ways) for line in lines]
+
+
+def asked_parts(answers: Sequence[Answer], job: Optional[Job], why: Optional[Callable[[Sequence[int]], List[str]]] = None, ways: Optional[Ways] = None) -> List[List[str]]:
     """Each question of the job with its text, its answer, the packet that shows it and its way, where `ways` tells the paths of it; below an unknown one what `why`
-    says of the records that leave it open."""
+    says of the records that leave it open. A list of lines for each."""
     if job is not None and len(job.asks) != len(answers):
         raise NotAnswer(f"the job has {_plural(len(job.asks), 'question', 'questions')}, and the answer {len(answers)}: it is of another job")
-    lines = []
-    for number, answer in enumerate(answers):
-        lines.append(f"question {number}" if job is None else f"question {number}: {code_text(job.asks[number].text)}")
-        if job is not None:
-            raw, note = job.asks[number].text, job.asks[number].note
-            lines += [f"  {note}"] if note else []
-            lines += [f"  {raw}"] if raw != code_text(raw) else []
-        if answer.answer == "unknown":
-            lines.append(f"  unknown: left open by {_records(answer.open)}")
-            lines += [f"    {line}" for line in ([HINT] if why is None else why(answer.open))]
-        elif answer.number is None:
-            lines.append(f"  {answer.answer}")
-        else:
-            _fits(answer.values, job)
-            lines += [f"  {answer.answer}, shown by record {answer.number} with the packet", *_shown_lines(answer.number, answer.values, job, number, ways)]
-    return lines
+    return [_asked_lines(number, answer, job, why, ways) for number, answer in enumerate(answers)]
+
+
+def _asked_lines(number: int, answer: Answer, job: Optional[Job], why: Optional[Callable[[Sequence[int]], List[str]]], ways: Optional[Ways]) -> List[str]:
+    lines = [f"question {number}" if job is None else f"question {number}: {code_text(job.asks[number].text)}"]
+    if job is not None:
+        raw, note = job.asks[number].text, job.asks[number].note
+        lines += [f"  {note}"] if note else []
+        lines += [f"  {raw}"] if raw != code_text(raw) else []
+    if answer.answer == "unknown":
+        return [*lines, f"  unknown: left open by {_records(answer.open)}", *(f"    {line}" for line in ([HINT] if why is None else why(answer.open)))]
+    if answer.number is None:
+        return [*lines, f"  {answer.answer}"]
+    _fits(answer.values, job)
+    return [*lines, f"  {answer.answer}, shown by record {answer.number} with the packet", *_shown_lines(answer.number, answer.values, job, number, ways)]
 
 
 def _shown_lines(number: int, values: Sequence[int], job: Optional[Job], question: int, ways: Optional[Ways]) -> List[str]:

@@ -15,12 +15,16 @@ standard input. A FILE is what belongs to it: the job (or the two of `compare`, 
     --narrow                      lines of at most 72 characters; on a terminal they are as wide as it is
     --hops, --limit, --cases N    the bounds that the answer was made under, where they are not the usual ones
     --only-read                   nothing is run
+    --expect ANSWERS              of answers of `ask`: what each should be, as yes,no,yes, or a file with yes or no in a line for each question; ends with status 20 where
+                                  one is another, or unknown
+    --junit FILE                  the same as results of tests, in the XML of JUnit
 
 An answer says no way. Where the job is given, and no report, and the package has something to run, it walks the packets that answers show along the job (`walk`), and
 explores the job of an answer of `loops` (`explore`), to tell the boxes.
 """
 
 import argparse
+import contextlib
 import io
 import os
 import shutil
@@ -29,9 +33,10 @@ import sys
 from dataclasses import dataclass, field
 from typing import Callable, Dict, List, NoReturn, Optional, Sequence, Tuple, Union
 
-from .answer_words import Ways, asked_lines, compared_lines, compared_rules_lines, is_round, loops_lines, rules_lines
+from .answer_words import Ways, asked_lines, asked_parts, compared_lines, compared_rules_lines, is_round, loops_lines, rules_lines
 from .answers import Loops, NotAnswer, is_of_lists, read_asked, read_compared, read_compared_rules, read_loops, read_rules
 from .causes import ALL_CASES, COUPLED, OUTSIDE, too_many, undecided_lines
+from .expected import fitting, in_words, junit, junit_error, read_expected, verdict
 from .inputs import Job, NotInput, Rule, is_list, read_job, read_list
 from .packets import packet_words
 from .plain import laid_out, plain, wrapped
@@ -44,7 +49,9 @@ __all__ = ["Cell", "Fields", "Inputs", "NotReport", "Path", "Pruned", "Record", 
            "record_lines", "report_lines", "shown", "undecided"]
 
 NARROW = 72
-USAGE = "symnet_report.py WRITTEN [FILE ..] [--record N] [--pruned] [--narrow] [--hops N] [--limit N] [--cases N] [--only-read]"
+# How the reader ends: where its words have no reading, a file cannot be read or written, a text has not its form, and an answer is not the expected one.
+NO_WORDS, NO_FILE, NO_FORM, NOT_AS_EXPECTED = 2, 3, 14, 20
+USAGE = ("symnet_report.py WRITTEN [FILE ..] [--record N] [--pruned] [--narrow] [--hops N] [--limit N] [--cases N] [--only-read] [--expect ANSWERS [--junit FILE]]")
 
 
 def open_lines(report: Report, numbers: Sequence[int], job: Optional[Job] = None) -> List[str]:
@@ -194,6 +201,8 @@ def _words() -> _Words:
         reader.add_argument(name, action="store_true")
     for name in ("--hops", "--limit", "--cases"):
         reader.add_argument(name, metavar="N", type=_bound)
+    reader.add_argument("--expect", metavar="ANSWERS")
+    reader.add_argument("--junit", metavar="FILE")
     return reader
 
 
@@ -225,10 +234,50 @@ def _asked(words: List[str]) -> argparse.Namespace:
         asked = reader.parse_intermixed_args(words)
         if "-" in asked.files:
             raise _Usage("- is what was written, and comes first")
+        if asked.expect is None and asked.junit is not None:
+            raise _Usage("--junit wants --expect")
+        if asked.expect is not None and (asked.record is not None or asked.pruned):
+            raise _Usage("--expect is of answers, and --record and --pruned of a report")
+        if "-" in (asked.expect, asked.junit):
+            raise _Usage("behind --expect and --junit stands the name of a file")
         return asked
     except _Usage as error:
         print(laid_out([*reader.format_usage().strip().split("\n"), f"symnet_report: {error}"]), file=sys.stderr)
         raise
+
+
+@dataclass
+class _Results:
+    """What is expected of answers, and where their results go, as the words say."""
+
+    expect: str
+    place: Optional[str]
+    suite: str
+
+    def put(self, text: str) -> None:
+        """Writes the results, where a place is named for them."""
+        if self.place is not None:
+            with open(self.place, "w", encoding="utf-8", newline="\n") as file:
+                file.write(text)
+
+    def wanted(self) -> List[str]:
+        """The answers that are expected."""
+        listed = in_words(self.expect)
+        return read_expected(_bytes_of(self.expect).decode("utf-8", "replace")) if listed is None else listed
+
+    def of(self, text: bytes, wanted: List[str], inputs: Inputs) -> Tuple[List[str], bool]:
+        """What is said of the answers, and whether all are as expected."""
+        whole = read_written(text)
+        if "answers" not in whole:
+            raise NotAnswer("it is no answer of ask, and of others nothing can be expected")
+        answers = read_asked(whole)
+        told = asked_parts(answers, inputs.job, inputs.why(), inputs.ways())
+        try:
+            fitting(wanted, len(answers))
+        except NotInput as error:
+            raise NotAnswer(str(error)) from None
+        self.put(junit(self.suite, inputs.job, answers, wanted, told))
+        return [*(line for lines in told for line in lines), verdict(answers, wanted)], [it.answer for it in answers] == wanted
 
 
 def main(words: List[str]) -> int:
@@ -238,21 +287,30 @@ def main(words: List[str]) -> int:
     try:
         asked = _asked(words)
     except _Usage:
-        return 2
+        return NO_WORDS
     bounds = [f"--{name}={value}" for name, value in (("hops", asked.hops), ("limit", asked.limit), ("cases", asked.cases)) if value is not None]
     inputs, name = Inputs(runner=None if asked.only_read else Runner(bounds)), asked.written
+    results = None if asked.expect is None else _Results(asked.expect, asked.junit, asked.files[0] if asked.files else "symnet ask")
     try:
         for name in asked.files:
             inputs.add(name, _bytes_of(name))
-        name = asked.written
-        _print(shown_lines(_bytes_of(name), inputs, asked.pruned, asked.record), _width(asked.narrow))
-    except OSError as error:
-        print(plain(f"symnet_report: {error}"), file=sys.stderr)
-        return 3
-    except (NotReport, NotAnswer, NotInput) as error:
-        print(plain(f"symnet_report: {name}: {error}"), file=sys.stderr)
-        return 14
-    return 0
+        if results is None:
+            name = asked.written
+            _print(shown_lines(_bytes_of(name), inputs, asked.pruned, asked.record), _width(asked.narrow))
+            return 0
+        name = asked.expect
+        wanted, name = results.wanted(), asked.written
+        lines, are_met = results.of(_bytes_of(name), wanted, inputs)
+        _print(lines, _width(asked.narrow))
+        return 0 if are_met else NOT_AS_EXPECTED
+    except (OSError, NotReport, NotAnswer, NotInput) as error:
+        told = f"symnet_report: {error}" if isinstance(error, OSError) else f"symnet_report: {name}: {error}"
+        print(plain(told), file=sys.stderr)
+        if results is not None:
+            # a build server that finds the results of an earlier run would take them for these
+            with contextlib.suppress(OSError):
+                results.put(junit_error(results.suite, told))
+        return NO_FILE if isinstance(error, OSError) else NO_FORM
 
 
 if __name__ == "__main__":
