@@ -100,6 +100,12 @@ def named(name, shown):
     return case
 
 
+def no_text(program, folder):
+    """A word that is no UTF-8: one line says so, and no word is blamed."""
+    ran = run(program, folder, [b"explore", b"job\xff"])
+    return ran.status == 2 and ran.error == b"symnet: usage\na word is no UTF-8\n" and ran.output == b"", ran
+
+
 def table(name, shown):
     """A job names a file that is no table; the file's line is shown only where it lies in the current folder."""
     def case(program, folder):
@@ -288,6 +294,7 @@ CASES = {
     "a name with a control character past ASCII": named("no\u009b31m", b"no?31m"),
     "a name that turns the text": named("\u202efdp.exe\u2066\u200f", b"?fdp.exe??"),
     "a name in letters of another script": named("\u00e4\u4e2d", "\u00e4\u4e2d".encode()),
+    "a word that is no text": no_text,
     "a table in the current folder": table("secret", True),
     "a table in a folder of it": table("tables/secret", True),
     "a table whose name begins with two points": table("..secret", True),
