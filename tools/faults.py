@@ -166,7 +166,7 @@ USAGES = [
     ("", ""), ("--help", ""), ("-h", ""), ("--help explore", ""),
     ("exlore job", "`exlore`: there is no such command"),
     ("ex\x1b[31mplore job", "`ex?[31mplore`: there is no such command"),
-    ("\u202eexplore\u0085 job\u2066", "`?explore?`: there is no such command"),
+    ("\u202eexplore\u009b job\u2066", "`?explore?`: there is no such command"),
     (f"{'x' * 101} job", f"`{'x' * 100}..`: there is no such command"),
     (f"explore job --hops={'9' * 300}", f"`{'9' * 100}..`: --hops takes a number from 1 to 256"),
     ("explore", "`explore`: JOB is missing behind it"),
