@@ -1,0 +1,7 @@
+"""x"""
+from .model import Router
+from .sources import Text
+
+
+def read_asa(config: Text, routes: Text) -> Router:
+    raise NotImplementedError

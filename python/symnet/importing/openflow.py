@@ -1,0 +1,7 @@
+"""x"""
+from .model import FlowSwitch
+from .sources import Text
+
+
+def read_flows(text: Text) -> FlowSwitch:
+    raise NotImplementedError
