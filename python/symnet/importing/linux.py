@@ -12,10 +12,10 @@ _DROPS = ("blackhole", "unreachable", "prohibit")
 _SILENT = {"dst", "dev", "gateway", "via", "type", "table", "protocol", "scope", "prefsrc", "metric", "flags", "nexthops", "tos", "nhid", "pref", "expires", "cache", "metrics",
            "mtu", "advmss", "initcwnd", "initrwnd", "rtt", "window", "hoplimit", "weight", "uid", "quickack", "error"}
 _RULES = ({"priority": 0, "src": "all", "table": "local"}, {"priority": 32766, "src": "all", "table": "main"}, {"priority": 32767, "src": "all", "table": "default"})
-# What a Linux box drops before it looks a route up (RFC 1812, 5.3.7): sources of a group, of all, of this net and of the box itself; destinations of this net and of the
-# box itself that come from outside. A destination of a group is no part of the routes that are read.
-NO_SOURCES: Ranges = ranges_of([of_network(IPv4Network(it)) for it in ("0.0.0.0/8", "127.0.0.0/8", "224.0.0.0/4", "255.255.255.255/32")])
-NO_DESTINATIONS: Ranges = ranges_of([of_network(IPv4Network(it)) for it in ("0.0.0.0/8", "127.0.0.0/8", "224.0.0.0/4")])
+# What a Linux box drops before it looks a route up, as the kernel does from version 5.3 on: sources of groups and of all, and its own addresses; destinations of groups,
+# which are no part of the routes that are read, and those of the box itself that come from outside.
+NO_SOURCES: Ranges = ranges_of([of_network(IPv4Network(it)) for it in ("0.0.0.0/32", "127.0.0.0/8", "224.0.0.0/4", "255.255.255.255/32")])
+NO_DESTINATIONS: Ranges = ranges_of([of_network(IPv4Network(it)) for it in ("0.0.0.0/32", "127.0.0.0/8", "224.0.0.0/4")])
 
 
 # ---------------------------------------------------------------- interfaces
