@@ -62,7 +62,6 @@ class _Chains:
     def body(self, name: str, open_: Tuple[str, ...], depth: int) -> List[Step]:
         """The code of a chain; a packet that the chain returns runs off its end."""
         chain = self.filter.base if name == "" else self.filter.chains[name]
-        # from behind to the front, since what stands behind a return is a part of its test
         return self.rules(chain.rules, open_, depth)
 
     def rules(self, rules: Sequence[Rule], open_: Tuple[str, ...], depth: int) -> List[Step]:
@@ -95,6 +94,9 @@ class _Chains:
     def whole(self) -> List[Step]:
         base = self.filter.base
         code = self.body("", (base.name,), 3)
+        if code and isinstance(code[-1], Do):
+            # a rule without a test decides each packet that comes to it
+            return code
         if base.policy == ACCEPT:
             return [*code, Do(f"forward {self.port};", Origin((base.source,)))]
         return [*code, fail(f"dropped by the policy of {base.name}, {base.source.place}", base.source)]

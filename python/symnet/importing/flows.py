@@ -4,7 +4,7 @@ from typing import Dict, List, Sequence, Tuple
 
 from .code import Do, If, JobText, Node, Origin, Port, Step, fail, is_in, reference
 from .chains import Context
-from .model import COUNT_DOWN, OUTPUT, RESUBMIT, SET, Action, Box, Flow, FlowSwitch, Refused
+from .model import COUNT_DOWN, OUTPUT, RESUBMIT, SET, WIDTHS, Action, Box, Flow, FlowSwitch, Refused
 from .parts import Built, Names
 
 _PORTS = 1024
@@ -69,16 +69,39 @@ class _Table:
         return [*made, own, Do("deallocate global arrival:16;")]
 
 
+# How many pairs of flows of one priority are looked at.
+_PAIRS = 1_000_000
+
+
 def _check(flows: Sequence[Flow]) -> None:
     """Refused where two flows of one priority have a packet in common: which of them decides is not said."""
     groups: Dict[int, List[Flow]] = {}
     for flow in flows:
         groups.setdefault(flow.priority, []).append(flow)
     for same in groups.values():
-        for at, flow in enumerate(same):
-            for other in same[:at]:
-                if not flow.match.meet(other.match).is_empty and flow.actions != other.actions:
-                    raise Refused(flow.source, f"it has packets in common with the flow of line {other.source.line}, which has the same priority: which of them decides is not said")
+        _check_group(same)
+
+
+def _check_group(flows: Sequence[Flow]) -> None:
+    """The flows are swept along the field that cuts them in most parts, so that few pairs meet."""
+    field = max(WIDTHS, key=lambda name: len({it.match.values(name) for it in flows}))
+
+    def ends(flow: Flow) -> Tuple[int, int]:
+        ranges = flow.match.values(field)
+        return (ranges[0][0], ranges[-1][1]) if ranges else (0, (1 << WIDTHS[field]) - 1)
+
+    open_: List[Flow] = []
+    pairs = 0
+    for flow in sorted(flows, key=lambda it: ends(it)[0]):
+        open_ = [it for it in open_ if ends(it)[1] >= ends(flow)[0]]
+        pairs += len(open_)
+        if pairs > _PAIRS:
+            raise Refused(flow.source, f"more than {_PAIRS:,} pairs of flows of the priority {flow.priority} may have packets in common")
+        for other in open_:
+            if flow.actions != other.actions and not flow.match.meet(other.match).is_empty:
+                first, second = sorted((flow, other), key=lambda it: it.source.line)
+                raise Refused(second.source, f"it has packets in common with the flow of line {first.source.line}, which has the same priority: which of them decides is not said")
+        open_.append(flow)
 
 
 def print_flows(box: Box, switch: FlowSwitch, job: JobText, names: Names, places: Dict[str, str]) -> Built:
