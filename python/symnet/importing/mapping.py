@@ -31,7 +31,7 @@ def map_text(job: Job) -> str:
         items[str(number)] = {"line": job.printed.lines[number], "sources": [sources.number(it) for it in origin.sources],
                               **({"field": origin.name, "values": [list(it) for it in origin.values]} if origin.values else {})}
     tables = {table.name: [[row.prefix, row.port, sources.number(row.source)] for row in table.rows] for table in job.tables}
-    whole = {"symnet_map": VERSION, "hosts": job.hosts, "hops": job.hops, "places": job.places, "items": items, "tables": tables, "sources": sources.listed()}
+    whole = {"symnet_map": VERSION, "hosts": job.hosts, "hops": job.hops, "boxes": job.owners, "places": job.places, "items": items, "tables": tables, "sources": sources.listed()}
     rows = [f"{json.dumps(name)}: {_rows(value)}" for name, value in whole.items()]
     return "{" + ",\n".join(rows) + "}\n"
 

@@ -58,3 +58,7 @@ class Names:
 
     def made(self, box: str, part: str) -> str:
         return self.parts[box, part]
+
+    def owners(self) -> Dict[str, str]:
+        """Of each node of a box or a host whose it is."""
+        return {**{made: name for name, made in self.given.items()}, **{made: box for (box, _), made in self.parts.items()}}

@@ -26,6 +26,8 @@ class Job(NamedTuple):
     tables: List[Table]
     # of each port of the job what it is in the network, as `in r1.0`
     places: Dict[str, str]
+    # of each node the box or the host that it is a part of
+    owners: Dict[str, str]
     hosts: List[str]
     hops: int
 
@@ -166,7 +168,7 @@ def print_network(network: Network, folder: str, style: str = "grouped") -> Job:
     hops = min(256, max(16, 4 + len(job.nodes)))
     job.head = _head(folder, network, hosts, hops)
     made = printed(job)
-    return Job(made.text, {it.file: it.text for it in tables}, made, tables, places, hosts, hops)
+    return Job(made.text, {it.file: it.text for it in tables}, made, tables, places, names.owners(), hosts, hops)
 
 
 def _head(folder: str, network: Network, hosts: List[str], hops: int) -> List[str]:
