@@ -55,7 +55,7 @@ class _Reader:
             elif word == "--comment" and not is_not:
                 self.value(word)
             else:
-                raise self.fault(f"`{word}` is no test that a job has")
+                raise self.fault(f"`-j {self.target}` is no target that a job has" if self.target else f"`{word}` is no test that a job has")
 
     def module(self, name: str) -> None:
         if name not in _MODULES:

@@ -10,7 +10,7 @@ from typing import Dict, List, NamedTuple, Optional, Sequence, Tuple
 
 from .chains import Context, filter_code, tests_arrival
 from .code import Do, If, JobText, Node, Origin, Port, Row, Step, Table, fail, is_in
-from .model import LOCAL, Box, Filter, Hop, Interface, Refused, Route, Router
+from .model import LOCAL, Box, Filter, Hop, Interface, Refused, Route, Router, common, has
 from .parts import Built, Names, Surroundings
 
 # The most ports of a box, and the most rows of a table.
@@ -108,8 +108,13 @@ class _Printer:
     def limits(self) -> List[Step]:
         """What is dropped before a route is looked up."""
         made: List[Step] = []
-        if self.router.no_sources:
-            made.append(If(is_in("source address", self.router.no_sources), [fail("a source address that no neighbor may have")]))
+        no_source = fail("a source address that no neighbor may have")
+        rest = common(self.router.no_sources, ((1, 0xFFFFFFFF),))
+        if rest:
+            made.append(If(is_in("source address", rest), [no_source]))
+        if has(self.router.no_sources, 0):
+            # a station that has no address yet asks all neighbors for one
+            made.append(If(is_in("source address", ((0, 0),)), [If(is_in("destination address", ((0xFFFFFFFF,) * 2,)), (), [no_source])]))
         if self.router.no_destinations:
             made.append(If(is_in("destination address", self.router.no_destinations), [fail("a destination address that is not forwarded")]))
         return made
