@@ -148,6 +148,7 @@ REFUSED = (
     ("a file of another kind", {**LINUX, "r1/dmesg.txt": ""}, "r1/dmesg.txt", "no file that is read"),
     ("two files of a kind", {**LINUX, "r1/ip-addr.txt": ADDR}, "r1/ip-addr.txt", "already"),
     ("files of two kinds", {**LINUX, "r1/ios-config": "interface Gi0\n"}, "r1", "several kinds"),
+    ("a file with an odd name", {**LINUX, "r1/ip-rule.\nx": "[]"}, "r1", "other characters"),
     ("a name that no job has", {**LINUX, "r 2/ip-addr": ADDR}, "r 2", "name of a box"),
     ("a box without a line", {**LINUX, "r2/ip-addr.json": ADDR, "r2/ip-route.json": ROUTE % ""}, "r2", "no line of the topology"),
     ("a line without a box", {**LINUX, "topology": TOPOLOGY + "r2.eth0 r3.eth0\n"}, "topology:3", "no folder r2"),

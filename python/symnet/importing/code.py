@@ -13,7 +13,7 @@ DEEPEST, MOST = 60, 1_000_000
 _REFERENCES = {"TTL": "head L3+64:8", "protocol": "head L3+72:8", "source address": "head L3+96:32", "destination address": "head L3+128:32",
                "source port": "head L4+0:16", "destination port": "head L4+16:16", "Ethernet destination": "head L2+0:48", "Ethernet source": "head L2+48:48",
                "Ethernet type": "head L2+96:16", "VLAN": "global vlan:12", "arrival": "global arrival:16", "host": "global host:16"}
-_LONGEST_MESSAGE = 140
+_LONGEST_MESSAGE, LONGEST_COMMENT = 140, 4000
 
 
 class Origin(NamedTuple):
@@ -54,10 +54,10 @@ def is_in(name: str, ranges: Ranges) -> str:
     return f"{reference(name)} in {{{', '.join(str(low) if low == high else f'{low}..{high}' for low, high in ranges)}}}"
 
 
-def message(text: str) -> str:
-    """A text that a `fail` may have."""
+def message(text: str, most: int = _LONGEST_MESSAGE) -> str:
+    """A text that a `fail` or a comment may have, whatever was read."""
     plain = "".join("'" if it == '"' else it if it.isprintable() else " " for it in text)
-    return plain if len(plain) <= _LONGEST_MESSAGE else f"{plain[:_LONGEST_MESSAGE - 2]}.."
+    return plain if len(plain) <= most else f"{plain[:most - 2]}.."
 
 
 def fail(text: str, source: Optional[Source] = None) -> Do:
@@ -106,7 +106,7 @@ class Table:
     @property
     def text(self) -> str:
         """The file of the table: each row with a comment that says where it comes from."""
-        rows = (f"{row.prefix} {row.port}  # {row.source.place}: {row.source.text}".rstrip(": ") for row in self.rows)
+        rows = (f"{row.prefix} {row.port}  # {message(f'{row.source.place}: {row.source.text}')}".rstrip(": ") for row in self.rows)
         return "".join(f"{line.encode('ascii', 'replace').decode()}\n" for line in (f"ports {self.ports}", *rows))
 
 
@@ -178,7 +178,7 @@ class _Printer:
 def printed(job: JobText) -> Printed:
     """The text of the job, in the canonical form except for its comments."""
     out = _Printer()
-    out.lines += [*(f"// {line}" for line in job.head), "symnet 2;"]
+    out.lines += [*(f"// {message(line, LONGEST_COMMENT)}" for line in job.head), "symnet 2;"]
     for node in job.nodes:
         out.node(node)
     for source, target in job.links:

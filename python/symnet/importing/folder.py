@@ -1,5 +1,6 @@
 """A folder of outputs: a folder for each box, and the file of the topology. It is read into a `Network`, whatever its boxes print."""
 
+import re
 from pathlib import Path
 from typing import Callable, Dict, FrozenSet, List, Optional, Tuple
 
@@ -23,6 +24,7 @@ _KINDS: Dict[str, FrozenSet[str]] = {
 }
 
 Files = Dict[str, Text]
+_FILE = re.compile(r"[A-Za-z0-9._-]{1,100}")
 
 
 def _need(files: Files, name: str, box: Source) -> Text:
@@ -116,6 +118,8 @@ def _files(folder: Path, name: str) -> Files:
         kind, place = file.name.split(".")[0], f"{name}/{file.name}"
         if file.name.startswith("."):
             continue
+        if not _FILE.fullmatch(file.name):
+            raise Refused(Source(name, 0), "a file whose name has other characters than letters, digits, `_`, `-` and dots")
         if kind not in FILES or not file.is_file():
             raise Refused(Source(place, 0), f"no file that is read: their names are {', '.join(sorted(FILES))}, with any ending behind a dot")
         if kind in found:
