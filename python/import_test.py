@@ -456,10 +456,8 @@ def check_example(expect):
     asked = symnet.ask(made.text, files=made.files, hops=32)
     expect("examples/imported: its answers", {it.answer for it in asked.answers} <= {"yes", "no"}, True)
     report = symnet.explore(made.text, files=made.files, hops=32)
-    job = inputs.read_job(made.text)
-    read = origins.read_map(made.map)
     path = next(it for it in report.paths if it.end == "delivered" and it.last == "out web.0" and it.places[0] == "in entry.0" and it.values[0] == 0)
-    lines = read.decided(job, path)
+    lines = made.decided(path)
     expect("examples/imported: what decided", [it for it in lines if "permit tcp" in it or "via 10.9.0.2" in it],
            ["gate: 10.1.0.0/16 via 10.9.0.2 dev eth0 (gate/ip-route.json:1:120)", "core: permit tcp any host 10.1.20.80 eq www 443 (core/ios-config.txt:39)"])
 

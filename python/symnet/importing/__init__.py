@@ -4,13 +4,18 @@
     found.text                  the job
     found.files                 the tables that it names
     found.save("office-job")    writes both, and the map of each item to the file and the line that it comes from
-    answers = symnet.ask(found.text, files=found.files)
+    report = symnet.explore(found.text, files=found.files, hops=found.hops)
+    found.decided(report.paths[0])      names the routes and rules that decided
 """
 
 from dataclasses import dataclass
+from functools import cached_property
 from pathlib import Path
 from typing import Any, Dict, List, Tuple, Union
 
+from ..inputs import Job, read_job
+from ..origins import Origins, read_map
+from ..records import Path as Walked
 from .folder import read_folder
 from .mapping import map_text
 from .model import Refused, Source
@@ -34,6 +39,15 @@ class Imported:
     hops: int
     notes: Tuple[str, ...]
     boxes: Tuple[str, ...]
+
+    @cached_property
+    def _read(self) -> Tuple[Job, Origins]:
+        return read_job(self.text), read_map(self.map)
+
+    def decided(self, path: Walked) -> List[str]:
+        """What decided on a path of a report or a walk of this job: a line for each route, rule or entry, with its box and its place."""
+        job, origins = self._read
+        return origins.decided(job, path)
 
     def save(self, folder: Union[str, Path]) -> List[Path]:
         """Writes the job, its tables and the map into a folder, from which the program may be run on it."""
