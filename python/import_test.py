@@ -25,7 +25,7 @@ from symnet.importing import command, folder, model, sources  # noqa: E402
 IMPORTS = HERE / "imports"
 EXAMPLE = HERE.parent / "examples/imported"
 # The networks whose stations are all known, so that each packet has its walks without a choice.
-WALKED = ("linux", "ios", "asa", "junos", "flows", "switches")
+WALKED = ("linux", "ios", "asa", "junos", "flows", "switches", "home")
 
 
 def names():
@@ -178,7 +178,7 @@ REFUSED = (
     ("no table local", {**LINUX, "r1/ip-route.json": '[{"dst":"10.0.0.0/24","dev":"eth0"}]'}, "r1/ip-route.json:1", "table all"),
     *((f"a route with {what}", {**LINUX, "r1/ip-route.json": ROUTE % f',\n{{"dst":"10.2.0.0/16",{part}}}'}, "r1/ip-route.json:3", said) for what, part, said in (
         ("a table", '"dev":"eth0","table":"100"', "policy routing"), ("a type of service", '"dev":"eth0","tos":"0x10"', "type of service"), ("an object", '"nhid":7', "next hop object"),
-        ("no carrier", '"dev":"eth0","flags":["linkdown"]', "linkdown"), ("a tunnel", '"dev":"eth0","encap":"mpls"', "encap"), ("another type", '"type":"nat","dev":"eth0"', "type nat"),
+        ("a hop without carrier", '"nexthops":[{"dev":"eth0","flags":["linkdown"]},{"dev":"eth1","flags":[]}]', "linkdown"), ("a tunnel", '"dev":"eth0","encap":"mpls"', "encap"), ("another type", '"type":"nat","dev":"eth0"', "type nat"),
         ("no interface", '"gateway":"10.0.0.9"', "without an interface"), ("another interface", '"dev":"eth9"', "none of the interfaces"), ("a strange word", '"dev":"eth0","realm":"5"', "realm"),
         ("another family", '"dev":"eth0","via":{"family":"inet6","host":"fe80::1"}', "another family"))),
     ("no prefix", {**LINUX, "r1/ip-route.json": ROUTE % ',\n{"dst":"10.2.0.0/33","dev":"eth0"}'}, "r1/ip-route.json:3", "no prefix"),
@@ -232,7 +232,7 @@ REFUSED = (
     ("IOS: no interface", {**CISCO, "r1/ios-config": "hostname r1\n"}, "r1/ios-config:1", "no interface"),
     ("IOS: no routes", {name: text for name, text in CISCO.items() if "route" not in name}, "r1", "no file ios-route"),
     *((f"routes of IOS: {line}", {**CISCO, "r1/ios-route": f"{IOS_ROUTE}{line}\n"}, "r1/ios-route:2", said) for line, said in (
-        ("hello", "no line"), ("S 10.9.0.0/16 [1/0] via 192.0.2.1", "no route has its next router"), ("S 10.9.0.0/40 [1/0] via 10.0.0.9", "no prefix"), ("Routing Table: red", "VRF"),
+        ("hello", "no line"), ("S 10.9.0.0/16 [1/0] via 192.0.2.1", "no route has its next router"), ("S 10.9.0.0/40 [1/0] via 10.0.0.9", "no prefix"), ("S 10.9.0.0 [1/0] via 10.0.0.9", "no line says its length"), ("Routing Table: red", "VRF"),
         ("S 10.9.0.0/16", "without a hop"), ("B 10.9.0.0/16 [20/0] via 10.0.0.9 (red), 1d, Gi0", "another table"), ("C 10.9.0.0/16 is directly connected, Gi7", "none of the interfaces"))),
     *((f"ASA: {line}", asa(line), "r1/asa-config:8", said) for line, said in (
         ("nat (in,out) source dynamic any interface", "address translation"), ("access-list a extended permit ip 10.0.0.0 255.0.255.0 any", "holes"), ("access-list a extended permit tcp object gone any", "before it"),

@@ -71,9 +71,21 @@ class Walker:
             return self.flows(box.flow_switch, 0, interface, packet)
         for bridge in box.bridges:
             if interface in [it.name for it in bridge.ports]:
-                return self.bridge(bridge, interface, packet)
+                return self.inside(box, bridge, self.bridge(box, bridge, interface, packet), found)
         assert box.router
-        return self.router(box.name, box.router, interface, packet, found)
+        made = self.router(box.name, box.router, interface, packet, found)
+        for bridge in box.bridges:
+            into = [left for out, left in made if out == bridge.name]
+            made = [it for it in made if it[0] != bridge.name] + [it for left in into for it in self.inside(box, bridge, self.bridge(box, bridge, ITSELF, left), found)]
+        return made
+
+    def inside(self, box: Box, bridge: Bridge, made: List[Tuple[str, Packet]], found: Set[End]) -> List[Tuple[str, Packet]]:
+        """What comes of frames that a switch sends to the router of its box."""
+        there = [it for it in made if it[0] != ITSELF]
+        for out, left in made:
+            if out == ITSELF:
+                there += self.box(box, bridge.name, left, found)
+        return there
 
     # ------------------------------------------------ routers
 
@@ -119,8 +131,9 @@ class Walker:
 
     # ------------------------------------------------ switches
 
-    def bridge(self, bridge: Bridge, name: str, packet: Packet) -> List[Tuple[str, Packet]]:
-        ports = {it.name: it for it in bridge.ports if it.name != ITSELF}
+    def bridge(self, box: Box, bridge: Bridge, name: str, packet: Packet) -> List[Tuple[str, Packet]]:
+        has_itself = bool(box.router and bridge.name in box.router.interfaces)
+        ports = {it.name: it for it in bridge.ports if it.name != ITSELF or has_itself}
         if packet["Ethernet destination"] in RESERVED:
             return []
         vlan = packet["VLAN"] if bridge.has_vlans else 0
@@ -131,7 +144,7 @@ class Walker:
         known = [it.port for it in bridge.entries if it.vlan == vlan and it.mac == packet["Ethernet destination"]]
         names: FrozenSet[str] = frozenset(known[:1]) if known else frozenset(ports)
         made = []
-        for out in names - {name, ITSELF}:
+        for out in (names & set(ports)) - {name}:
             if vlan in ports[out].vlans:
                 tag = packet["VLAN"] if not bridge.has_vlans else 0 if vlan in ports[out].untagged else vlan
                 made.append((out, {**packet, "VLAN": tag}))

@@ -173,10 +173,13 @@ def _is_legend(line: str) -> bool:
 
 
 def _prefix(text: str, mask: Optional[str], length: str, source: Source) -> IPv4Network:
+    whole = f"{text}/{mask}" if mask else text if "/" in text else f"{text}{length}"
     try:
-        return IPv4Network(f"{text}/{mask}" if mask else text if "/" in text else f"{text}{length}")
+        if "/" in whole:
+            return IPv4Network(whole)
     except ValueError:
-        raise Refused(source, f"'{text}' is no prefix of IPv4, or has no length") from None
+        pass
+    raise Refused(source, f"'{text}' is no prefix of IPv4, or no line says its length")
 
 
 def _rows(text: Text) -> List[_Row]:

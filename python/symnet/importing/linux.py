@@ -114,11 +114,9 @@ def _gateway(item: Any, source: Source) -> Optional[IPv4Address]:
 def _hop(item: Any, source: Source) -> Optional[Hop]:
     """Where a packet goes; None where the kernel takes the hop for dead."""
     shaped(item, dict, source, "a route")
-    flags = item.get("flags", [])
+    flags = shaped(item.get("flags", []), list, source, "a route")
     if "dead" in flags:
         return None
-    if "linkdown" in flags:
-        raise Refused(source, "its interface has no carrier (linkdown); whether the route is taken depends on a setting of the kernel that no file has")
     if "encap" in item or "via" in item or "onlink" in flags and "gateway" not in item:
         raise Refused(source, "an encapsulation, or a next router of another family")
     return Hop(shaped(item.get("dev"), str, source, "a route without an interface"), _gateway(item, source))
@@ -143,6 +141,10 @@ def _route(item: Any, prefix: IPv4Network, source: Source) -> Optional[Route]:
         raise Refused(source, f"a route of the type {kind}")
     hops = [_hop(one, source) for one in shaped(item["nexthops"], list, source, "a route")] if "nexthops" in item else [_hop(item, source)]
     alive = tuple(dict.fromkeys(hop for hop in hops if hop is not None))
+    if any("linkdown" in one.get("flags", []) for one in (item, *item.get("nexthops", []))):
+        if len(alive) > 1:
+            raise Refused(source, "one of several hops has no carrier (linkdown); whether it is taken depends on a setting of the kernel that no file has")
+        return Route(prefix, source, kind="the interface has no carrier") if alive else None
     return Route(prefix, source, alive) if alive else None
 
 

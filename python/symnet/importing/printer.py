@@ -161,7 +161,8 @@ def print_network(network: Network, folder: str, style: str = "grouped") -> Job:
         job.links += [(port, (name, 0)) for port in built[host.box].outputs.get(host.interface, [])]
         linked.add((host.box, host.interface))
     _fields(job, around)
-    selves = [(name, f"in {names.made(name, 'self')}.0") for name, box in network.boxes.items() if box.router]
+    # behind the filters of what is for the router itself
+    selves = [(name, f"out {names.made(name, 'self')}.0") for name, box in network.boxes.items() if box.router]
     edges = [(places[f"out {port[0]}.{port[1]}"], f"out {port[0]}.{port[1]}") for name, it in built.items() for interface, ports in it.outputs.items()
              if (name, interface) not in linked for port in ports]
     _ask(network, hosts, job, around, selves, edges)
