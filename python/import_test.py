@@ -11,7 +11,7 @@ import sys
 import tempfile
 import time
 from contextlib import redirect_stderr, redirect_stdout
-from ipaddress import IPv4Network
+from ipaddress import IPv4Address, IPv4Network
 from pathlib import Path
 
 HERE = Path(__file__).resolve().parent
@@ -325,6 +325,101 @@ def check_large(expect):
     expect("import: large files within 40 seconds", time.process_time() - begun < 40, True)
 
 
+# ---------------------------------------------------------------- what rules have
+
+
+def packet(protocol=6, source="10.0.0.5", destination="10.2.0.9", sport=40000, dport=80, ttl=64):
+    return {"protocol": protocol, "source address": int(IPv4Address(source)), "destination address": int(IPv4Address(destination)), "source port": sport, "destination port": dport, "TTL": ttl}
+
+
+def icmp(kind, code=0, **others):
+    return packet(1, sport=kind << 8 | code, **others)
+
+
+# Of each system lines, a packet, and whether it passes: what no line has is dropped.
+RULES = (
+    ("iptables", "-s 10.0.0.0/8 -j ACCEPT", packet(), True), ("iptables", "! -s 10.0.0.0/8 -j ACCEPT", packet(), False), ("iptables", "-s 10.0.0.0/255.255.255.252 -j ACCEPT", packet(), False),
+    ("iptables", "-p tcp -m tcp --dport 80:90 -j ACCEPT", packet(), True), ("iptables", "-p tcp -m tcp --dport 81: -j ACCEPT", packet(), False), ("iptables", "-p tcp -m tcp ! --dport 80 -j ACCEPT", packet(), False),
+    ("iptables", "-p udp -m udp --dport 80 -j ACCEPT", packet(), False), ("iptables", "-p tcp -m multiport --ports 22,80 -j ACCEPT", packet(), True), ("iptables", "-p tcp -m multiport ! --ports 22,80 -j ACCEPT", packet(), False),
+    ("iptables", "-p tcp -m multiport ! --ports 22,81 -j ACCEPT", packet(), True), ("iptables", "-p tcp -m multiport --sports 22,80 -j ACCEPT", packet(), False), ("iptables", "-i eth+ -j ACCEPT", packet(), True),
+    ("iptables", "-i eth1 -j ACCEPT", packet(), False), ("iptables", "! -i eth1 -o eth1 -j ACCEPT", packet(), True), ("iptables", "-o eth0 -j ACCEPT", packet(), False), ("iptables", "-p icmp -m icmp --icmp-type 8 -j ACCEPT", icmp(8), True),
+    ("iptables", "-p icmp -m icmp --icmp-type 8/1 -j ACCEPT", icmp(8), False), ("iptables", "-p icmp -m icmp ! --icmp-type 8 -j ACCEPT", icmp(3), True), ("iptables", "-p icmp -m icmp --icmp-type any -j ACCEPT", icmp(77), True),
+    ("iptables", "-m ttl --ttl-gt 63 -j ACCEPT", packet(), True), ("iptables", "-m ttl ! --ttl-eq 64 -j ACCEPT", packet(), False), ("iptables", "-m iprange --src-range 10.0.0.1-10.0.0.5 -j ACCEPT", packet(), True),
+    ("iptables", "-m iprange ! --dst-range 10.2.0.0-10.2.0.9 -j ACCEPT", packet(), False), ("iptables", "-j LOG --log-prefix x\n-A FORWARD -j ACCEPT", packet(), True), ("iptables", "-s 10.0.0.5\n-A FORWARD -j ACCEPT", packet(), True),
+    ("iptables", "-j a\n-A FORWARD -j ACCEPT\n-A a -s 10.0.0.5 -j RETURN\n-A a -j DROP", packet(), True), ("iptables", "-g a\n-A FORWARD -j ACCEPT\n-A a -s 10.0.0.5 -j RETURN\n-A a -j DROP", packet(), False),
+    ("iptables", "-j a\n-A FORWARD -j ACCEPT\n-A a -s 10.0.0.6 -j RETURN\n-A a -j DROP", packet(), False), ("iptables", "-p 0 -j ACCEPT", packet(), True), ("iptables", "-p all -j ACCEPT", packet(47), True),
+    ("nft", match('{"payload":{"protocol":"tcp","field":"dport"}}', '{"set":[22,{"range":[79,81]}]}'), packet(), True), ("nft", match('{"payload":{"protocol":"tcp","field":"dport"}}', "80", "!="), packet(), False),
+    ("nft", match('{"payload":{"protocol":"udp","field":"dport"}}', "80", "!="), packet(), False), ("nft", match('{"payload":{"protocol":"th","field":"dport"}}', "80"), packet(132), True),
+    ("nft", match('{"payload":{"protocol":"ip","field":"saddr"}}', '{"prefix":{"addr":"10.0.0.0","len":30}}', "!="), packet(), True), ("nft", match('{"meta":{"key":"l4proto"}}', '{"set":["udp","gre"]}'), packet(47), True),
+    ("nft", match('{"payload":{"protocol":"ip","field":"ttl"}}', "64", "<"), packet(), False), ("nft", match('{"payload":{"protocol":"ip","field":"ttl"}}', "64", "<="), packet(), True), ("nft", match('{"payload":{"protocol":"ip","field":"ttl"}}', "0", "<"), packet(), False),
+    ("nft", match('{"payload":{"protocol":"icmp","field":"type"}}', '"echo-request"'), icmp(8, 3), True), ("nft", match('{"payload":{"protocol":"icmp","field":"type"}}', '"echo-request"', "!="), icmp(8), False),
+    ("nft", match('{"payload":{"protocol":"icmp","field":"type"}}', '"echo-request"'), packet(sport=2048), False), ("nft", match('{"payload":{"base":"th","offset":0,"len":32}}', str(40000 << 16 | 80)), packet(), True),
+    ("nft", match('{"meta":{"key":"nfproto"}}', '"ipv6"'), packet(), False), ("nft", match('{"meta":{"key":"nfproto"}}', '"ipv6"', "!="), packet(), True), ("nft", match('{"payload":{"protocol":"ip6","field":"saddr"}}', '"::1"', "!="), packet(), False),
+    ("nft", match('{"meta":{"key":"oifname"}}', '"eth*"'), packet(), True), ("nft", match('{"meta":{"key":"iifname"}}', '{"set":["eth0","lo"]}', "!="), packet(), False),
+    ("nft", '{"vmap":{"key":{"payload":{"protocol":"tcp","field":"dport"}},"data":{"set":[[80,{"drop":null}],[81,{"accept":null}]]}}}]}},{"rule":{"family":"inet","table":"t","chain":"c","expr":[{"accept":null}', packet(), False),
+    ("nft", match('{"concat":[{"payload":{"protocol":"ip","field":"daddr"}},{"payload":{"protocol":"tcp","field":"dport"}}]}', '{"set":[{"concat":["10.2.0.9",81]},{"concat":["10.2.0.8",80]}]}'), packet(), False),
+    ("nft", match('{"concat":[{"payload":{"protocol":"ip","field":"daddr"}},{"payload":{"protocol":"tcp","field":"dport"}}]}', '{"set":[{"concat":["10.2.0.9",{"range":[79,81]}]}]}'), packet(), True),
+    ("ios", "permit tcp any any eq www", packet(), True), ("ios", "permit tcp any any eq 22 www 443", packet(), True), ("ios", "permit tcp any eq www any", packet(), False), ("ios", "permit tcp any any neq 80", packet(), False),
+    ("ios", "permit tcp any any lt 80", packet(), False), ("ios", "permit tcp any any gt 79", packet(), True), ("ios", "permit tcp any any range 79 80", packet(), True), ("ios", "permit ip 10.0.0.0 0.0.0.7 any", packet(), True),
+    ("ios", "permit ip 10.0.0.0 0.0.0.3 any", packet(), False), ("ios", "permit ip host 10.0.0.5 host 10.2.0.9 log", packet(), True), ("ios", "permit udp any any", packet(), False), ("ios", "permit 47 any any", packet(47), True),
+    ("ios", "permit icmp any any echo", icmp(8), True), ("ios", "permit icmp any any port-unreachable", icmp(3, 3), True), ("ios", "permit icmp any any 3 4", icmp(3, 3), False), ("ios", "deny ip any any\naccess-list 101 permit ip any any", packet(), False),
+    ("ios", "remark permit ip any any", packet(), None), ("ios", "permit ip any any (12 matches)", packet(), True), ("ios", "permit tcp 10.0.0.0 0.255.255.255 gt 1023 10.2.0.0 0.0.255.255 eq 80", packet(), True),
+    ("standard", "permit 10.0.0.0 0.0.0.255", packet(), True), ("standard", "permit 10.0.0.5", packet(), True), ("standard", "permit host 10.0.0.6", packet(), False), ("standard", "deny 10.0.0.5 log\naccess-list 7 permit any", packet(), False),
+    ("asa", "permit tcp 10.0.0.0 255.255.255.0 any eq https", packet(), False), ("asa", "permit tcp 10.0.0.0 255.255.255.0 any eq www", packet(), True), ("asa", "permit tcp any4 host 10.2.0.9 range 79 81 log disable", packet(), True),
+    ("asa", "permit tcp any any eq www inactive", packet(), False), ("asa", "permit object-group SVC any object-group SRV", packet(), True), ("asa", "permit object-group SVC any object-group SRV", packet(17, dport=53), True),
+    ("asa", "permit object-group SVC any object-group SRV", packet(17), False), ("asa", "permit object-group SVC any object-group SRV", packet(destination="10.2.0.10"), False), ("asa", "permit object-group SVC any object-group SRV", icmp(8), True),
+    ("asa", "permit tcp any object NET object-group WEB", packet(), True), ("asa", "permit tcp any object NET object-group WEB", packet(dport=8081), False), ("asa", "permit object-group PR any any", packet(47), True), ("asa", "permit object-group PR any any", packet(17), False),
+    ("asa", "permit tcp object RANGE any", packet(), True), ("asa", "permit tcp object RANGE any", packet(source="10.0.0.8"), False), ("asa", "permit tcp any6 any", packet(), False),
+    ("junos", "from protocol tcp;from destination-port http", packet(), True), ("junos", "from protocol tcp;from destination-port 443;from destination-port 80-81", packet(), True), ("junos", "from port 80", packet(), True), ("junos", "from source-port 80", packet(), False),
+    ("junos", "from source-address 10.0.0.0/8;from source-address 10.0.0.4/30 except", packet(), False), ("junos", "from source-address 10.0.0.0/8;from source-address 10.0.0.4/30 except;from source-address 10.0.0.5/32", packet(), True),
+    ("junos", "from source-address 10.0.0.4/30 except", packet(), False), ("junos", "from address 10.2.0.0/16", packet(), True), ("junos", "from source-prefix-list P", packet(), True), ("junos", "from destination-prefix-list P", packet(), False),
+    ("junos", "from protocol icmp;from icmp-type echo-request", icmp(8), True), ("junos", "from protocol icmp;from icmp-type 3;from icmp-code 4", icmp(3, 3), False), ("junos", "from protocol-except udp", packet(), True), ("junos", "from ttl 63-64", packet(), True),
+    ("flows", "tcp,tp_dst=80", packet(), True), ("flows", "udp", packet(), False), ("flows", "ip,nw_src=10.0.0.0/24", packet(), True), ("flows", "ip,nw_src=10.0.0.0/255.255.255.252", packet(), False), ("flows", "tcp,tp_dst=0x50/0xfff0", packet(), True),
+    ("flows", "tcp,tp_dst=0x60/0xfff0", packet(), False), ("flows", "in_port=1", packet(), True), ("flows", "in_port=2", packet(), False), ("flows", "icmp,icmp_type=8,icmp_code=0", icmp(8), True), ("flows", "arp", packet(), False), ("flows", "ip,nw_ttl=64", packet(), True),
+    ("flows", "dl_vlan=0xffff", packet(), True), ("flows", "dl_vlan=5", packet(), False), ("flows", "dl_dst=02:00:00:00:00:00/ff:ff:ff:00:00:00", packet(), True),
+)
+OBJECTS = """object network NET
+ subnet 10.2.0.0 255.255.0.0
+object network RANGE
+ range 10.0.0.1 10.0.0.7
+object-group network SRV
+ network-object host 10.2.0.9
+object-group service WEB tcp
+ port-object eq www
+ port-object range 8000 8080
+object-group service SVC
+ service-object tcp destination eq www
+ service-object tcp-udp destination eq domain
+ service-object icmp echo
+object-group protocol PR
+ protocol-object gre
+access-list a extended """
+
+
+def passes(system, lines, given):
+    """Whether a packet that comes by the first interface and goes by the second passes these lines; None where they are refused."""
+    with tempfile.TemporaryDirectory() as room:
+        net = Path(room, "net")
+        junos_lines = "\n".join(f"set firewall family inet filter f term t {it}" for it in lines.split(";"))
+        write(net, {"iptables": lambda: rule(f":a - [0:0]\n-A FORWARD {lines}"), "nft": lambda: linux(nft=NFT.replace('"prio":0', '"prio":0,"policy":"drop"') % (NFT_RULE % lines)), "ios": lambda: acl(lines),
+                    "standard": lambda: {**CISCO, "r1/ios-config": IOS % f" ip access-group 7 in\naccess-list 7 {lines}"}, "asa": lambda: asa(f"{OBJECTS}{lines}\naccess-group a in interface in\nsame-security-traffic permit inter-interface"),
+                    "junos": lambda: junos(f"set policy-options prefix-list P 10.0.0.0/24\n{junos_lines}"), "flows": lambda: flow(f"priority=9,{lines} actions=output:2")}[system]())
+        try:
+            box = folder.read_folder(net).boxes["r1"]
+        except importing.Refused:
+            return None
+        if box.flow_switch:
+            return box.flow_switch.flows[0].match.has({**given, "VLAN": 0, "Ethernet type": 0x0800, "Ethernet destination": 0x020000000005}, "1", None)
+        faces = [*box.router.interfaces]
+        filters = [*box.router.forwarded] if system in ("iptables", "nft") else [*box.router.forwarded][:1] if system == "asa" else box.router.interfaces[faces[system == "junos"]].inbound
+        return all(import_walk.accepts(it, given, faces[0], faces[1]) for it in filters)
+
+
+def check_rules(expect):
+    for system, lines, given, wanted in RULES:
+        expect(f"import: {system}: {lines}, {given}", passes(system, lines, given), wanted)
+
+
 # ---------------------------------------------------------------- the command
 
 
@@ -464,7 +559,7 @@ def check_example(expect):
 
 def check(expect):
     """What needs nothing that is built."""
-    for part in (check_jobs, check_places, check_ranges, check_refusals, check_broken, check_large, check_command):
+    for part in (check_jobs, check_places, check_ranges, check_rules, check_refusals, check_broken, check_large, check_command):
         part(expect)
 
 
