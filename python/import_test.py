@@ -409,7 +409,7 @@ def passes(system, lines, given):
         except importing.Refused:
             return None
         if box.flow_switch:
-            return box.flow_switch.flows[0].match.has({**given, "VLAN": 0, "Ethernet type": 0x0800, "Ethernet destination": 0x020000000005}, "1", None)
+            return box.flow_switch.flows[0].match.has({**given, "VLAN": 0, "Ethernet type": 0x0800, "Ethernet destination": 0x020000000005}, "1")
         faces = [*box.router.interfaces]
         filters = [*box.router.forwarded] if system in ("iptables", "nft") else [*box.router.forwarded][:1] if system == "asa" else box.router.interfaces[faces[system == "junos"]].inbound
         return all(import_walk.accepts(it, given, faces[0], faces[1]) for it in filters)

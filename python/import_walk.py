@@ -17,7 +17,7 @@ def frozen(packet: Packet) -> Tuple[Tuple[str, int], ...]:
     return tuple(sorted(packet.items()))
 
 
-def accepts(filter_: Filter, packet: Packet, comes: str, goes: Optional[str]) -> bool:
+def accepts(filter_: Filter, packet: Packet, comes: str, goes: str = "") -> bool:
     """Whether a filter lets the packet through."""
 
     def run(chain) -> Optional[bool]:
@@ -99,7 +99,7 @@ class Walker:
                 return []
             interface = above[0] if above else interface
         comes = interface.name
-        if not interface.is_up or not all(accepts(it, packet, comes, None) for it in [*router.arriving, *interface.inbound]):
+        if not interface.is_up or not all(accepts(it, packet, comes) for it in [*router.arriving, *interface.inbound]):
             return []
         if has(router.no_sources, packet["source address"]) and not (packet["source address"] == 0 and packet["destination address"] == 0xFFFFFFFF):
             return []
@@ -109,7 +109,7 @@ class Walker:
         if not routes:
             return []
         route = max(routes, key=lambda it: it.prefix.prefixlen)
-        if route.kind == LOCAL and all(accepts(it, packet, comes, None) for it in router.delivered):
+        if route.kind == LOCAL and all(accepts(it, packet, comes) for it in router.delivered):
             found.add(("itself", name, frozen(packet)))
         return [made for hop in route.hops for made in self.hop(router, hop, comes, dict(packet))]
 
@@ -151,7 +151,7 @@ class Walker:
         return made
 
     def flows(self, switch: FlowSwitch, table: int, comes: str, packet: Packet) -> List[Tuple[str, Packet]]:
-        flows = [it for it in switch.flows if it.table == table and it.match.has(packet, comes, None)]
+        flows = [it for it in switch.flows if it.table == table and it.match.has(packet, comes)]
         if not flows:
             return []
         made, now = [], dict(packet)

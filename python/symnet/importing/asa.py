@@ -4,7 +4,7 @@ Packets are those that begin a connection: what belongs to one that is there pas
 """
 
 from ipaddress import IPv4Interface, IPv4Network
-from typing import Dict, FrozenSet, List, Optional, Tuple
+from typing import Any, Dict, FrozenSet, List, Optional, Tuple
 
 from .cisco import OPERATORS, WITH_PORTS, Words, is_icmp, of_protocol, own_routes, read_routes
 from .model import ACCEPT, ANY, DROP, GOTO, Chain, Filter, Interface, Match, Ranges, Refused, Router, Rule, Source, of_network, product, ranges_of, test
@@ -12,9 +12,12 @@ from .sources import Text
 
 # Sources and destinations that the box forwards never: groups, all, and its own net.
 _NEVER: Ranges = ranges_of([of_network(IPv4Network(it)) for it in ("0.0.0.0/32", "127.0.0.0/8", "224.0.0.0/4", "255.255.255.255/32")])
-_SILENT = ("description", "no ", "duplex", "speed", "delay", "ipv6", "mtu", "ospf", "authentication", "management-only", "media-type", "flowcontrol", "hold-time", "hello-interval", "!")
-_WHY = {"channel-group": "a bundle of interfaces", "bridge-group": "a bridge", "member-interface": "a bundle of interfaces", "policy-route": "policy routing", "zone-member": "zones", "vxlan": "a tunnel", "tunnel": "a tunnel"}
-_GLOBAL = {"nat": "address translation", "static": "address translation", "global": "address translation", "crypto map": "encryption", "firewall transparent": "a box that does not route",
+_SILENT = ("description", "no ", "duplex", "speed", "delay", "ipv6", "mtu", "ospf", "authentication", "management-only", "media-type", "flowcontrol", "hold-time",
+           "hello-interval", "!")
+_WHY = {"channel-group": "a bundle of interfaces", "bridge-group": "a bridge", "member-interface": "a bundle of interfaces", "policy-route": "policy routing",
+        "zone-member": "zones", "vxlan": "a tunnel", "tunnel": "a tunnel"}
+_GLOBAL = {"nat": "address translation", "static": "address translation", "global": "address translation", "crypto map": "encryption",
+           "firewall transparent": "a box that does not route",
            "policy-list": "policy routing", "ip verify": "a test of the way back", "context": "boxes inside the box", "mode multiple": "boxes inside the box"}
 
 
@@ -162,7 +165,7 @@ class _Config:
         elif name in objects.services:
             objects.services[name] += self.service_member(word, words)
 
-    def group(self, of: Dict[str, List], words: Words) -> List:  # type: ignore[type-arg]
+    def group(self, of: Dict[str, List[Any]], words: Words) -> List[Any]:
         name = words.next("a name")
         if name not in of:
             raise words.fault(f"no group of this kind before it has the name {name}")
@@ -244,7 +247,8 @@ class _Config:
         protocol = words.next("a protocol") if words.words else ""
         self.section = (word, name, protocol)
         objects = self.objects
-        known: Dict[str, Dict[str, List]] = {"network": objects.networks, "protocol": objects.protocols, "service": objects.ports if protocol and word == "object-group" else objects.services}  # type: ignore[type-arg]
+        services: Any = objects.ports if protocol and word == "object-group" else objects.services
+        known: Dict[str, Any] = {"network": objects.networks, "protocol": objects.protocols, "service": services}
         if kind not in known:
             raise words.fault(f"a group of the kind {kind}, which a job does not have")
         known[kind].setdefault(name, [])

@@ -15,14 +15,14 @@ _MOST = 200_000
 
 class Context:
     """What is known where a filter stands: the interface that a packet came by, or the numbers that tell it by the metadata `arrival`; and the one that it
-    goes by, which is known wherever there is one."""
+    goes by, which is known wherever there is one, and has no name where there is none."""
 
-    def __init__(self, numbers: Dict[str, int], comes: Optional[str] = None, goes: Optional[str] = None):
+    def __init__(self, numbers: Dict[str, int], comes: Optional[str] = None, goes: str = ""):
         self.numbers, self.comes, self.goes = numbers, comes, goes
 
     def conjunction(self, match: Match) -> Optional[str]:
         """The test of a match; None where no packet has it, and nothing where each has it."""
-        if match.is_empty or (match.goes is not None and (self.goes is None or self.goes not in match.goes)):
+        if match.is_empty or (match.goes is not None and self.goes not in match.goes):
             return None
         parts = []
         if match.comes is not None and self.comes is None:

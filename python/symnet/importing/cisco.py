@@ -8,24 +8,35 @@ from .model import ANY, LOCAL, Hop, Interface, Match, Refused, Route, Source, te
 from .numbers import ICMP, TCP, UDP, icmp_range, number
 from .sources import Text
 
-PROTOCOLS: Dict[str, int] = {"icmp": 1, "igmp": 2, "ipinip": 4, "tcp": 6, "igrp": 9, "udp": 17, "gre": 47, "esp": 50, "ipsec": 50, "ahp": 51, "ah": 51, "icmp6": 58, "eigrp": 88, "ospf": 89,
+PROTOCOLS: Dict[str, int] = {"icmp": 1, "igmp": 2, "ipinip": 4, "tcp": 6, "igrp": 9, "udp": 17, "gre": 47, "esp": 50, "ipsec": 50, "ahp": 51, "ah": 51, "icmp6": 58,
+                             "eigrp": 88, "ospf": 89,
                              "nos": 94, "pim": 103, "pcp": 108, "snp": 109, "sctp": 132, "pptp": 47}
 # Names of ports, as both systems write them; where TCP and UDP differ, by the protocol.
 _PORTS: Dict[str, int] = {
-    "echo": 7, "discard": 9, "daytime": 13, "chargen": 19, "ftp-data": 20, "ftp": 21, "ssh": 22, "telnet": 23, "smtp": 25, "time": 37, "nameserver": 42, "whois": 43, "tacacs": 49, "tacacs-ds": 65,
-    "domain": 53, "bootps": 67, "bootpc": 68, "tftp": 69, "gopher": 70, "finger": 79, "www": 80, "http": 80, "hostname": 101, "pop2": 109, "pop3": 110, "sunrpc": 111, "ident": 113,
-    "nntp": 119, "ntp": 123, "netbios-ns": 137, "netbios-dgm": 138, "netbios-ssn": 139, "netbios-ss": 139, "imap4": 143, "snmp": 161, "snmptrap": 162, "xdmcp": 177, "bgp": 179,
-    "irc": 194, "dnsix": 195, "mobile-ip": 434, "ldap": 389, "https": 443, "pim-auto-rp": 496, "isakmp": 500, "exec": 512, "biff": 512, "login": 513, "who": 513, "syslog": 514, "cmd": 514,
-    "rsh": 514, "lpd": 515, "talk": 517, "rip": 520, "uucp": 540, "klogin": 543, "kshell": 544, "rtsp": 554, "ldaps": 636, "kerberos": 750, "lotusnotes": 1352, "citrix-ica": 1494,
-    "sqlnet": 1521, "radius": 1645, "radius-acct": 1646, "h323": 1720, "pptp": 1723, "nfs": 2049, "ctiqbe": 2748, "non500-isakmp": 4500, "sip": 5060, "aol": 5190, "secureid-udp": 5510,
+    "echo": 7, "discard": 9, "daytime": 13, "chargen": 19, "ftp-data": 20, "ftp": 21, "ssh": 22, "telnet": 23, "smtp": 25, "time": 37, "nameserver": 42,
+    "whois": 43, "tacacs": 49, "tacacs-ds": 65,
+    "domain": 53, "bootps": 67, "bootpc": 68, "tftp": 69, "gopher": 70, "finger": 79, "www": 80, "http": 80, "hostname": 101, "pop2": 109, "pop3": 110,
+    "sunrpc": 111, "ident": 113,
+    "nntp": 119, "ntp": 123, "netbios-ns": 137, "netbios-dgm": 138, "netbios-ssn": 139, "netbios-ss": 139, "imap4": 143, "snmp": 161, "snmptrap": 162, "xdmcp": 177,
+    "bgp": 179,
+    "irc": 194, "dnsix": 195, "mobile-ip": 434, "ldap": 389, "https": 443, "pim-auto-rp": 496, "isakmp": 500, "exec": 512, "biff": 512, "login": 513, "who": 513,
+    "syslog": 514, "cmd": 514,
+    "rsh": 514, "lpd": 515, "talk": 517, "rip": 520, "uucp": 540, "klogin": 543, "kshell": 544, "rtsp": 554, "ldaps": 636, "kerberos": 750, "lotusnotes": 1352,
+    "citrix-ica": 1494,
+    "sqlnet": 1521, "radius": 1645, "radius-acct": 1646, "h323": 1720, "pptp": 1723, "nfs": 2049, "ctiqbe": 2748, "non500-isakmp": 4500, "sip": 5060, "aol": 5190,
+    "secureid-udp": 5510,
     "pcanywhere-data": 5631, "pcanywhere-status": 5632, "drip": 3949, "cifs": 3020,
 }
 _ICMP: Dict[str, Tuple[int, Optional[int]]] = {
-    "echo-reply": (0, None), "unreachable": (3, None), "net-unreachable": (3, 0), "host-unreachable": (3, 1), "protocol-unreachable": (3, 2), "port-unreachable": (3, 3),
-    "packet-too-big": (3, 4), "source-route-failed": (3, 5), "network-unknown": (3, 6), "host-unknown": (3, 7), "administratively-prohibited": (3, 13), "source-quench": (4, None),
-    "redirect": (5, None), "alternate-address": (6, None), "echo": (8, None), "router-advertisement": (9, None), "router-solicitation": (10, None), "time-exceeded": (11, None),
+    "echo-reply": (0, None), "unreachable": (3, None), "net-unreachable": (3, 0), "host-unreachable": (3, 1), "protocol-unreachable": (3, 2),
+    "port-unreachable": (3, 3),
+    "packet-too-big": (3, 4), "source-route-failed": (3, 5), "network-unknown": (3, 6), "host-unknown": (3, 7), "administratively-prohibited": (3, 13),
+    "source-quench": (4, None),
+    "redirect": (5, None), "alternate-address": (6, None), "echo": (8, None), "router-advertisement": (9, None), "router-solicitation": (10, None),
+    "time-exceeded": (11, None),
     "ttl-exceeded": (11, 0), "reassembly-timeout": (11, 1), "parameter-problem": (12, None), "timestamp-request": (13, None), "timestamp-reply": (14, None),
-    "information-request": (15, None), "information-reply": (16, None), "mask-request": (17, None), "mask-reply": (18, None), "traceroute": (30, None), "conversion-error": (31, None),
+    "information-request": (15, None), "information-reply": (16, None), "mask-request": (17, None), "mask-reply": (18, None), "traceroute": (30, None),
+    "conversion-error": (31, None),
     "mobile-redirect": (32, None),
 }
 OPERATORS = ("eq", "neq", "lt", "gt", "range")
@@ -135,6 +146,8 @@ _CONTAINER = re.compile(rf"\s*({_NUMBERS})(/\d+)? is (variably )?subnetted")
 _MORE = re.compile(r"\s+(?P<rest>\[\d+/\d+\] via .*|is directly connected.*)")
 _VIA = re.compile(rf"\s*(?:\[\d+/\d+\]\s+)?via ({_NUMBERS})(.*)")
 _TIME = re.compile(r"\d+:\d+:\d+|\d+[ywdhms]\d*[wdhms]?\d*|never")
+# A code with its meaning, or a prompt.
+_LEGEND = re.compile(r"[A-Za-z0-9*+%&~]{1,3}\d? - |[\w.-]+[#>]")
 _NULL = "Null0"
 
 
@@ -169,7 +182,8 @@ def _hop(rest: str, source: Source) -> Optional[Tuple[str, Optional[IPv4Address]
 def _is_legend(line: str) -> bool:
     """Whether a line is of the head of the table."""
     text = line.strip()
-    return not text or text.startswith(("Codes:", "Gateway of last resort", "Default gateway")) or re.match(r"[A-Za-z0-9*+%&~]{1,3}\d? - ", text) is not None or re.match(r"[\w.-]+[#>]", text) is not None
+    return not text or text.startswith(("Codes:", "Gateway of last resort",
+    "Default gateway")) or re.match(r"[A-Za-z0-9*+%&~]{1,3}\d? - ", text) is not None or re.match(r"[\w.-]+[#>]", text) is not None
 
 
 def _prefix(text: str, mask: Optional[str], length: str, source: Source) -> IPv4Network:

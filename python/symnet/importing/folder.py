@@ -84,7 +84,8 @@ def _interfaces(devices: linux.Devices, box: Box) -> Dict[str, Interface]:
 def _filters(router: Router, files: Files, notes: List[str]) -> None:
     names = [*router.interfaces]
     if "nft" in files and "iptables-save" in files:
-        raise Refused(files["iptables-save"].source(1), "the box has the files nft and iptables-save: where iptables writes into nft, both tell of the same rules, and else which come first is not said")
+        raise Refused(files["iptables-save"].source(1), "the box has the files nft and iptables-save: where iptables writes into nft, both tell of the same rules, "
+                                                        "and else which come first is not said")
     if "nft" in files:
         read_rules = nftables.read_nft(files["nft"], names, notes)
         router.arriving, router.forwarded, router.delivered = read_rules.arriving, read_rules.forwarded, read_rules.delivered

@@ -8,14 +8,21 @@ from .model import ACCEPT, ANY, DROP, Chain, Filter, Interface, Match, Ranges, R
 from .sources import Text
 
 # Lines of an interface that change nothing of where a packet goes, by their first words.
-_SILENT = ("description", "no ", "duplex", "speed", "negotiation", "media-type", "bandwidth", "delay", "mtu", "ip mtu", "load-interval", "cdp", "lldp", "keepalive", "logging", "ipv6",
-           "ip ospf", "ip rip", "ip hello-interval", "ip hold-time", "ip authentication", "ip summary-address", "isis", "ip router", "ip tcp adjust-mss", "ip proxy-arp", "ip redirects", "ip unreachables",
-           "ip helper-address", "snmp", "carrier-delay", "hold-queue", "arp timeout", "spanning-tree", "clock", "mop", "ntp", "ip address dhcp", "bfd", "ip route-cache", "ip flow", "load-balancing", "fair-queue", "tx-ring-limit", "power")
+_SILENT = ("description", "no ", "duplex", "speed", "negotiation", "media-type", "bandwidth", "delay", "mtu", "ip mtu", "load-interval", "cdp", "lldp", "keepalive",
+           "logging", "ipv6",
+           "ip ospf", "ip rip", "ip hello-interval", "ip hold-time", "ip authentication", "ip summary-address", "isis", "ip router", "ip tcp adjust-mss",
+           "ip proxy-arp", "ip redirects", "ip unreachables",
+           "ip helper-address", "snmp", "carrier-delay", "hold-queue", "arp timeout", "spanning-tree", "clock", "mop", "ntp", "ip address dhcp", "bfd",
+           "ip route-cache", "ip flow", "load-balancing", "fair-queue", "tx-ring-limit", "power")
 # What is no part of a job, by the first words of a line; it may stand in an interface or at the left edge.
-_WHY = {"ip nat": "address translation", "ip policy": "policy routing", "service-policy": "a policy of its own", "zone-member": "zones with states of connections", "zone-pair": "zones with states of connections",
-        "ip vrf": "a table of routes of its own (VRF)", "vrf": "a table of routes of its own (VRF)", "crypto map": "encryption", "tunnel": "a tunnel", "switchport": "a port of a switch", "channel-group": "a bundle of interfaces",
-        "ip verify": "a test of the way back", "ip inspect": "states of connections", "standby": "an address that two boxes share", "vrrp": "an address that two boxes share", "glbp": "an address that two boxes share",
-        "bridge-group": "a bridge", "ip unnumbered": "an interface without an address of its own", "xconnect": "a wire through the network", "no ip routing": "a box that does not route",
+_WHY = {"ip nat": "address translation", "ip policy": "policy routing", "service-policy": "a policy of its own", "zone-member": "zones with states of connections",
+        "zone-pair": "zones with states of connections",
+        "ip vrf": "a table of routes of its own (VRF)", "vrf": "a table of routes of its own (VRF)", "crypto map": "encryption", "tunnel": "a tunnel",
+        "switchport": "a port of a switch", "channel-group": "a bundle of interfaces",
+        "ip verify": "a test of the way back", "ip inspect": "states of connections", "standby": "an address that two boxes share",
+        "vrrp": "an address that two boxes share", "glbp": "an address that two boxes share",
+        "bridge-group": "a bridge", "ip unnumbered": "an interface without an address of its own", "xconnect": "a wire through the network",
+        "no ip routing": "a box that does not route",
         "ip virtual-reassembly": "the joining of fragments", "rate-limit": "a limit of rate", "ip tcp intercept": "answers in the server's place"}
 _GLOBAL = ("ip nat inside", "ip nat outside", "no ip routing", "zone-pair", "ip tcp intercept")
 # Sources and destinations that no router of the kind forwards: groups, and all neighbors.
@@ -83,8 +90,10 @@ def _entry(text: str, is_standard: bool, source: Source) -> Optional[Rule]:
     while words.skip("log", "log-input"):
         pass
     if words.words:
-        known = {"established": "a state of a connection", "reflect": "a list that packets make", "evaluate": "a list that packets make", "time-range": "times of day", "fragments": "fragments",
-                 "dscp": "a mark of service", "precedence": "a mark of service", "tos": "a mark of service", "option": "options of the IP header", "match-all": "flags of TCP", "match-any": "flags of TCP", "ttl": "the time to live"}
+        known = {"established": "a state of a connection", "reflect": "a list that packets make", "evaluate": "a list that packets make",
+                 "time-range": "times of day", "fragments": "fragments",
+                 "dscp": "a mark of service", "precedence": "a mark of service", "tos": "a mark of service", "option": "options of the IP header",
+                 "match-all": "flags of TCP", "match-any": "flags of TCP", "ttl": "the time to live"}
         raise words.fault(f"`{' '.join(words.words)}`: {known.get(words.first, 'a test')}, which a job does not have here")
     return Rule(tuple(product(groups)), ACCEPT if action == "permit" else DROP, source)
 

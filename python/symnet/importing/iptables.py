@@ -17,13 +17,16 @@ _POLICIES = {"ACCEPT": ACCEPT, "DROP": DROP}
 _ACTIONS = {"ACCEPT": ACCEPT, "DROP": DROP, "REJECT": REJECT, "RETURN": RETURN}
 # Targets that decide nothing, and options behind them.
 _SILENT = ("LOG", "NFLOG", "ULOG", "TRACE", "AUDIT")
-_SILENT_OPTIONS = ("--log-prefix", "--log-level", "--nflog-prefix", "--nflog-group", "--nflog-threshold", "--nflog-size", "--nflog-range", "--type", "--ulog-prefix", "--ulog-nlgroup")
+_SILENT_OPTIONS = ("--log-prefix", "--log-level", "--nflog-prefix", "--nflog-group", "--nflog-threshold", "--nflog-size", "--nflog-range", "--type",
+                   "--ulog-prefix", "--ulog-nlgroup")
 _SILENT_FLAGS = ("--log-tcp-sequence", "--log-tcp-options", "--log-ip-options", "--log-uid", "--log-macdecode")
 _MODULES = ("tcp", "udp", "udplite", "sctp", "dccp", "multiport", "comment", "iprange", "ttl", "icmp")
 _PORTS = {"--sport": "source port", "--source-port": "source port", "--sports": "source port", "--source-ports": "source port",
           "--dport": "destination port", "--destination-port": "destination port", "--dports": "destination port", "--destination-ports": "destination port"}
-_WHY = {"state": "a state of a connection", "conntrack": "a state of a connection", "mark": "a mark", "connmark": "a mark", "limit": "a limit of rate", "hashlimit": "a limit of rate",
-        "set": "a set that stands in another output (ipset)", "tcp_flags": "flags of TCP", "recent": "a state of earlier packets", "addrtype": "a type of addresses", "physdev": "ports of a bridge"}
+_WHY = {"state": "a state of a connection", "conntrack": "a state of a connection", "mark": "a mark", "connmark": "a mark", "limit": "a limit of rate",
+        "hashlimit": "a limit of rate",
+        "set": "a set that stands in another output (ipset)", "tcp_flags": "flags of TCP", "recent": "a state of earlier packets",
+        "addrtype": "a type of addresses", "physdev": "ports of a bridge"}
 
 
 class _Reader:
@@ -101,7 +104,8 @@ class _Reader:
     def interface(self, word: str, is_not: bool) -> None:
         text = self.value(word)
         pattern = f"{fnmatch_quoted(text[:-1])}*" if text.endswith("+") else fnmatch_quoted(text)
-        named = frozenset(it for it in self.interfaces if fnmatch.fnmatchcase(it, pattern) != is_not)
+        # where a packet is for the box itself `-o` looks at no name, which a test with `!` has
+        named = frozenset(it for it in (*self.interfaces, "") if fnmatch.fnmatchcase(it, pattern) != is_not)
         self.groups.append([Match(comes=named) if word in ("-i", "--in-interface") else Match(goes=named)])
 
     def ports(self, word: str, is_not: bool) -> None:
@@ -145,7 +149,8 @@ class _Reader:
         self.groups.append([test("source port", [icmp_range(found[0], found[1])], is_not)])
 
     def refuse(self, word: str, _: bool) -> None:
-        why = {"--syn": "tcp_flags", "--tcp-flags": "tcp_flags", "--tcp-option": "tcp_flags", "--state": "state", "--ctstate": "conntrack", "--mark": "mark"}.get(word)
+        why = {"--syn": "tcp_flags", "--tcp-flags": "tcp_flags", "--tcp-option": "tcp_flags", "--state": "state", "--ctstate": "conntrack",
+               "--mark": "mark"}.get(word)
         raise self.fault(f"`{word}`: {_WHY[why]}, which a job does not have" if why else f"`{word}`: fragments, which a job does not have")
 
 
@@ -157,7 +162,8 @@ def fnmatch_quoted(text: str) -> str:
 _OPTIONS: Dict[str, Callable[[_Reader, str, bool], None]] = {
     **dict.fromkeys(("-s", "--source", "--src", "-d", "--destination", "--dst"), _Reader.network), **dict.fromkeys(("-p", "--protocol"), _Reader.protocol),
     **dict.fromkeys(("-i", "--in-interface", "-o", "--out-interface"), _Reader.interface), **dict.fromkeys(_PORTS, _Reader.ports), "--ports": _Reader.both_ports,
-    "--src-range": _Reader.addresses, "--dst-range": _Reader.addresses, **dict.fromkeys(("--ttl-eq", "--ttl-lt", "--ttl-gt"), _Reader.ttl), "--icmp-type": _Reader.icmp,
+    "--src-range": _Reader.addresses, "--dst-range": _Reader.addresses, **dict.fromkeys(("--ttl-eq", "--ttl-lt", "--ttl-gt"), _Reader.ttl),
+    "--icmp-type": _Reader.icmp,
     **dict.fromkeys(("--syn", "--tcp-flags", "--tcp-option", "--state", "--ctstate", "--mark", "-f", "--fragment"), _Reader.refuse),
 }
 

@@ -11,10 +11,14 @@ from .numbers import ICMP_TYPES, PROTOCOLS, icmp_range, number
 from .sources import Text
 
 _PORTS: Dict[str, int] = {
-    "ftp-data": 20, "ftp": 21, "ssh": 22, "telnet": 23, "smtp": 25, "tacacs": 49, "domain": 53, "dhcp": 67, "bootps": 67, "bootpc": 68, "tftp": 69, "finger": 79, "http": 80, "kerberos-sec": 88,
-    "pop3": 110, "sunrpc": 111, "ident": 113, "nntp": 119, "ntp": 123, "netbios-ns": 137, "netbios-dgm": 138, "netbios-ssn": 139, "imap": 143, "snmp": 161, "snmptrap": 162, "bgp": 179,
-    "ldap": 389, "https": 443, "syslog": 514, "rip": 520, "ldp": 646, "radius": 1812, "radacct": 1813, "nfsd": 2049, "msdp": 639, "xdmcp": 177, "biff": 512, "exec": 512, "login": 513, "who": 513,
-    "cmd": 514, "printer": 515, "talk": 517, "klogin": 543, "kshell": 544, "socks": 1080, "zephyr-srv": 2102, "mobileip-agent": 434, "timed": 525, "krb-prop": 754, "ekshell": 2106, "eklogin": 2105,
+    "ftp-data": 20, "ftp": 21, "ssh": 22, "telnet": 23, "smtp": 25, "tacacs": 49, "domain": 53, "dhcp": 67, "bootps": 67, "bootpc": 68, "tftp": 69, "finger": 79,
+    "http": 80, "kerberos-sec": 88,
+    "pop3": 110, "sunrpc": 111, "ident": 113, "nntp": 119, "ntp": 123, "netbios-ns": 137, "netbios-dgm": 138, "netbios-ssn": 139, "imap": 143, "snmp": 161,
+    "snmptrap": 162, "bgp": 179,
+    "ldap": 389, "https": 443, "syslog": 514, "rip": 520, "ldp": 646, "radius": 1812, "radacct": 1813, "nfsd": 2049, "msdp": 639, "xdmcp": 177, "biff": 512,
+    "exec": 512, "login": 513, "who": 513,
+    "cmd": 514, "printer": 515, "talk": 517, "klogin": 543, "kshell": 544, "socks": 1080, "zephyr-srv": 2102, "mobileip-agent": 434, "timed": 525, "krb-prop": 754,
+    "ekshell": 2106, "eklogin": 2105,
 }
 _TYPES = {**ICMP_TYPES, "unreachable": 3, "timestamp": 13, "mask-request": 17, "mask-reply": 18, "router-advertisement": 9, "router-solicit": 10}
 _SIDES = {"source-address": ("source address",), "destination-address": ("destination address",), "address": ("source address", "destination address"),
@@ -22,8 +26,10 @@ _SIDES = {"source-address": ("source address",), "destination-address": ("destin
           "source-port": ("source port",), "destination-port": ("destination port",), "port": ("source port", "destination port")}
 _SILENT_ACTIONS = ("count", "log", "syslog", "sample", "forwarding-class", "loss-priority", "port-mirror")
 _ACTIONS = {"accept": ACCEPT, "discard": DROP, "reject": REJECT}
-_SILENT_UNIT = ("description", "family inet6", "family iso", "family mpls", "bandwidth", "traps", "no-traps", "mtu", "family inet mtu", "family inet no-redirects", "family inet primary")
-_SILENT_INTERFACE = ("description", "mtu", "speed", "link-mode", "gigether-options auto-negotiation", "gigether-options no-auto-negotiation", "ether-options auto-negotiation", "hold-time", "traps", "no-traps",
+_SILENT_UNIT = ("description", "family inet6", "family iso", "family mpls", "bandwidth", "traps", "no-traps", "mtu", "family inet mtu", "family inet no-redirects",
+                "family inet primary")
+_SILENT_INTERFACE = ("description", "mtu", "speed", "link-mode", "gigether-options auto-negotiation", "gigether-options no-auto-negotiation",
+                     "ether-options auto-negotiation", "hold-time", "traps", "no-traps",
                      "flow-control", "no-flow-control", "vlan-tagging", "gigether-options no-flow-control", "optics-options", "damping")
 _NEVER: Ranges = ranges_of([of_network(IPv4Network(it)) for it in ("0.0.0.0/32", "127.0.0.0/8", "224.0.0.0/4", "255.255.255.255/32")])
 
@@ -82,7 +88,8 @@ class _Filters:
         elif words == ["next", "term"]:
             term.is_next = True
         elif word not in _SILENT_ACTIONS:
-            why = {"policer": "a limit of rate", "routing-instance": "policy routing", "next-ip": "policy routing", "next-interface": "policy routing", "dscp": "a change of the packet", "next": "another filter"}.get(word)
+            why = {"policer": "a limit of rate", "routing-instance": "policy routing", "next-ip": "policy routing", "next-interface": "policy routing",
+                   "dscp": "a change of the packet", "next": "another filter"}.get(word)
             raise Refused(source, f"`then {' '.join(words)}`: {why or 'an action'}, which a job does not have")
 
     # ------------------------------------------------ tests
@@ -197,7 +204,8 @@ class _Config:
             self.other(words[1], source)
 
     def other(self, name: str, source: Source) -> None:
-        why = {"security": "zones and policies with states of connections", "routing-instances": "tables of routes of their own", "logical-systems": "boxes inside the box",
+        why = {"security": "zones and policies with states of connections", "routing-instances": "tables of routes of their own",
+               "logical-systems": "boxes inside the box",
                "services": "services that change packets", "bridge-domains": "a bridge", "vlans": "a switch"}.get(name, "groups that other parts take over")
         raise Refused(source, f"`set {name}`: {why}, which a job does not have")
 

@@ -83,7 +83,8 @@ def of_network(network: IPv4Network) -> Tuple[int, int]:
 
 @dataclass(frozen=True)
 class Match:
-    """The packets of a test: of each named field the values that it may have, and the interfaces by which they may come and go; None is any."""
+    """The packets of a test: of each named field the values that it may have, and the interfaces by which they may come and go; None is any. A packet for the box itself
+    goes by an interface without a name."""
 
     fields: Tuple[Tuple[str, Ranges], ...] = ()
     comes: Optional[FrozenSet[str]] = None
@@ -103,7 +104,7 @@ class Match:
             fields[name] = common(fields[name], ranges) if name in fields else ranges
         return Match(tuple(fields.items()), _both(self.comes, other.comes), _both(self.goes, other.goes))
 
-    def has(self, packet: Dict[str, int], comes: str, goes: Optional[str]) -> bool:
+    def has(self, packet: Dict[str, int], comes: str, goes: str = "") -> bool:
         return (all(has(ranges, packet[name]) for name, ranges in self.fields) and (self.comes is None or comes in self.comes) and
                 (self.goes is None or goes in self.goes))
 

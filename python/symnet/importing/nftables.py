@@ -17,13 +17,18 @@ _HOOKS = (PREROUTING, INPUT, FORWARD, POSTROUTING)
 _FAMILIES, _OTHER_FAMILIES = ("ip", "inet"), ("ip6", "arp")
 _SILENT = ("counter", "log", "comment")
 _VERDICTS = {"accept": ACCEPT, "drop": DROP, "reject": REJECT, "return": RETURN, "jump": JUMP, "goto": GOTO}
-_WHY = {"ct": "a state of a connection", "limit": "a limit of rate", "quota": "a limit of volume", "mangle": "a change of the packet", "masquerade": "address translation",
-        "snat": "address translation", "dnat": "address translation", "redirect": "address translation", "queue": "a decision outside the kernel", "xt": "a part that another tool wrote",
-        "notrack": "an exception from the tracking of connections", "dup": "a copy of the packet", "fwd": "another way of the packet", "set": "a set that packets change",
+_WHY = {"ct": "a state of a connection", "limit": "a limit of rate", "quota": "a limit of volume", "mangle": "a change of the packet",
+        "masquerade": "address translation",
+        "snat": "address translation", "dnat": "address translation", "redirect": "address translation", "queue": "a decision outside the kernel",
+        "xt": "a part that another tool wrote",
+        "notrack": "an exception from the tracking of connections", "dup": "a copy of the packet", "fwd": "another way of the packet",
+        "set": "a set that packets change",
         "map": "a map that packets change", "flow": "a shortcut of the kernel", "synproxy": "an answer in the server's place", "tproxy": "another way of the packet",
-        "meter": "a limit of rate", "ct count": "a count of connections", "secmark": "a mark", "ct helper": "a state of a connection", "ct timeout": "a state of a connection"}
+        "meter": "a limit of rate", "ct count": "a count of connections", "secmark": "a mark", "ct helper": "a state of a connection",
+        "ct timeout": "a state of a connection"}
 _KEYS = {("ip", "saddr"): "source address", ("ip", "daddr"): "destination address", ("ip", "protocol"): "protocol", ("ip", "ttl"): "TTL",
-         **{(kind, name): field for kind in ("tcp", "udp", "udplite", "sctp", "dccp", "th") for name, field in (("sport", "source port"), ("dport", "destination port"))}}
+         **{(kind, name): field for kind in ("tcp", "udp", "udplite", "sctp", "dccp", "th") for name, field in (("sport", "source port"), ("dport",
+         "destination port"))}}
 _ORDERS = ("<", ">", "<=", ">=")
 # The priorities that nft writes by name in some versions.
 _PRIORITIES = {"raw": -300, "mangle": -150, "dstnat": -100, "filter": 0, "security": 50, "srcnat": 100}
@@ -109,7 +114,8 @@ class _Reader:
         raise self.fault(f"{_WHY[kind]} (`{kind}`), which a job does not have" if kind in _WHY else f"a test of `{kind}`, which a job does not have")
 
     def meta(self, key: Any) -> _Key:
-        found = {"iifname": "comes", "iif": "comes", "oifname": "goes", "oif": "goes", "l4proto": "protocol", "nfproto": "family", "protocol": "family"}.get(str(key))
+        found = {"iifname": "comes", "iif": "comes", "oifname": "goes", "oif": "goes", "l4proto": "protocol", "nfproto": "family",
+                 "protocol": "family"}.get(str(key))
         if found is None:
             raise self.fault("a mark, which a job does not have" if key == "mark" else f"a test of `meta {key}`, which a job does not have")
         return _Key(found)
@@ -297,7 +303,8 @@ class _Ruleset:
             raise Refused(source, f"a {kind} of the family {family}, which is not read")
         key = family, str(body.get("name" if kind == "table" else "table"))
         table = self.tables.setdefault(key, _Table())
-        takes: Dict[str, Callable[[Tuple[str, str], _Table, Any, Source], None]] = {"table": self.table, "chain": self.chain, "rule": self.rule, "set": self.set, "map": self.map}
+        takes: Dict[str, Callable[[Tuple[str, str], _Table, Any, Source], None]] = {"table": self.table, "chain": self.chain, "rule": self.rule, "set": self.set,
+                                                                                    "map": self.map}
         if kind in takes:
             takes[kind](key, table, body, source)
         elif kind not in ("counter", "element"):

@@ -9,18 +9,27 @@ from .sources import Text
 from .topology import mac_of
 
 # Words before the match of a flow that decide nothing: counters, and how long it is there or was not used.
-_SILENT = ("cookie", "duration", "n_packets", "n_bytes", "idle_age", "hard_age", "reset_counts", "importance", "send_flow_rem", "check_overlap", "no_packet_counts", "no_byte_counts")
+_SILENT = ("cookie", "duration", "n_packets", "n_bytes", "idle_age", "hard_age", "reset_counts", "importance", "send_flow_rem", "check_overlap", "no_packet_counts",
+           "no_byte_counts")
 _TIMES = ("idle_timeout", "hard_timeout")
 _IPV4 = 0x0800
-_TYPES: Dict[str, Tuple[int, Optional[int]]] = {"ip": (_IPV4, None), "icmp": (_IPV4, 1), "tcp": (_IPV4, 6), "udp": (_IPV4, 17), "sctp": (_IPV4, 132), "arp": (0x0806, None), "rarp": (0x8035, None),
-                                                "ipv6": (0x86DD, None), "tcp6": (0x86DD, 6), "udp6": (0x86DD, 17), "sctp6": (0x86DD, 132), "icmp6": (0x86DD, 58), "mpls": (0x8847, None), "mplsm": (0x8848, None)}
-_FIELDS = {"dl_src": "Ethernet source", "eth_src": "Ethernet source", "dl_dst": "Ethernet destination", "eth_dst": "Ethernet destination", "dl_type": "Ethernet type", "eth_type": "Ethernet type",
-           "nw_src": "source address", "ip_src": "source address", "nw_dst": "destination address", "ip_dst": "destination address", "nw_proto": "protocol", "ip_proto": "protocol",
-           "nw_ttl": "TTL", "tp_src": "source port", "tcp_src": "source port", "udp_src": "source port", "tp_dst": "destination port", "tcp_dst": "destination port", "udp_dst": "destination port"}
-_SETS = {"mod_dl_src": "Ethernet source", "mod_dl_dst": "Ethernet destination", "mod_nw_src": "source address", "mod_nw_dst": "destination address", "mod_tp_src": "source port",
+_TYPES: Dict[str, Tuple[int, Optional[int]]] = {"ip": (_IPV4, None), "icmp": (_IPV4, 1), "tcp": (_IPV4, 6), "udp": (_IPV4, 17), "sctp": (_IPV4, 132),
+                                                "arp": (0x0806, None), "rarp": (0x8035, None),
+                                                "ipv6": (0x86DD, None), "tcp6": (0x86DD, 6), "udp6": (0x86DD, 17), "sctp6": (0x86DD, 132), "icmp6": (0x86DD, 58),
+                                                "mpls": (0x8847, None), "mplsm": (0x8848, None)}
+_FIELDS = {"dl_src": "Ethernet source", "eth_src": "Ethernet source", "dl_dst": "Ethernet destination", "eth_dst": "Ethernet destination",
+           "dl_type": "Ethernet type", "eth_type": "Ethernet type",
+           "nw_src": "source address", "ip_src": "source address", "nw_dst": "destination address", "ip_dst": "destination address", "nw_proto": "protocol",
+           "ip_proto": "protocol",
+           "nw_ttl": "TTL", "tp_src": "source port", "tcp_src": "source port", "udp_src": "source port", "tp_dst": "destination port",
+           "tcp_dst": "destination port", "udp_dst": "destination port"}
+_SETS = {"mod_dl_src": "Ethernet source", "mod_dl_dst": "Ethernet destination", "mod_nw_src": "source address", "mod_nw_dst": "destination address",
+         "mod_tp_src": "source port",
          "mod_tp_dst": "destination port", "mod_nw_ttl": "TTL", "mod_vlan_vid": "VLAN"}
-_WHY = {"NORMAL": "the switch learns addresses by itself", "CONTROLLER": "a decision outside the switch", "controller": "a decision outside the switch", "learn": "flows that packets make", "ct": "states of connections",
-        "group": "groups, which stand in another output", "meter": "a limit of rate", "IN_PORT": "the way back by the port of arrival", "in_port": "the way back by the port of arrival"}
+_WHY = {"NORMAL": "the switch learns addresses by itself", "CONTROLLER": "a decision outside the switch", "controller": "a decision outside the switch",
+        "learn": "flows that packets make", "ct": "states of connections",
+        "group": "groups, which stand in another output", "meter": "a limit of rate", "IN_PORT": "the way back by the port of arrival",
+        "in_port": "the way back by the port of arrival"}
 _NO_VLAN = 0xFFFF
 _PORT = re.compile(r'"[^"]+"|[A-Za-z0-9_.-]+')
 
