@@ -43,7 +43,7 @@ def read_vlans(text: Text) -> Dict[str, BridgePort]:
         of: Dict[int, _Member] = {}
         for one in shaped(item.get("vlans", []), list, source, "the VLANs of a port"):
             shaped(one, dict, source, "a VLAN")
-            flags = one.get("flags", [])
+            flags = shaped(one.get("flags", []), list, source, "a VLAN")
             if "tunnel_id" in one or "tunnel" in one:
                 raise Refused(source, "a VLAN of a tunnel, which a job does not have")
             first = _vlan(one.get("vlan"), source)
@@ -97,7 +97,7 @@ def _row(item: Any, source: Source) -> Optional[_Row]:
         raise Refused(source, f"'{item.get('mac')}' is no address of Ethernet")
     source = told(source, " ".join(str(it) for it in (item["mac"], "dev", name, *(["vlan", item["vlan"]] if "vlan" in item else []), *(["master", item["master"]] if "master" in item else []),
                                                      item.get("state", ""))))
-    flags = item.get("flags", [])
+    flags = shaped(item.get("flags", []), list, source, "an entry")
     if "dst" in item or "vni" in item or "via" in item or "nhid" in item:
         raise Refused(source, "an entry of a tunnel, which a job does not have")
     if "blackhole" in flags:

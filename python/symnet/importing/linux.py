@@ -150,9 +150,10 @@ def _route(item: Any, prefix: IPv4Network, source: Source) -> Optional[Route]:
 
 def route_words(item: Any) -> str:
     """A route in the words of `ip route`."""
-    words = [item["type"]] if item.get("type", "unicast") != "unicast" else []
+    words = [str(item["type"])] if item.get("type", "unicast") != "unicast" else []
     words.append(str(item.get("dst")))
-    for one in item.get("nexthops") or [item]:
+    hops = item.get("nexthops")
+    for one in hops if isinstance(hops, list) and hops else [item]:
         if isinstance(one, dict):
             words += ["nexthop"] if one is not item else []
             words += [f"{word} {one[name]}" for name, word in (("gateway", "via"), ("dev", "dev")) if name in one]

@@ -5,7 +5,7 @@ place: states, marks, limits, address translation. So is `nft list` as text, whi
 """
 
 import json
-from typing import Any, Callable, Dict, List, NamedTuple, Optional, Sequence, Tuple
+from typing import Any, Callable, Dict, List, NamedTuple, Optional, Sequence, Set, Tuple
 
 from .model import ACCEPT, ANY, DROP, GOTO, JUMP, REJECT, RETURN, WIDTHS, Chain, Filter, Match, Refused, Rule, Source, product, test
 from .numbers import ICMP, ICMP_TYPES, PROTOCOLS, address, icmp_range, number
@@ -39,6 +39,12 @@ class _Key(NamedTuple):
 
     name: str
     needs: Match = ANY
+
+
+def _flags(body: Any) -> Set[str]:
+    """The flags of a part of the ruleset; some versions write a single one without a list."""
+    flags = body.get("flags", [])
+    return {str(it) for it in flags} if isinstance(flags, list) else {str(flags)}
 
 
 def _compact(value: Any) -> str:
@@ -311,7 +317,7 @@ class _Ruleset:
             raise Refused(source, f"{_WHY[kind]} (`{kind}`), which a job does not have" if kind in _WHY else f"a {kind}, which a job does not have")
 
     def table(self, _: Tuple[str, str], __: _Table, body: Any, source: Source) -> None:
-        if "dormant" in body.get("flags", []):
+        if "dormant" in _flags(body):
             raise Refused(source, "a table that is dormant, which is not read")
 
     def chain(self, key: Tuple[str, str], table: _Table, body: Any, source: Source) -> None:
@@ -351,7 +357,7 @@ class _Ruleset:
         self.elements(table.maps, body, source)
 
     def elements(self, into: Dict[str, Tuple[Any, Source]], body: Any, source: Source) -> None:
-        if "timeout" in body or set(body.get("flags", [])) & {"timeout", "dynamic"}:
+        if "timeout" in body or _flags(body) & {"timeout", "dynamic"}:
             raise Refused(source, "a set whose elements come and go by time or by packets, which a job does not have")
         into[str(body.get("name"))] = body.get("elem", []), source
 
