@@ -418,6 +418,12 @@ def passes(system, lines, given):
 def check_rules(expect):
     for system, lines, given, wanted in RULES:
         expect(f"import: {system}: {lines}, {given}", passes(system, lines, given), wanted)
+    for files, what in ((linux(nft=NFT.replace("forward", "input") % (NFT_RULE % match('{"meta":{"key":"oifname"}}', '"eth1"', "!=").replace("accept", "drop"))), "nft"),
+                        (rule("-A INPUT -j a\n:a - [0:0]\n-A a ! -o eth1 -j DROP"), "iptables")):
+        with tempfile.TemporaryDirectory() as room:
+            write(Path(room, "net"), files)
+            delivered = folder.read_folder(Path(room, "net")).boxes["r1"].router.delivered
+            expect(f"import: {what}: no interface that it goes by", all(import_walk.accepts(it, packet(), "eth0") for it in delivered), False)
 
 
 # ---------------------------------------------------------------- the command

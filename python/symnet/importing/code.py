@@ -56,7 +56,9 @@ def is_in(name: str, ranges: Ranges) -> str:
 
 def message(text: str, most: int = _LONGEST_MESSAGE) -> str:
     """A text that a `fail` or a comment may have, whatever was read."""
-    plain = "".join("'" if it == '"' else it if it.isprintable() else " " for it in text)
+    plain = text.replace('"', "'")
+    if not plain.isprintable():
+        plain = "".join(it if it.isprintable() else " " for it in plain)
     return plain if len(plain) <= most else f"{plain[:most - 2]}.."
 
 

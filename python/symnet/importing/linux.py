@@ -3,7 +3,7 @@
 from ipaddress import IPv4Address, IPv4Interface, IPv4Network
 from typing import Any, Dict, List, NamedTuple, Optional, Tuple
 
-from .model import LOCAL, Hop, Interface, Ranges, Refused, Route, Source, of_network, ranges_of
+from .model import LOCAL, MOST_ROUTES, Hop, Interface, Ranges, Refused, Route, Source, of_network, ranges_of
 from .sources import Text, members, shaped, told
 from .topology import mac_of
 
@@ -184,6 +184,8 @@ def read_routes(text: Text, notes: List[str]) -> List[Route]:
         metric = shaped(item.get("metric", 0), int, source, "a route")
         if route is not None and (prefix not in best[table] or metric < best[table][prefix][0]):
             best[table][prefix] = metric, route
+            if len(best["local"]) + len(best["main"]) > MOST_ROUTES:
+                raise Refused(source, f"a table of more than {MOST_ROUTES:,} routes")
     if others:
         notes.append(f"{text.name}: {others:,} routes of IPv6, which decide no packet of IPv4")
     first = [route for _, route in best["local"].values()]

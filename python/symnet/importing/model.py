@@ -189,6 +189,8 @@ class Hop(NamedTuple):
 
 
 LOCAL = "local"
+# The most routes of a router, which are the rows of its table (docs/statuses.md).
+MOST_ROUTES = 200_000
 
 
 @dataclass(frozen=True)

@@ -215,7 +215,8 @@ class _Reader:
     def interface(self, side: str, found: List[Any], is_not: bool, sign: str) -> List[Match]:
         if sign in _ORDERS or not all(isinstance(it, str) for it in found):
             raise self.fault("an interface that is not given by its name")
-        named = frozenset(it for it in self.interfaces if any(it == one or (one.endswith("*") and it.startswith(one[:-1])) for one in found) != is_not)
+        # where a packet goes by none, as in the hook input, its name is empty, which a test with != has
+        named = frozenset(it for it in (*self.interfaces, "") if any(it == one or (one.endswith("*") and it.startswith(one[:-1])) for one in found) != is_not)
         return [Match(comes=named) if side == "comes" else Match(goes=named)]
 
     def both_ports(self, found: List[Any], is_not: bool, sign: str) -> List[Match]:

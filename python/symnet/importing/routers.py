@@ -10,11 +10,11 @@ from typing import Dict, List, NamedTuple, Optional, Sequence, Tuple
 
 from .chains import Context, filter_code, tests_arrival
 from .code import Do, If, JobText, Node, Origin, Port, Row, Step, Table, fail, is_in
-from .model import LOCAL, Box, Filter, Hop, Interface, Refused, Route, Router, common, has
+from .model import LOCAL, MOST_ROUTES, Box, Filter, Hop, Interface, Refused, Route, Router, common, has
 from .parts import Built, Names, Surroundings
 
-# The most ports of a box, and the most rows of a table.
-_PORTS, _ROWS = 1024, 200_000
+# The most ports of a box.
+_PORTS = 1024
 _COUNT_DOWN = (If("head L3+64:8 <= 1", [fail("the time to live is over")]), Do("set head L3+64:8 = head L3+64:8 - 1;"))
 
 
@@ -125,8 +125,8 @@ class _Printer:
         ways, routes = _ways(self.router.routes, self.around.has_frames)
         if ways.count > _PORTS:
             raise Refused(self.box.source, f"its routes lead to {ways.count:,} next routers, and a box of a job has at most {_PORTS:,} ports")
-        if len(routes) > _ROWS:
-            raise Refused(routes[_ROWS].source, f"a table of more than {_ROWS:,} routes")
+        if len(routes) > MOST_ROUTES:
+            raise Refused(routes[MOST_ROUTES].source, f"a table of more than {MOST_ROUTES:,} routes")
         rows = [Row(str(it.prefix), ways.port(it), it.source) for it in routes]
         self.job.nodes.append(Table(self.names.part(self.box.name, "routes"), max(1, ways.count), rows, style))
         return ways

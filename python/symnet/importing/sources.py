@@ -11,6 +11,7 @@ from .model import Refused, Source
 # The most bytes of a file: that of a job.
 LARGEST = 64 << 20
 
+_DECODER = json.JSONDecoder()
 _BLANKS = re.compile(r"[ \t\r\n]*")
 # How much of a line is kept to tell it by.
 _TOLD = 160
@@ -62,7 +63,7 @@ class _Places:
 
 def _value(text: Text, at: int, places: _Places) -> Tuple[Any, int]:
     try:
-        return json.JSONDecoder().raw_decode(text.text, at)
+        return _DECODER.raw_decode(text.text, at)
     except json.JSONDecodeError as error:
         where = places.source(max(error.pos, places.at))
         raise Refused(where, f"no JSON: {error.msg}") from None
