@@ -563,6 +563,18 @@ def check_example(expect):
            ["gate: 10.1.0.0/16 via 10.9.0.2 dev eth0 (gate/ip-route.json:1:120)", "core: permit tcp any host 10.1.20.80 eq www 443 (core/ios-config.txt:39)"])
 
 
+def check_sites(expect):
+    """The items that reports name are those of the map: a drop's message stands in the line of its item."""
+    for name in names():
+        for style in ("grouped", "chain"):
+            made = importing.import_folder(IMPORTS / name, style=style)
+            items, lines = json.loads(made.map)["items"], made.text.split("\n")
+            report = symnet.explore(made.text, files=made.files, hops=40)
+            drops = [path for path in report.paths if path.message and path.message.startswith(("dropped by", "rejected by")) and "route" not in path.message]
+            wrong = [path.end for path in drops if path.message not in lines[items.get(str(path.site), {"line": 1})["line"] - 1]]
+            expect(f"import {name}, {style}: items of drops", wrong, [])
+
+
 def check(expect):
     """What needs nothing that is built."""
     for part in (check_jobs, check_places, check_ranges, check_rules, check_refusals, check_broken, check_large, check_command):
@@ -572,6 +584,7 @@ def check(expect):
 def check_run(expect, count=60):
     """What needs the library or the program."""
     check_example(expect)
+    check_sites(expect)
     total, reached = check_walks(expect, count)
     print(f"python: {total} packets of imported networks were walked, and {reached} of them came somewhere")
 

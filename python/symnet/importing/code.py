@@ -4,6 +4,7 @@ Items are numbered as docs/language.md says: from 0, in the order in which they 
 """
 
 from dataclasses import dataclass, field
+from ipaddress import IPv4Network
 from typing import Dict, Iterable, List, NamedTuple, Optional, Sequence, Tuple, Union
 
 from .model import Ranges, Refused, Source
@@ -106,6 +107,26 @@ class Table:
         return f"{self.name}.fib"
 
     @property
+    def items(self) -> int:
+        """How many items of the job its node is: the node, its code, a test with its `forward` for each row or for each port that has addresses, and a `fail`."""
+        tests = len(self.rows) if self.style == "chain" else len({self.rows[at].port for at in self.deciding()})
+        return 3 + 2 * tests
+
+    def deciding(self) -> Iterable[int]:
+        """The rows that decide an address: those whose longer prefixes leave one."""
+        prefixes = [IPv4Network(row.prefix) for row in self.rows]
+        open_: List[Tuple[int, int, int]] = []
+        covered = [0] * len(prefixes)
+        for at in sorted(range(len(prefixes)), key=lambda it: (int(prefixes[it].network_address), prefixes[it].prefixlen)):
+            low, size = int(prefixes[at].network_address), prefixes[at].num_addresses
+            while open_ and open_[-1][1] <= low:
+                open_.pop()
+            if open_:
+                covered[open_[-1][2]] += size
+            open_.append((low, low + size, at))
+        return [at for at, prefix in enumerate(prefixes) if covered[at] < prefix.num_addresses]
+
+    @property
     def text(self) -> str:
         """The file of the table: each row with a comment that says where it comes from."""
         rows = (f"{row.prefix} {row.port}  # {message(f'{row.source.place}: {row.source.text}')}".rstrip(": ") for row in self.rows)
@@ -168,6 +189,8 @@ class _Printer:
     def node(self, node: Union[Node, Table]) -> None:
         if isinstance(node, Table):
             self.begin(f'node {node.name} = fib "{node.file}" {node.style};')
+            # the code that the table becomes has items, too
+            self.item += node.items - 1
             return
         self.begin(f"node {node.name} {node.inputs} -> {node.outputs} {{", node.origin)
         for port, steps in node.code.items():
