@@ -70,12 +70,10 @@ def paragraph(number: int, record: Record, job: Optional[Job] = None) -> List[st
     if isinstance(record, Unexplored):
         return [f"record {number}: not tried", f"  decisions: {decision_words(record.decisions)}"]
     lines = [f"record {number}: {end_words(record)}", f"  way: {way(record.places)}", f"  decisions: {decision_words(record.decisions)}"]
+    lines += _part("decided by", decided_lines(job, record))
     if record.undecided is not None:
         return [*lines, f"  undecided: {record.undecided}"]
-    if record.values is None:
-        return lines
-    decided = decided_lines(job, record)
-    return [*lines, *(["  decided by", *decided] if decided else []), f"  packet: {_packet(record, job)}"]
+    return lines if record.values is None else [*lines, f"  packet: {_packet(record, job)}"]
 
 
 def _packet(path: Path, job: Optional[Job]) -> str:
