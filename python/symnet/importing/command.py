@@ -36,10 +36,10 @@ def _asked(words: List[str]) -> Optional[Dict[str, str]]:
 
 def told(found: Imported, folder: Path) -> List[str]:
     """What is said of a job that was made."""
-    tables = f", {len(found.files)} table{'s' if len(found.files) > 1 else ''}" if found.files else ""
-    asks = found.text.count("\nask ")
+    counts = (("box", "boxes", len(found.boxes)), ("host", "hosts", len(found.hosts)), ("question", "questions", found.text.count("\nask ")), ("table", "tables", len(found.files)))
+    listed = ", ".join(f"{count} {one if count == 1 else many}" for one, many, count in counts)
     hops = f" --hops {found.hops}" if found.hops > 16 else ""
-    return [f"{folder / JOB}: {len(found.boxes)} boxes, {len(found.hosts)} hosts, {asks} questions{tables}; {folder / MAP} says where each item comes from",
+    return [f"{folder / JOB}: {listed}; {folder / MAP} says where each item comes from",
             *found.notes, f"cd {folder} && symnet ask {JOB} --cases all{hops} | symnet_report.py - {JOB} {MAP}"]
 
 
