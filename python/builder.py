@@ -35,7 +35,7 @@ def _metadata() -> Dict[str, bytes]:
 
 def _files() -> Dict[str, bytes]:
     package = HERE / "symnet"
-    found = {str(it.relative_to(HERE)): it.read_bytes() for it in sorted([*package.glob("*.py"), package / "py.typed"])}
+    found = {str(it.relative_to(HERE)): it.read_bytes() for it in sorted([*package.glob("*.py"), *package.glob("importing/*.py"), package / "py.typed"])}
     library = {"symnet/libsymnet.so": LIBRARY.read_bytes()} if LIBRARY.is_file() else {}
     return {**found, "symnet/page.html": PAGE.read_bytes(), **library}
 

@@ -21,7 +21,7 @@ from checkout import TOP  # noqa: E402
 
 PARTS, INDEX = VIEWER / "parts", VIEWER / "index.html"
 # The scripts of the page, in the order in which they stand there.
-SCRIPTS = ("json", "job", "fields", "lists", "tables", "sets", "course", "traffic", "words", "page", "shape", "records", "answers", "record", "graph", "layout", "picture", "files")
+SCRIPTS = ("json", "job", "fields", "lists", "tables", "sets", "course", "traffic", "words", "page", "shape", "records", "answers", "record", "origins", "graph", "layout", "picture", "files")
 # The comment of index.html in whose place the desk comes.
 PLACE = "<!-- desk:"
 # The part of the policy of index.html that lets a notebook put a script with its texts there.

@@ -28,7 +28,7 @@ __all__ = ["Answer", "Asked", "Cell", "Compared", "ComparedRules", "Confirmed", 
 
 
 def __getattr__(name: str) -> ModuleType:
-    """The reader, which is imported when it is asked for: `python -m symnet.report` runs it."""
-    if name == "report":
-        return importlib.import_module(".report", __name__)
+    """The reader and the importer, which are imported when they are asked for: `python -m symnet.report` runs the first."""
+    if name in ("report", "importing"):
+        return importlib.import_module(f".{name}", __name__)
     raise AttributeError(f"module {__name__!r} has no attribute {name!r}")

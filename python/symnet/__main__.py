@@ -1,16 +1,19 @@
-"""The command line: `python -m symnet explore examples/ttl.sefl` works as `symnet explore examples/ttl.sefl` does."""
+"""The command line: `python -m symnet explore examples/ttl.sefl` works as `symnet explore examples/ttl.sefl` does. `import` runs here, and needs nothing built."""
 
 import os
 import sys
 from typing import List
 
 from . import engine, program
+from .importing import command
 from .library import Ended, NotBuilt
 
 USAGE, CANNOT_WRITE = 2, 5
 
 
 def main(words: List[str]) -> int:
+    if words[:1] == ["import"]:
+        return command.main(words[1:])
     try:
         if not engine.is_library():
             # the program takes the place of this process, so all that it reads, writes and ends with is its own

@@ -7,6 +7,7 @@ from .answers import Answer, Compared, ComparedRules, Fate, ListSide, Loops, Not
 from .causes import HINT, visit_cause
 from .fields import code_text, number_of, position_of, range_text, value_text
 from .inputs import LIST_FIELDS, Job, Ranges, Rule
+from .origins import decided_lines
 from .packets import columns, packet_lines, packet_words
 from .records import Path
 from .report_words import differences, end_words
@@ -78,7 +79,8 @@ def _shown_lines(number: int, values: Sequence[int], job: Optional[Job], questio
         return packet_lines(values, job, "    ")
     there = paths[0].places[:paths[0].places.index(place) + 1]
     which = "the way" if len(paths) == 1 else f"the way of one of {len(paths)} walks"
-    return [*packet_lines(values, job, "    ", follow(job, paths[0].decisions, paths[0].places).choices), f"  {which}: {way(there)}"]
+    decided = decided_lines(job, paths[0], values)
+    return [*packet_lines(values, job, "    ", follow(job, paths[0].decisions, paths[0].places).choices), f"  {which}: {way(there)}", *(["  decided by", *decided] if decided else [])]
 
 
 def _records(numbers: Sequence[int]) -> str:

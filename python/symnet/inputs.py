@@ -1,8 +1,12 @@
 """Reads what a person writes for symnet, as far as answers are told by it: a job's unknown fields and questions, and filter lists."""
 
 import re
+from bisect import bisect_left
 from dataclasses import dataclass, field
-from typing import Dict, List, Optional, Sequence, Tuple, Union
+from typing import TYPE_CHECKING, Dict, List, Optional, Sequence, Tuple, Union
+
+if TYPE_CHECKING:
+    from .origins import Origins
 
 RULE_LIMIT = 1024
 # The deepest nesting of a job, and a little more.
@@ -40,6 +44,8 @@ class Statement:
     word: str
     text: str
     blocks: Tuple[Tuple["Statement", ...], ...] = ()
+    # where it begins in the job's text, from 1
+    line: int = field(default=0, compare=False)
 
     @property
     def steers(self) -> bool:
@@ -72,6 +78,8 @@ class Job:
     # What the lines with `any` set, each once.
     chosen: Tuple[str, ...] = ()
     tokens: Optional["Tokens"] = field(default=None, repr=False, compare=False)
+    # where its items come from, where it was imported and the map is given
+    origins: Optional["Origins"] = field(default=None, repr=False, compare=False)
 
     def target(self, symbol: int, choices: Sequence[str] = ()) -> str:
         """What the value number `symbol` of a packet is: a field, or a choice on the way, by what it sets. `choices` are those of the way, where it is known; else
@@ -141,6 +149,8 @@ class Tokens:
     def __init__(self, text: str):
         self.text, self.tokens, self.at = text, _tokens(text), 0
         self.codes: Dict[int, Tuple[Statement, ...]] = {}
+        # where the lines end
+        self.ends: Optional[List[int]] = None
 
     def peek(self) -> str:
         return self.tokens[self.at].text if self.at < len(self.tokens) else ""
@@ -153,7 +163,13 @@ class Tokens:
 
     def line(self) -> int:
         """The line of the last token, from 1."""
-        return self.text.count("\n", 0, self.tokens[self.at - 1].start) + 1
+        return self.line_of(self.at - 1)
+
+    def line_of(self, token: int) -> int:
+        """The line of a token, from 1."""
+        if self.ends is None:
+            self.ends = [at for at, letter in enumerate(self.text) if letter == "\n"]
+        return bisect_left(self.ends, self.tokens[token].start) + 1
 
     def take(self, wanted: str) -> None:
         found = self.next()
@@ -205,16 +221,16 @@ class Tokens:
         first = self.at
         if self.peek() == "{":
             return Statement("{", "", (self._block(depth + 1),))
-        word = self.next()
+        word, line = self.next(), self.line_of(first)
         if word not in ("if", "for"):
-            return Statement(word, f"{word} {self.statement()}".rstrip())
+            return Statement(word, f"{word} {self.statement()}".rstrip(), line=line)
         while self.peek() != "{" or self.tokens[self.at - 1].text == "in":
             self.next()
         text, blocks = self.between(first, self.at), [self._block(depth + 1)]
         if word == "if":
             self.take("else")
             blocks.append(self._block(depth + 1))
-        return Statement(word, text, tuple(blocks))
+        return Statement(word, text, tuple(blocks), line)
 
 
 def _node(tokens: Tokens) -> Tuple[str, Node]:

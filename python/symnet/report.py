@@ -4,8 +4,8 @@
     tools/symnet_report.py WRITTEN [FILE ..] [OPTION ..]      the same, where the package is not installed
 
 WRITTEN is a report of `symnet explore`, the walks of `symnet walk`, or an answer of `symnet ask`, `rules`, `loops` or `compare`; `-` reads it from
-standard input. A FILE is what belongs to it: the job (or the two of `compare`, in their order), the filter list of `rules` (or its two), or the report whose records
-`loops` and `ask` speak of. Fields are shown by their names and with their values as people write them, where the job is given. Only the standard library is used.
+standard input. A FILE is what belongs to it: the job (or the two of `compare`, in their order), the filter list of `rules` (or its two), the report whose records
+`loops` and `ask` speak of, or the map of a job that was imported (`net.map`), by which the routes and rules that decided are named. Fields are shown by their names and with their values as people write them, where the job is given. Only the standard library is used.
 
     symnet ask office.sefl | tools/symnet_report.py - office.sefl
     symnet rules border.acl | tools/symnet_report.py - border.acl
@@ -30,7 +30,7 @@ import os
 import shutil
 import signal
 import sys
-from dataclasses import dataclass, field
+from dataclasses import dataclass, field, replace
 from typing import Callable, Dict, List, NoReturn, Optional, Sequence, Tuple, Union
 
 from .answer_words import Ways, asked_lines, asked_parts, compared_lines, compared_rules_lines, is_round, loops_lines, rules_lines
@@ -38,6 +38,7 @@ from .answers import Loops, NotAnswer, is_of_lists, read_asked, read_compared, r
 from .causes import ALL_CASES, COUPLED, OUTSIDE, too_many, undecided_lines
 from .expected import fitting, in_words, junit, junit_error, read_expected, verdict
 from .inputs import Job, NotInput, Rule, is_list, read_job, read_list
+from .origins import Origins, is_map, read_map
 from .packets import packet_words
 from .plain import laid_out, plain, wrapped
 from .records import Cell, Fields, NotReport, Path, Pruned, Record, Report, Unexplored, read_report, read_written, report_of
@@ -81,11 +82,15 @@ class Inputs:
     lists: List[List[Rule]] = field(default_factory=list)
     report: Optional[Report] = None
     runner: Optional[Runner] = None
+    # where the items of the job come from, if it was imported
+    origins: Optional[Origins] = None
 
     def add(self, name: str, data: bytes) -> None:
         """Takes a file for what its text is."""
         text = data.decode("utf-8", "replace")
-        if text.lstrip().startswith("{"):
+        if is_map(text):
+            self.origins = read_map(text)
+        elif text.lstrip().startswith("{"):
             self.report = read_report(text)
         elif is_list(name, text):
             self.lists.append(read_list(text))
@@ -94,7 +99,7 @@ class Inputs:
 
     @property
     def job(self) -> Optional[Job]:
-        return self.jobs[0][1] if self.jobs else None
+        return replace(self.jobs[0][1], origins=self.origins) if self.jobs else None
 
     def list_of(self, at: int) -> Optional[List[Rule]]:
         """The filter list that stands there, where it is given."""

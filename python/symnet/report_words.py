@@ -6,6 +6,7 @@ from typing import Dict, List, Optional, Sequence, Tuple
 from .causes import undecided_lines
 from .fields import code_text, kind_of, name_of, position_of, value_text
 from .inputs import Job
+from .origins import decided_lines
 from .packets import columns, named, packet_lines, packet_words
 from .records import Cell, Decision, Fields, Path, Pruned, Record, Report, Unexplored
 from .shape import Misshaped
@@ -69,11 +70,10 @@ def paragraph(number: int, record: Record, job: Optional[Job] = None) -> List[st
     if isinstance(record, Unexplored):
         return [f"record {number}: not tried", f"  decisions: {decision_words(record.decisions)}"]
     lines = [f"record {number}: {end_words(record)}", f"  way: {way(record.places)}", f"  decisions: {decision_words(record.decisions)}"]
+    lines += _part("decided by", decided_lines(job, record))
     if record.undecided is not None:
         return [*lines, f"  undecided: {record.undecided}"]
-    if record.values is None:
-        return lines
-    return [*lines, f"  packet: {_packet(record, job)}"]
+    return lines if record.values is None else [*lines, f"  packet: {_packet(record, job)}"]
 
 
 def _packet(path: Path, job: Optional[Job]) -> str:
@@ -104,7 +104,7 @@ def record_lines(report: Report, number: int, job: Optional[Job] = None) -> List
     if not isinstance(record, Path):
         return [paragraph(number, record)[0], *_part("decisions", columns(decided, "    "))]
     lines = [f"record {number}: {end_words(record)}", f"  way: {way(record.places)}", *_part("ports", [f"    {place}" for place in record.places]),
-             *_part("decisions", columns(decided, "    "))]
+             *_part("decisions", columns(decided, "    ")), *_part("decided by", decided_lines(job, record))]
     if record.undecided is not None:
         lines += undecided_lines([(number, record.undecided, test_words(record, job))], 1, report.cases)
     if record.values is not None:

@@ -13,11 +13,21 @@ _SIDES = {"if": ("then", "else"), "constrain": ("pass", "broken")}
 
 
 @dataclass(frozen=True)
+class Met:
+    """What was met at a port that steers: the line of an instruction in the job's text, 0 for the tests of a table; and the side of a test that was taken."""
+
+    place: str
+    line: int
+    side: str = ""
+
+
+@dataclass(frozen=True)
 class Followed:
-    """The instruction of each decision, as far as they are known, and what the choices on the way set."""
+    """The instruction of each decision, as far as they are known, what the choices on the way set, and all that steers on it."""
 
     decided: Tuple[str, ...]
     choices: Tuple[str, ...]
+    met: Tuple[Met, ...] = ()
 
 
 def box_of(place: str) -> str:
@@ -50,6 +60,7 @@ class _Walk:
         self.job, self.decisions = job, decisions
         self.decided: List[str] = []
         self.choices: List[str] = []
+        self.met: List[Met] = []
 
     def take(self, text: str) -> Decision:
         """The next decision, which is that of an instruction."""
@@ -64,6 +75,7 @@ class _Walk:
             if style == "egress":
                 self.take(f"the table of {box_of(place)}")
             return
+        self.met.append(Met(place, 0))
         while self.take(f"the table of {box_of(place)}") == "else":
             pass
 
@@ -82,16 +94,18 @@ class _Walk:
             if step is None:
                 waiting.pop()
             elif step.word in ("forward", "fork", "fail"):
+                self.met.append(Met(place, step.line))
                 if step.word == "fork":
                     self.take(step.text)
                 return
             else:
-                waiting += self.enter(step)
+                waiting += self.enter(step, place)
 
-    def enter(self, step: Statement) -> List[Iterator[Statement]]:
+    def enter(self, step: Statement, place: str) -> List[Iterator[Statement]]:
         """What is run of an instruction that does not end its code: the block that is taken, if it has one."""
         if step.word in _SIDES:
             side = self.take(step.text)
+            self.met.append(Met(place, step.line, str(side)))
             if side not in _SIDES[step.word]:
                 raise _Lost
             if side == "broken":
@@ -114,4 +128,4 @@ def follow(job: Optional[Job], decisions: Sequence[Decision], places: Sequence[s
             walk.port(place)
     except (_Lost, NotInput):
         pass
-    return Followed(tuple(walk.decided), tuple(walk.choices))
+    return Followed(tuple(walk.decided), tuple(walk.choices), tuple(walk.met))

@@ -90,8 +90,9 @@ function runCode(course, code, place) {
     switch (step.kind) {
       case "block": pending.push(step.body.slice().reverse()); break;
       case "for": return "unknown";
-      case "forward": return step.port;
-      case "fail": return "over";
+      case "forward": case "fail":
+        course.events.push({ place, step, decision: null, count: 0 });
+        return step.kind === "fail" ? "over" : step.port;
       case "if": case "constrain": case "fork": {
         const decision = course.decisions[course.at];
         if (decision === undefined) return "over";

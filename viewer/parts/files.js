@@ -12,8 +12,10 @@ const isWritten = (name, text) => /^\s*[{\[]/.test(text) || /\.(json|answers|rul
 
 function take(name, text) {
   try {
-    if (isWritten(name, text)) keepWritten(readJson(text));
-    else if (isTable(text)) state.tables.set(name.split("/").pop(), readTable(text));
+    if (isWritten(name, text)) {
+      const written = readJson(text);
+      if (isMap(written)) state.map = readMap(written); else keepWritten(written);
+    } else if (isTable(text)) state.tables.set(name.split("/").pop(), readTable(text));
     else if (isList(name, text)) state.list = readList(text);
     else state.job = readJob(text);
   } catch (error) {
@@ -53,7 +55,7 @@ async function takeFiles(files, taking = take) {
 
 // Shows these files, each a name and a text, and those of the second network, in place of all that was shown before.
 function showOnly(files, others = []) {
-  Object.assign(state, { report: null, answer: null, job: null, list: null, tables: new Map(), other: { job: null, report: null } });
+  Object.assign(state, { report: null, answer: null, job: null, map: null, list: null, tables: new Map(), other: { job: null, report: null } });
   begin();
   for (const [name, text] of files) take(name, text);
   for (const [name, text] of others) takeOther(name, text);
@@ -66,7 +68,7 @@ let takeDropped = takeFiles;
 async function takeNamed(words) {
   begin();
   state.chosen = words.has("record") ? Number(words.get("record")) : -1;
-  const names = ["job", "list", "table", "report", "answer", "other"].flatMap((key) => words.getAll(key).map((name) => [key, name]));
+  const names = ["job", "map", "list", "table", "report", "answer", "other"].flatMap((key) => words.getAll(key).map((name) => [key, name]));
   for (const [key, name] of names) {
     try {
       const answer = await fetch(name);

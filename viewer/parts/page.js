@@ -1,8 +1,8 @@
 // The page.
 
-// What was read: a report or walks, an answer with what it says of the other files (`joined`), a job, a filter list, tables by their names; and of the second
+// What was read: a report or walks, an answer with what it says of the other files (`joined`), a job, the map of one that was imported, a filter list, tables by their names; and of the second
 // network of a comparison its job and its report or walks.
-const state = { report: null, answer: null, job: null, list: null, tables: new Map(), other: { job: null, report: null },
+const state = { report: null, answer: null, job: null, map: null, list: null, tables: new Map(), other: { job: null, report: null },
   // the groups of records: their names with those that are open, how many rows of each are shown, and the names of records that were made
   groups: [], open: new Set(), chosen: -1, shown: new Map(), names: new Map() };
 const byId = (id) => document.getElementById(id);

@@ -62,7 +62,7 @@ function detailOf(record, number) {
     parts.push(element("p", { class: "soft" }, "Tests are numbered along the way from 0, those of the injection first; the parts of a test are numbered from 0 too."));
   }
   if (record.kind === "unexplored") parts.push(element("p", { id: "end", class: "warn" }, "This decision was open when the limit was reached."));
-  parts.push(...decisionRows(record));
+  parts.push(...decisionRows(record), ...originRows(record));
   if (record.kind === "path") parts.push(...packetRows(record, fields), ...fieldRows(record, fields));
   return parts;
 }

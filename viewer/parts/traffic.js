@@ -195,7 +195,7 @@ function trafficOf(job, tables, record) {
     else if (step.kind === "table") {
       const test = tableTest(event, tables);
       if (test !== null) take({ kind: "in", left: readExpression(ADDRESSED[step.table.kind]), ranges: test.set }, test.isTrue, box);
-    } else if (step.kind !== "fork") carried.run(step, box);
+    } else if (!["fork", "forward", "fail"].includes(step.kind)) carried.run(step, box);
   }
   return { known, injected };
 }
