@@ -108,11 +108,15 @@ def usage(text: Optional[str] = None) -> Usage:
 # ---- whether words have a form
 
 
+# The most characters of a word that are shown, as the program has it.
+MOST_LETTERS = 100
+
+
 class Wrong(Exception):
-    """A word, and what is wrong with it."""
+    """A word, and what is wrong with it; of a long one its beginning is shown."""
 
     def __init__(self, word: str, why: str) -> None:
-        super().__init__(f"`{word}`: {why}")
+        super().__init__(f"`{word[:MOST_LETTERS]}{'..' if len(word) > MOST_LETTERS else ''}`: {why}")
 
 
 def any_of(words: List[str], last: str = "or") -> str:
