@@ -9,6 +9,8 @@ use Rattle.net_check.specs.declared.injection.TheConstants.{USUAL_CHOICES}
 use Rattle.command_words.specs.declared.command.TheConstants.{HOPS, LIMIT, MOST_ANSWER_LIMIT, MOST_BOXES, MOST_HOPS, MOST_LIMIT}
 use Rattle.command_words.specs.declared.command.Command.{Command as CommandOf}
 use Rattle.command_words.specs.declared.command.Command.TheVariants as given
+use Rattle.command_words.specs.declared.command.Extent.{Extent}
+use Rattle.command_words.specs.declared.command.Extent.TheVariants.{Each, Whole}
 use Rattle.command_words.specs.declared.command.FilterStyle.{FilterStyle}
 use Rattle.command_words.specs.declared.command.FilterStyle.TheVariants as filter
 use Rattle.command_words.specs.declared.command.Open.{Open}
@@ -28,8 +30,8 @@ pub data Command : Type 0 where
   explore : Text → ℕ → ℕ → ℕ → RefutedSides → Command
   -- the job and the packet; hops and limit
   walk : Text → Text → ℕ → ℕ → Command
-  -- the job and the report
-  replay : Text → Text → Command
+  -- the job and the report; and what is confirmed of its records
+  replay : Text → Text → Extent → Command
   -- the job; hops, limit and a bound on choices of cases
   ask : Text → ℕ → ℕ → ℕ → Command
   -- the job; the same, and what is written of paths without a loop
@@ -52,7 +54,7 @@ pub data Command : Type 0 where
 abbrev pub command_of : CommandOf → Command
 command_of (given.Explore job hops limit cases pruned) = explore job.now hops limit cases pruned
 command_of (given.Walk job packet hops limit) = walk job.now packet.now hops limit
-command_of (given.Replay job report) = replay job.now report.now
+command_of (given.Replay job report extent) = replay job.now report.now extent
 command_of (given.Ask job hops limit cases) = ask job.now hops limit cases
 command_of (given.Loops job hops limit cases detail) = loops job.now hops limit cases detail
 command_of (given.Compare job other hops limit cases) = compare job.now other.now hops limit cases
@@ -74,7 +76,7 @@ AreBounds most hops limit cases = AreInRange most hops limit × (1 ≤ cases) ×
 abbrev pub HasRanges : Command → Type 0
 HasRanges (explore job hops limit cases pruned) = AreBounds MOST_LIMIT hops limit cases
 HasRanges (walk job packet hops limit) = AreInRange MOST_LIMIT hops limit
-HasRanges (replay job report) = Unit {0}
+HasRanges (replay job report extent) = Unit {0}
 HasRanges (ask job hops limit cases) = AreBounds MOST_ANSWER_LIMIT hops limit cases
 HasRanges (loops job hops limit cases detail) = AreBounds MOST_ANSWER_LIMIT hops limit cases
 HasRanges (compare job other hops limit cases) = AreBounds MOST_ANSWER_LIMIT hops limit cases
@@ -89,7 +91,7 @@ HasRanges (grow seed boxes) = (1 ≤ boxes) × (boxes ≤ MOST_BOXES)
 abbrev pub form_of_verb : Verb → Form
 form_of_verb Explore = record { positionals = codes "JOB" ∷ []; options = codes "hops" ∷ codes "limit" ∷ codes "pruned" ∷ codes "cases" ∷ [] }
 form_of_verb Walk = record { positionals = codes "JOB" ∷ codes "PACKET" ∷ []; options = codes "hops" ∷ codes "limit" ∷ [] }
-form_of_verb Replay = record { positionals = codes "JOB" ∷ codes "REPORT" ∷ []; options = [] }
+form_of_verb Replay = record { positionals = codes "JOB" ∷ codes "REPORT" ∷ []; options = codes "records" ∷ [] }
 form_of_verb Ask = record { positionals = codes "JOB" ∷ []; options = codes "hops" ∷ codes "limit" ∷ codes "cases" ∷ [] }
 form_of_verb Loops =
     record { positionals = codes "JOB" ∷ []; options = codes "hops" ∷ codes "open" ∷ codes "limit" ∷ codes "cases" ∷ [] }
@@ -160,6 +162,16 @@ abbrev pub open_or_numbers : Option Text → Option Open
 open_or_numbers None = Some Numbers
 open_or_numbers (Some word) = open_of word
 
+abbrev pub extent_of : Text → Option Extent
+extent_of word =
+    if bytes_eq word (codes "each") then Some Each
+    else if bytes_eq word (codes "whole") then Some Whole
+    else None
+
+abbrev pub extent_or_each : Option Text → Option Extent
+extent_or_each None = Some Each
+extent_or_each (Some word) = extent_of word
+
 abbrev pub style_of : Text → Option Style
 style_of word =
     if bytes_eq word (codes "chain") then Some Chain
@@ -213,8 +225,11 @@ module _ (value : Text → Option Text) where
   abbrev pub style_in : Option Style
   style_in = style_or_grouped (value (codes "style"))
 
+  abbrev pub extent_in : Option Extent
+  extent_in = extent_or_each (value (codes "records"))
+
   abbrev pub replay_from : Option Command
-  replay_from = option_and_then (λ job. option_map (replay job) (value (codes "REPORT"))) (value (codes "JOB"))
+  replay_from = option_and_then (λ job. option_and_then (λ report. option_map (replay job report) extent_in) (value (codes "REPORT"))) (value (codes "JOB"))
 
   abbrev pub ask_from : Option Command
   ask_from = option_and_then (λ job. with_bounds MOST_ANSWER_LIMIT (λ hops limit. option_map (ask job hops limit) cases_in)) (value (codes "JOB"))

@@ -2,7 +2,7 @@
 
 ghost use Rattle.std.specs.Prelude.{◌≡◌, ◌≤◌, IfOk, IfSome, Some, option_map, map, string_bytes};
 ghost use Rattle.clap.specs.Words.{first_value, found_of};
-ghost use Rattle.command_words.specs.Commands.{HasRanges, cases_in, cases_of, command_from, command_of, filter_style_in, filter_style_of, form_of_verb, hops_in, limit_in, model_of, named, open_in, open_of, pruned_in, pruned_of, read_as, read_verb, reading, second_of, style_in, style_of, verb_of};
+ghost use Rattle.command_words.specs.Commands.{HasRanges, cases_in, cases_of, command_from, command_of, extent_in, extent_of, filter_style_in, filter_style_of, form_of_verb, hops_in, limit_in, model_of, named, open_in, open_of, pruned_in, pruned_of, read_as, read_verb, reading, second_of, style_in, style_of, verb_of};
 ghost use Rattle.command_words.specs.Shapes.{form_of, named_of};
 
 use crate::form::Form;
@@ -38,6 +38,15 @@ pub enum Open {
     Visits,
 }
 
+/// What is confirmed of the records of a report.
+#[derive(Clone, Copy)]
+pub enum Extent {
+    /// That each has its own meaning.
+    Each,
+    /// And that together they leave nothing out.
+    Whole,
+}
+
 /// How the code of a filter list's node tests packets.
 #[derive(Clone, Copy)]
 pub enum FilterStyle {
@@ -64,6 +73,7 @@ pub enum Command<'a> {
     Replay {
         job: &'a str,
         report: &'a str,
+        extent: Extent,
     },
     Ask {
         job: &'a str,
@@ -143,7 +153,7 @@ impl Verb {
             },
             Verb::Replay => Form {
                 positionals: &["JOB", "REPORT"],
-                options: &[],
+                options: &["records"],
             },
             Verb::Ask => Form {
                 positionals: &["JOB"],
@@ -321,6 +331,26 @@ fn open_in(values: &ArgMatches<'_>) -> Option<Open>
     }
 }
 
+fn extent_of(word: &str) -> Option<Extent>
+    ensures { result ≡ extent_of word.now }
+{
+    match word {
+        "each" => Some(Extent::Each),
+        "whole" => Some(Extent::Whole),
+        _ => None,
+    }
+}
+
+/// What is to be confirmed of records, or the default.
+fn extent_in(values: &ArgMatches<'_>) -> Option<Extent>
+    ensures { result ≡ extent_in (first_value (found_of values.now)) }
+{
+    match values.get_str("records") {
+        Some(word) => extent_of(word),
+        None => Some(Extent::Each),
+    }
+}
+
 fn style_of(word: &str) -> Option<Style>
     ensures { result ≡ style_of word.now }
 {
@@ -397,7 +427,12 @@ fn command_from<'a>(verb: Verb, values: &ArgMatches<'a>) -> Option<Command<'a>>
         Verb::Replay => {
             let job = values.get_str("JOB")?;
             let report = values.get_str("REPORT")?;
-            Some(Command::Replay { job, report })
+            let extent = extent_in(values)?;
+            Some(Command::Replay {
+                job,
+                report,
+                extent,
+            })
         }
         Verb::Ask => {
             let job = values.get_str("JOB")?;

@@ -5,7 +5,7 @@
 #[derive(Clone, Copy)]
 pub(crate) struct Choice {
     pub(crate) flag: &'static str,
-    pub(crate) bit: u8,
+    pub(crate) bit: u16,
     pub(crate) most: u64,
     pub(crate) words: &'static [&'static str],
     pub(crate) says: &'static str,
@@ -15,25 +15,27 @@ pub(crate) struct Choice {
 #[derive(Clone, Copy)]
 pub(crate) struct Form {
     pub(crate) files: &'static [&'static str],
-    pub(crate) options: u8,
+    pub(crate) options: u16,
 }
 
-const HOPS: u8 = 1;
+const HOPS: u16 = 1;
 
-const LIMIT: u8 = 2;
+const LIMIT: u16 = 2;
 
-const PRUNED: u8 = 4;
+const PRUNED: u16 = 4;
 
-const STYLE: u8 = 8;
+const STYLE: u16 = 8;
 
-const FILTER_STYLE: u8 = 16;
+const FILTER_STYLE: u16 = 16;
 
-const OPEN: u8 = 32;
+const OPEN: u16 = 32;
 
-const CASES: u8 = 64;
+const CASES: u16 = 64;
 
 /// A limit where what it bounds is not written.
-const ANSWER_LIMIT: u8 = 128;
+const ANSWER_LIMIT: u16 = 128;
+
+const RECORDS: u16 = 256;
 
 fn hops() -> Choice {
     Choice {
@@ -95,6 +97,16 @@ fn open_paths() -> Choice {
     }
 }
 
+fn records() -> Choice {
+    Choice {
+        flag: "--records",
+        bit: RECORDS,
+        most: 0,
+        words: &["each", "whole"],
+        says: "--records takes each or whole",
+    }
+}
+
 fn style() -> Choice {
     Choice {
         flag: "--style",
@@ -116,7 +128,7 @@ fn filter_style() -> Choice {
 }
 
 /// The option of a word, where it is one of these.
-pub(crate) fn choice_of(options: u8, flag: &str) -> Option<Choice> {
+pub(crate) fn choice_of(options: u16, flag: &str) -> Option<Choice> {
     let choice = match flag {
         "--hops" => hops(),
         "--limit" if options & ANSWER_LIMIT != 0 => answer_limit(),
@@ -124,6 +136,7 @@ pub(crate) fn choice_of(options: u8, flag: &str) -> Option<Choice> {
         "--pruned" => pruned(),
         "--open" => open_paths(),
         "--cases" => cases(),
+        "--records" => records(),
         "--style" if options & FILTER_STYLE != 0 => filter_style(),
         "--style" => style(),
         _ => return None,
@@ -148,7 +161,7 @@ pub(crate) fn form_of(name: &str) -> Option<Form> {
         }),
         "replay" => Some(Form {
             files: &["JOB", "REPORT"],
-            options: 0,
+            options: RECORDS,
         }),
         "ask" => Some(Form {
             files: &["JOB"],

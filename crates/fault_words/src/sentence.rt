@@ -98,6 +98,12 @@ fn of_record(kind: u8) -> Option<&'static str> {
             "the places, the end or the fields are not those of the decisions: explore the job again",
         ),
         4 => Some("an undecided path may not have this cause: explore the job again"),
+        5 => Some(
+            "before this record one is missing, it was not tried, or it stands in another place; behind the last record its number is told: explore the job again, with `--pruned all` and a `--limit` that is not met",
+        ),
+        6 => Some(
+            "no record is missing, but the report says another `state`, `refuted` or `limit`: explore the job again",
+        ),
         _ => None,
     }
 }

@@ -76,9 +76,9 @@ fn wrong_place<'a>(place: &str, word: &'a str) -> Option<Wrong<'a>> {
 struct Reading {
     /// What has still to stand there.
     files: &'static [&'static str],
-    options: u8,
+    options: u16,
     /// The bits of the options that were given.
-    given: u8,
+    given: u16,
     /// The option that the next word is the value of.
     open: Option<Choice>,
     /// Whether all words are files from here on.

@@ -1,5 +1,5 @@
 -- The condition of an injection, and that one thing is explored.
-use Rattle.std.proofs.Common.{◌≡◌, ℕ, true, List, [], ◌∷◌, length, map, Option, Result, Ok, Err, refl, sym, ap, subst, ◌∙◌}
+use Rattle.std.proofs.Common.{◌≡◌, ℕ, inl, inr, true, List, [], ◌∷◌, length, map, Option, Result, Ok, Err, refl, sym, ap, subst, ◌∙◌}
 use Rattle.refutation_check.specs.Longer.{condition_of}
 use Rattle.path_formula.specs.Formulas.{FormulaTree}
 use Rattle.path_formula.specs.View.{view}
@@ -24,7 +24,8 @@ use Rattle.record_checks.specs.declared.counts.Confirmed.{Confirmed}
 use Rattle.record_checks.specs.declared.fault.ReplayFault.{ReplayFault}
 use Rattle.record_checks.specs.declared.fault.ReplayFault.TheVariants.{NotConfirmed, NoMemory}
 use Rattle.symbolic_engine.specs.Origins.{IsFirstState}
-use Rattle.path_replay.specs.Replaying.{ConfirmsFor, ConfirmsAllFor, IsConfirmedBackFor}
+use Rattle.whole_checks.specs.Confirming.{Answer, ConfirmsWhole}
+use Rattle.path_replay.specs.Replaying.{ConfirmsFor, ConfirmsAllFor, ConfirmsWholeFor, IsConfirmedBackFor}
 
 true_entries : (entries : List Entry) → MustBeTrue entries
     → map (entry_seen view) entries ≡ map (λ (f : FormulaTree). (f, true)) (formula_trees entries)
@@ -58,6 +59,10 @@ module _ (net : Network) (i : Injection) (hops : ℕ) (start : SymStart) (explor
   confirms_for (Ok counts) h = record { start = start; explored = explored; holds = h }
   confirms_for (Err (NotConfirmed number part)) h = record { start = start; explored = explored; holds = h }
   confirms_for (Err NoMemory) h = tt
+
+  pub whole_for : (answer : Answer) → ConfirmsWhole start xs answer → ConfirmsWholeFor net i hops xs answer
+  whole_for answer (inl e) = inl e
+  whole_for answer (inr h) = inr (record { start = start; explored = explored; holds = h })
 
   -- one thing is explored
   one_start : (P : SymStart → Type 0) (other : SymStart) → IsExplored net i hops other → P start → P other

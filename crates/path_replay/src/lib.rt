@@ -7,4 +7,5 @@ mod runs;
 mod stop;
 
 pub use record_checks::{Confirmed, Part, ReplayFault, Supply};
-pub use replaying::{confirm, confirm_given};
+pub use replaying::{confirm, confirm_given, confirm_whole};
+pub use whole_checks::WholeFault;

@@ -6,9 +6,10 @@ ghost use Rattle.net_check.specs.Sound.{AreOfOneJob};
 ghost use Rattle.exact_records.specs.Packets.{IsExplored};
 ghost use Rattle.exact_records.specs.View.{record_trees};
 ghost use Rattle.symbolic_engine.specs.Origins.{IsFirstState};
-ghost use Rattle.path_replay.specs.Replaying.{ConfirmsFor, ConfirmsAllFor, IsConfirmedBackFor, TellPackets};
+ghost use Rattle.path_replay.specs.Replaying.{ConfirmsAllFor, ConfirmsFor, ConfirmsWholeFor, IsConfirmedBackFor, TellPackets};
+ghost use Rattle.whole_checks.specs.Walks.{ShowEachWalk};
 
-use crate::laws::{confirmed_records_tell_packets, one_answer_for_a_net};
+use crate::laws::{confirmed_records_tell_packets, one_answer_for_a_net, whole_records_show_walks};
 use crate::runs::Runs;
 use net_check::{Injection, Net};
 use path_records::Record;
@@ -18,6 +19,7 @@ use std::alloc::Global;
 use std::marker::Brand;
 use sym_state::SymState;
 use symbolic_engine::{Explorer, Origin};
+use whole_checks::{WholeFault, confirm_whole_along};
 
 /// Confirms that each record has its own meaning, of a net and an injection with `hops` hops: the counts of the records,
 /// or the first that has not its meaning, by its first broken part. It speaks of each record by itself: not of whether all
@@ -76,6 +78,60 @@ fn confirm_from<B: Origin>(
 {
     let runs: Runs<'_, B> = runs_from(alloc, net, injection, hops, first)?;
     confirm_along(alloc, &runs, records)
+}
+
+/// Confirms that each record has its own meaning, as `confirm` does, and with the same run that together they leave nothing out: each was
+/// tried and comes next behind the one before it. Where all is confirmed, each walk of each packet that meets the injection has exactly
+/// one path among them, whoever made them.
+pub fn confirm_whole(
+    alloc: Global,
+    net: &Net,
+    injection: &Injection,
+    hops: u32,
+    records: &[Record],
+) -> Result<Confirmed, WholeFault>
+    requires { AreOfOneJob (network net.now) (entry injection.now) }
+    ensures confirms { ConfirmsWholeFor (network net.now) (entry injection.now) hops (record_trees records.now) result }
+    ensures packets { IfOk result (λ counts. TellPackets (network net.now) (entry injection.now) hops
+        (record_trees records.now)) }
+    ensures walks { IfOk result (λ counts. ShowEachWalk (network net.now) (entry injection.now) hops
+        (record_trees records.now)) }
+{
+    whole_records_show_walks();
+    confirm_whole_job(alloc, net, injection, hops, records)
+}
+
+/// The same, without what follows.
+fn confirm_whole_job(
+    alloc: Global,
+    net: &Net,
+    injection: &Injection,
+    hops: u32,
+    records: &[Record],
+) -> Result<Confirmed, WholeFault>
+    requires { AreOfOneJob (network net.now) (entry injection.now) }
+    ensures { ConfirmsWholeFor (network net.now) (entry injection.now) hops (record_trees records.now) result }
+{
+    let first = SymState::from_injection(alloc, net, injection)?;
+    confirm_whole_from::<Brand>(alloc, net, injection, hops, first, records)
+}
+
+/// The same from the state that the injection begins with.
+fn confirm_whole_from<B: Origin>(
+    alloc: Global,
+    net: &Net,
+    injection: &Injection,
+    hops: u32,
+    first: SymState,
+    records: &[Record],
+) -> Result<Confirmed, WholeFault>
+    requires net { network net.now ≡ B.net }
+    requires explored { IsExplored (network net.now) (entry injection.now) hops B.start }
+    requires first { IsFirstState B.start (network net.now) hops injection.now.node injection.now.raw.port first }
+    ensures { ConfirmsWholeFor (network net.now) (entry injection.now) hops (record_trees records.now) result }
+{
+    let runs: Runs<'_, B> = runs_from(alloc, net, injection, hops, first)?;
+    confirm_whole_along(alloc, &runs, records)
 }
 
 /// The runs from the state that the injection begins with.

@@ -48,7 +48,7 @@ fn confirm_each<G: Guide>(
 }
 
 /// The counts with the record of this number, where it has its own meaning.
-fn confirm_next<G: Guide>(
+pub fn confirm_next<G: Guide>(
     alloc: Global,
     guide: &G,
     trail: &mut Trail<G::Stop>,

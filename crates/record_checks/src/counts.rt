@@ -21,7 +21,7 @@ pub struct Confirmed {
 }
 
 /// The counts of no records.
-pub(crate) fn no_counts() -> Confirmed
+pub fn no_counts() -> Confirmed
     ensures { result ≡ counts_of [] }
 {
     Confirmed {

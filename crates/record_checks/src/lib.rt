@@ -14,8 +14,9 @@ mod trail;
 mod values;
 mod verdicts;
 
-pub use confirming::{confirm_along, confirm_given_along};
-pub use counts::Confirmed;
+pub use confirming::{confirm_along, confirm_given_along, confirm_next};
+pub use counts::{Confirmed, no_counts};
 pub use fault::ReplayFault;
 pub use part::Part;
 pub use supply::Supply;
+pub use trail::{Step, Trail, begin, lead};

@@ -14,20 +14,20 @@ use term_values::Formulas;
 
 /// A decision, and the stop behind it.
 #[derive(Drop)]
-pub(crate) struct Step<S: Drop> {
+pub struct Step<S: Drop> {
     pub decision: Decision,
     pub stop: S,
 }
 
 /// The first stop, and those behind each decision that was taken.
 #[derive(Drop)]
-pub(crate) struct Trail<S: Drop> {
+pub struct Trail<S: Drop> {
     pub first: S,
     pub steps: Vec<Step<S>>,
 }
 
 /// The trail that has taken no decision.
-pub(crate) fn begin<G: Guide>(alloc: Global, guide: &G) -> Result<Trail<G::Stop>, NoMemory>
+pub fn begin<G: Guide>(alloc: Global, guide: &G) -> Result<Trail<G::Stop>, NoMemory>
     ensures { IfOk result (IsTrail G.start G.seen) }
 {
     let first = guide.first(alloc)?;
@@ -61,7 +61,7 @@ fn shared<S: Drop>(steps: &[Step<S>], decisions: &[Decision]) -> usize
 }
 
 /// Leads the run along these decisions, from where they part from those of the trail. Whether all of them are offered.
-pub(crate) fn lead<G: Guide>(
+pub fn lead<G: Guide>(
     alloc: Global,
     guide: &G,
     trail: &mut Trail<G::Stop>,

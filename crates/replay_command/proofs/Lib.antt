@@ -1,2 +1,4 @@
 pub mod ComesLemmas
 pub mod OnceLemmas
+pub mod WholeLemmas
+pub mod WholeOnce

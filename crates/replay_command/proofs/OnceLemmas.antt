@@ -36,7 +36,7 @@ same_value : (bytes : List ℕ) (d e : Data) → IsTextOf bytes d → IsTextOf b
 same_value bytes d e a b = some_same (sym a.value ∙ b.value)
 
 -- a record, from its lists
-abbrev tree_of : seen.RecordSeen → RecordTree
+abbrev pub tree_of : seen.RecordSeen → RecordTree
 tree_of (seen.path ds places end' fields verdict) = path ds places end' fields verdict
 tree_of (seen.pruned ds before refutation) = pruned ds before refutation
 tree_of (seen.unexplored ds) = unexplored ds
@@ -46,17 +46,17 @@ tree_seen (Path decisions places end' fields verdict) = refl
 tree_seen (Pruned decisions before refutation) = refl
 tree_seen (Unexplored decisions) = refl
 
-trees_seen : (xs : List Record) → record_trees xs ≡ map tree_of (map seen.record_seen xs)
+pub trees_seen : (xs : List Record) → record_trees xs ≡ map tree_of (map seen.record_seen xs)
 trees_seen [] = refl
 trees_seen (x ∷ xs) = λ i. tree_seen x i ∷ trees_seen xs i
 
 -- the JSON of a report is that of no other
-abbrev IsOneReport : Type 0
+abbrev pub IsOneReport : Type 0
 IsOneReport = (net : Network) (report found : Report) → ReportFits net report → ReportFits net found → data_of net report ≡ data_of net found
     → seen.report_seen report ≡ seen.report_seen found
 
 module _ (one : IsOneReport) (net : Network) (bytes : List ℕ) where
-  same_report : (a b : Report) → ReadsReport net bytes (Ok a) → ReadsReport net bytes (Ok b) → seen.report_seen a ≡ seen.report_seen b
+  pub same_report : (a b : Report) → ReadsReport net bytes (Ok a) → ReadsReport net bytes (Ok b) → seen.report_seen a ≡ seen.report_seen b
   same_report a b x y = one net a b x.2 y.2 (same_value bytes (data_of net a) (data_of net b) x.0 y.0)
 
   -- a fact of the report of the bytes is one of any report of them
@@ -71,7 +71,7 @@ module _ (one : IsOneReport) (net : Network) (bytes : List ℕ) where
       (subst (Q (choices_of b.report.cases) b.report.hops) trees b.holds))
 
   -- bytes that show a report are not refused as none
-  fault_or_report : (f : ReportFault) (told : ℕ × List ℕ) (report : Report) → ReadsReport net bytes (Err f) → report_kind f ≡ Some told
+  pub fault_or_report : (f : ReportFault) (told : ℕ × List ℕ) (report : Report) → ReadsReport net bytes (Err f) → report_kind f ≡ Some told
       → ReadsReport net bytes (Ok report) → ⊥
   fault_or_report NotJson told report h e r = h (data_of net report) r.0
   fault_or_report (NotReport place) told report h e r =
@@ -95,7 +95,7 @@ module _ (one : IsOneReport) (net : Network) (bytes : List ℕ) where
   same_fault (NotReport place) NoReading p q h e k e' = absurd (none-some q e')
   same_fault NoReading g p q h e k e' = absurd (none-some p e)
 
-  same_bad : (kind kind' : ℕ) (pointer pointer' : List ℕ) → IsBadReport net bytes kind pointer → IsBadReport net bytes kind' pointer'
+  pub same_bad : (kind kind' : ℕ) (pointer pointer' : List ℕ) → IsBadReport net bytes kind pointer → IsBadReport net bytes kind' pointer'
       → refused (BadReport kind pointer) ≡ refused (BadReport kind' pointer')
   same_bad kind kind' pointer pointer' a b =
       ap (λ (told : ℕ × List ℕ). refused (BadReport told.0 told.1))

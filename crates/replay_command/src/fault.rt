@@ -2,9 +2,10 @@
 
 ghost use Rattle.std.specs.Prelude.{◌≡◌};
 ghost use Rattle.replay_command.specs.Replays.{TellsBadReport, TellsFault, fault_of_replay, part_kind};
+ghost use Rattle.replay_command.specs.Wholes.{fault_of_whole};
 
 use command_edge::OwnFault;
-use path_replay::{Part, ReplayFault};
+use path_replay::{Part, ReplayFault, WholeFault};
 use path_report::ReportFault;
 use sefl_syntax::Text;
 use std::alloc::Global;
@@ -52,5 +53,19 @@ pub(crate) fn fault_of_replay(fault: ReplayFault) -> OwnFault
             kind: part_kind(part),
         },
         ReplayFault::NoMemory => OwnFault::NoMemory,
+    }
+}
+
+/// The refusal of records that are not confirmed as a whole: 5 is the kind of one before which another is missing.
+pub(crate) fn fault_of_whole(fault: WholeFault) -> OwnFault
+    ensures { result ≡ fault_of_whole fault }
+{
+    match fault {
+        WholeFault::NotConfirmed { number, part } => OwnFault::NotConfirmed {
+            number,
+            kind: part_kind(part),
+        },
+        WholeFault::NotWhole { number } => OwnFault::NotConfirmed { number, kind: 5 },
+        WholeFault::NoMemory => OwnFault::NoMemory,
     }
 }

@@ -34,7 +34,7 @@ pub struct Replay<'a> {
 }
 
 /// The report that the bytes show.
-fn report_of(alloc: Global, net: &Net, bytes: &[u8]) -> Result<Report, OwnFault>
+pub(crate) fn report_of(alloc: Global, net: &Net, bytes: &[u8]) -> Result<Report, OwnFault>
     ensures report { IfOk result (λ report. ReadsReport (network net.now) bytes.now (Ok report)) }
     ensures refused { IfErr result (IsNoReport (network net.now) bytes.now) }
 {
@@ -45,7 +45,7 @@ fn report_of(alloc: Global, net: &Net, bytes: &[u8]) -> Result<Report, OwnFault>
 }
 
 /// The bound on choices of cases that a report says, or the usual one.
-fn choices_of(cases: Option<u64>) -> u64
+pub(crate) fn choices_of(cases: Option<u64>) -> u64
     ensures { result ≡ choices_of cases }
 {
     match cases {

@@ -1,6 +1,7 @@
 -- Each command: what it reads, in order, and its own work.
 use Rattle.std.specs.Prelude.{ℕ, ◌≡◌, List, [], ◌∷◌}
-use Rattle.command_runs.specs.Inputs.{Input, a_job, a_made_job, a_file}
+use Rattle.command_runs.specs.Inputs.{Given, Input, a_job, a_made_job, a_file}
+use Rattle.command_edge.specs.Puts.{Outcome}
 use Rattle.command_runs.specs.Runs.{OwnWork, one_piece}
 use Rattle.command_edge.specs.declared.limits.TheConstants.{FILE_LIMIT}
 use Rattle.explore_command.specs.Explores.{explore_work}
@@ -12,6 +13,7 @@ use Rattle.compare_command.specs.Compares.{CompareComes}
 use Rattle.job_gen.specs.Grown.{grown}
 use Rattle.grow_command.specs.Grows.{GrowComes}
 use Rattle.replay_command.specs.Replays.{ReplayComes}
+use Rattle.replay_command.specs.Wholes.{WholeComes}
 use Rattle.replay_command.specs.declared.replay.TheConstants.{REPORT_LIMIT}
 use Rattle.model_command.specs.Models.{ModelComes}
 use Rattle.model_command.specs.ClickModels.{ClickComes}
@@ -20,6 +22,8 @@ use Rattle.acl_command.specs.declared.model.ListStyle.TheVariants as list
 use Rattle.acl_command.specs.Commands.{AclComes, BothRulesCome, RulesComes}
 use Rattle.walk_command.specs.Walks.{WalkComes}
 use Rattle.command_words.specs.Commands.{Command, explore, walk, replay, ask, loops, compare, model, click, acl, rules, both_rules, grow}
+use Rattle.command_words.specs.declared.command.Extent.{Extent}
+use Rattle.command_words.specs.declared.command.Extent.TheVariants.{Each, Whole}
 use Rattle.command_words.specs.declared.command.FilterStyle.{FilterStyle}
 use Rattle.command_words.specs.declared.command.FilterStyle.TheVariants as filter
 use Rattle.command_words.specs.declared.command.Open.{Open}
@@ -28,7 +32,7 @@ use Rattle.command_words.specs.declared.command.Open.TheVariants as of_words
 abbrev pub inputs : Command → List Input
 inputs (explore job hops limit cases pruned) = a_job job ∷ []
 inputs (walk job packet hops limit) = a_job job ∷ a_file FILE_LIMIT packet ∷ []
-inputs (replay job report) = a_job job ∷ a_file REPORT_LIMIT report ∷ []
+inputs (replay job report extent) = a_job job ∷ a_file REPORT_LIMIT report ∷ []
 inputs (ask job hops limit cases) = a_job job ∷ []
 inputs (loops job hops limit cases detail) = a_job job ∷ []
 inputs (compare job other hops limit cases) = a_job job ∷ a_job other ∷ []
@@ -52,10 +56,15 @@ abbrev pub list_style_of : FilterStyle → ListStyle
 list_style_of filter.Chain = list.Chain
 list_style_of filter.Grouped = list.Grouped
 
+-- what is confirmed of the records of a report
+abbrev pub comes_of : Extent → List Given → Outcome → Type 0
+comes_of Each = ReplayComes
+comes_of Whole = WholeComes
+
 abbrev pub work : Command → OwnWork
 work (explore job hops limit cases pruned) = explore_work cases hops limit pruned
 work (walk job packet hops limit) = one_piece (WalkComes hops limit)
-work (replay job report) = one_piece ReplayComes
+work (replay job report extent) = one_piece (comes_of extent)
 work (ask job hops limit cases) = one_piece (AskComes cases hops limit)
 work (loops job hops limit cases detail) = one_piece (LoopsComes cases hops limit (detail_of detail))
 work (compare job other hops limit cases) = one_piece (CompareComes cases hops limit)

@@ -21,14 +21,14 @@ use ask_command::Ask;
 use command_edge::{Ending, FILE_LIMIT, Stop};
 use command_runs::laws::worlds_decide;
 use command_runs::{Both, ByteFile, JobFile, Piece, Status, run, status_of};
-use command_words::{Command, FilterStyle, Open, reading};
+use command_words::{Command, Extent, FilterStyle, Open, reading};
 use compare_command::{BothJobs, Compare};
 use explore_command::laws::reports_tell_walks;
 use explore_command::{Explore, RecordLimit};
 use grow_command::{Grow, GrownJob};
 use loops_command::{Loops, OpenPaths};
 use model_command::{ClickModel, TableModel};
-use replay_command::{REPORT_LIMIT, Replay};
+use replay_command::{REPORT_LIMIT, Replay, ReplayWhole};
 use sn_edge::{Folder, Patterns, Sink};
 use std::alloc::Global;
 use walk_command::Walk;
@@ -106,7 +106,11 @@ fn run_command<F: Folder, P: Patterns, K: Sink>(
             });
             run(alloc, &command, folder, patterns, out)
         }
-        Command::Replay { job, report } => {
+        Command::Replay {
+            job,
+            report,
+            extent,
+        } => {
             let source = Both {
                 first: JobFile { name: job },
                 second: ByteFile {
@@ -114,7 +118,10 @@ fn run_command<F: Folder, P: Patterns, K: Sink>(
                     limit: REPORT_LIMIT,
                 },
             };
-            run(alloc, &Piece(Replay { source }), folder, patterns, out)
+            match extent {
+                Extent::Each => run(alloc, &Piece(Replay { source }), folder, patterns, out),
+                Extent::Whole => run(alloc, &Piece(ReplayWhole { source }), folder, patterns, out),
+            }
         }
         Command::Ask {
             job,
