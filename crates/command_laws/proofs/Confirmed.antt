@@ -33,7 +33,7 @@ use Rattle.replay_command.specs.Replays.{IsCountsText, IsFirstOther, OfReport, R
 
 -- ---- records by what is seen of them
 
-abbrev tree_of : seen.RecordSeen → RecordTree
+abbrev pub tree_of : seen.RecordSeen → RecordTree
 tree_of (seen.path ds places end' fields verdict) = path ds places end' fields verdict
 tree_of (seen.pruned ds before refutation) = pruned ds before refutation
 tree_of (seen.unexplored ds) = unexplored ds
@@ -43,13 +43,13 @@ tree_seen (Path decisions places end' fields verdict) = refl
 tree_seen (Pruned decisions before refutation) = refl
 tree_seen (Unexplored decisions) = refl
 
-trees_seen : (xs : List Record) → record_trees xs ≡ map tree_of (map seen.record_seen xs)
+pub trees_seen : (xs : List Record) → record_trees xs ≡ map tree_of (map seen.record_seen xs)
 trees_seen [] = refl
 trees_seen (x ∷ xs) = λ i. tree_seen x i ∷ trees_seen xs i
 
 -- ---- exact records are confirmed
 
-meanings : (s : SymStart) (rs : List RecordTree) → AllByRecursion (IsGood s) rs → AllByRecursion (HasMeaning s) rs
+pub meanings : (s : SymStart) (rs : List RecordTree) → AllByRecursion (IsGood s) rs → AllByRecursion (HasMeaning s) rs
 meanings s [] all = tt
 meanings s (x ∷ rs) all = (all.0.meaning, meanings s rs all.1)
 
@@ -78,12 +78,19 @@ none_some : {A : Type 0} (x : A) → None ≡ Some x → ⊥
 none_some x e = cc e
 
 -- the bound that a report says is the injection's
-said_back : (most : ℕ) → choices_of (said_choices most) ≡ most
+pub said_back : (most : ℕ) → choices_of (said_choices most) ≡ most
 said_back most = by (most == USUAL_CHOICES) refl
   where
     by : (b : Bool) → (most == USUAL_CHOICES) ≡ b → choices_of (if b then None else Some most) ≡ most
     by true e = sym (eqb-true most USUAL_CHOICES e)
     by false e = refl
+
+module _ (hops limit : ℕ) (net : Network) (i : Entry) (ending : Ending) (whole : List ℕ)
+    (report : IsReport hops limit Written net i ending whole) (read : IsReadBack net (said_by i) hops limit Written report.records ending whole) where
+  pub no_fault : (f : ReportFault) (told : ℕ × List ℕ) → ReadsReport net whole (Err f) → report_kind f ≡ Some told → ⊥
+  no_fault NotJson told reads e = read (Err NotJson) reads
+  no_fault (NotReport place) told reads e = read (Err (NotReport place)) reads
+  no_fault NoReading told reads e = none_some told e
 
 module _ (back : IsOneAnswer) (hops limit : ℕ) (net : Network) (i : Entry) (ending : Ending) (whole : List ℕ)
     (report : IsReport hops limit Written net i ending whole) (read : IsReadBack net (said_by i) hops limit Written report.records ending whole) where
@@ -108,11 +115,6 @@ module _ (back : IsOneAnswer) (hops limit : ℕ) (net : Network) (i : Entry) (en
       subst (λ (m : ℕ). Fact m hops rs) (ap choices_of same.0 ∙ said_back i.most_choices)
       (subst (λ (n : ℕ). Fact (choices_of of.report.cases) n rs) same.1 (subst (Fact (choices_of of.report.cases) of.report.hops) same.2 of.holds))
 
-  no_fault : (f : ReportFault) (told : ℕ × List ℕ) → ReadsReport net whole (Err f) → report_kind f ≡ Some told → ⊥
-  no_fault NotJson told reads e = read (Err NotJson) reads
-  no_fault (NotReport place) told reads e = read (Err (NotReport place)) reads
-  no_fault NoReading told reads e = none_some told e
-
   counted : (w : List ℕ) → IsCountsText net i hops rs w → w ≡ confirmed_text (counts_of rs)
   counted w (counts, h, is) = is ∙ ap confirmed_text h.holds.1
 
@@ -120,7 +122,7 @@ module _ (back : IsOneAnswer) (hops limit : ℕ) (net : Network) (i : Entry) (en
   confirmed_back (text e w) h =
       let line = counted w (of_these (λ m n xs. IsCountsText net (with_choices m i) n xs w) h.1) in
       λ l. text (h.0 l) (line l)
-  confirmed_back (refused (BadReport kind pointer)) h = absurd (no_fault h.fault (kind, pointer) h.reads h.told)
+  confirmed_back (refused (BadReport kind pointer)) h = absurd (no_fault hops limit net i ending whole report read h.fault (kind, pointer) h.reads h.told)
   confirmed_back (refused (NotConfirmed number kind)) h =
       absurd (not_other back net i hops limit rs number kind exact (of_these (λ m n xs. IsFirstOther net (with_choices m i) n xs number kind) h))
   confirmed_back (refused fault) h = absurd h

@@ -2,3 +2,4 @@ pub mod Confirmed
 pub mod AllCases
 pub mod Alike
 pub mod Followed
+pub mod Whole

@@ -7,17 +7,20 @@ ghost use Rattle.path_records.specs.declared.sides.RefutedSides.TheVariants.{Wri
 ghost use Rattle.record_checks.specs.Counts.{counts_of};
 ghost use Rattle.command_edge.specs.Puts.{Outcome, text};
 ghost use Rattle.command_edge.specs.declared.ending.Ending.{Ending as EndingOf};
-ghost use Rattle.command_edge.specs.declared.ending.Ending.TheVariants.{Done};
+ghost use Rattle.command_edge.specs.declared.ending.Ending.TheVariants.{Done, Partial};
 ghost use Rattle.explore_command.specs.Explores.{IsReport};
 ghost use Rattle.explore_command.specs.Headline.{MayBeShown};
 ghost use Rattle.replay_command.specs.Counted.{confirmed_text};
 ghost use Rattle.replay_command.specs.Replays.{ReplayOf};
+ghost use Rattle.replay_command.specs.Wholes.{WholeOf};
 ghost use Rattle.command_laws.specs.Cases.{AllCasesAreTried};
 ghost use Rattle.command_laws.specs.Following.{HitsAreFollowed, PathsAreFollowed};
 
 use explore_command::laws::reports_are_read_back;
 use one_list::laws::{alike_records_tell_the_same, exact_records_are_one};
 use path_replay::laws::one_answer_for_a_net;
+use replay_command::laws::whole_replays_have_one_outcome;
+use whole_checks::laws::{chains_show_walks, exact_records_are_chains};
 
 /// What `explore` wrote of a job with its refuted sides, whole or partial, `replay` of that job confirms: it comes to the counts
 /// of these records, and to nothing else.
@@ -29,6 +32,23 @@ pub fn replays_confirm_what_explore_wrote()
 {
     reports_are_read_back();
     one_answer_for_a_net();
+}
+
+/// What `explore` wrote whole of a job with its refuted sides, `replay` of that job confirms with `--records whole`, too: it comes to the
+/// counts of these records, and to nothing else. Of a report that is partial it comes to no counts.
+pub fn whole_replays_confirm_what_explore_wrote()
+    ensures whole { (hops limit : ℕ) (net : Network) (i : Entry) (whole : List ℕ) (outcome : Outcome)
+        → MayBeShown i.most_choices hops limit
+        → (report : IsReport hops limit Written net i Done whole) → WholeOf net i whole outcome
+        → outcome ≡ text Done (confirmed_text (counts_of (record_trees report.records))) }
+    ensures partial { (hops limit : ℕ) (net : Network) (i : Entry) (ending : EndingOf) (whole line : List ℕ)
+        → MayBeShown i.most_choices hops limit → IsReport hops limit Written net i Partial whole
+        → WholeOf net i whole (text ending line) → ⊥ }
+{
+    reports_are_read_back();
+    chains_show_walks();
+    exact_records_are_chains();
+    whole_replays_have_one_outcome();
 }
 
 /// Two reports that `explore` wrote of one job with its refuted sides, by the same hops and limit, have the same counts: `replay` of
