@@ -136,11 +136,12 @@ def walk(job: Job, packet: Union[Text, Sequence[int]], *, files: Optional[Files]
     return replace(read_report(text, job), text=text, shown=_shown({"walks": text, "job": job}))
 
 
-def replay(job: Job, report: Union[Text, Report], *, files: Optional[Files] = None) -> Confirmed:
-    """The counts of a report's records, where each was confirmed for the job: of a text, or of what `explore` returned."""
+def replay(job: Job, report: Union[Text, Report], *, files: Optional[Files] = None, records: Optional[Literal["each", "whole"]] = None) -> Confirmed:
+    """The counts of a report's records, where each was confirmed for the job: of a text, or of what `explore` returned. With `records="whole"`
+    it is confirmed, too, that none is missing, so that each walk of each packet has exactly one path among them, whoever made the report."""
     taken, [job] = _taken(files, job)
     whole, names = _with(taken, job=job, report=report.text if isinstance(report, Report) else report)
-    return _counts(written(run(["replay", names["job"], names["report"]], whole)), Confirmed)
+    return _counts(written(run(["replay", names["job"], names["report"], *_options(records=records)], whole)), Confirmed)
 
 
 def ask(job: Job, *, files: Optional[Files] = None, hops: Optional[int] = None, limit: Optional[int] = None, cases: Optional[Cases] = "all") -> Asked:

@@ -4,6 +4,7 @@
 mod compare;
 mod comparing;
 mod jobs;
+pub mod laws;
 mod text;
 
 pub use compare::Compare;

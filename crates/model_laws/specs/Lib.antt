@@ -6,6 +6,7 @@ pub mod Passing
 pub mod Rows
 pub mod Elements
 pub mod Filters
+pub mod Hidden
 pub mod Boxes
 -- What functions inside promise each other.
 pub mod Reads

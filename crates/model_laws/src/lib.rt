@@ -5,6 +5,7 @@
 mod boxes;
 pub mod elements;
 pub mod filters;
+pub mod lists;
 pub mod tables;
 
 pub use boxes::table_box_run;
