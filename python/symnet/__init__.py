@@ -12,7 +12,7 @@ import importlib
 from types import ModuleType
 
 from .answers import Answer, Compared, ComparedRules, Fate, ListSide, Loops, NotAnswer, Part, Visit
-from .commands import Asked, Confirmed, Grown, Rules, ask, compare, compare_rules, explore, grow, loops, model, replay, rules, run, walk
+from .commands import Asked, Confirmed, Grown, RefusedPacket, Rules, ask, compare, compare_rules, explore, grow, loops, model, replay, rules, run, walk, walk_each
 from .expected import NotExpected, Unmet, expect
 from .inputs import NotInput
 from .jobs import Net
@@ -23,8 +23,8 @@ from .records import Cell, Fields, NotReport, Path, Pruned, Report, Unexplored
 from .sefl import canonical
 
 __all__ = ["Answer", "Asked", "Cell", "Compared", "ComparedRules", "Confirmed", "Ended", "Fate", "Fields", "Grown", "ListSide", "Loops", "Net", "NotAnswer", "NotBuilt",
-           "NotExpected", "NotInput", "NotReport", "Packet", "Part", "Path", "Pruned", "Refusal", "Report", "Rules", "Unexplored", "Unmet", "Visit", "ask", "canonical", "compare", "compare_rules", "expect", "explore", "grow",
-           "loops", "model", "replay", "rules", "run", "walk"]
+           "NotExpected", "NotInput", "NotReport", "Packet", "Part", "Path", "Pruned", "Refusal", "RefusedPacket", "Report", "Rules", "Unexplored", "Unmet", "Visit", "ask", "canonical", "compare", "compare_rules", "expect", "explore", "grow",
+           "loops", "model", "replay", "rules", "run", "walk", "walk_each"]
 
 
 def __getattr__(name: str) -> ModuleType:

@@ -6,7 +6,7 @@ command raises `Refusal` where it ends without a whole text.
 """
 
 from dataclasses import dataclass, field, fields, replace
-from typing import Dict, List, Literal, Mapping, Optional, Sequence, Tuple, Type, TypeVar, Union
+from typing import Dict, Iterable, List, Literal, Mapping, Optional, Sequence, Tuple, Type, TypeVar, Union
 
 from .answers import Answer, Compared, ComparedRules, Fate, Loops, read_asked, read_compared, read_compared_rules, read_loops, read_rules
 from .inputs import read_list
@@ -16,8 +16,8 @@ from .library import Ended, Files as AnyFiles, Text, as_bytes
 from .packet import JobText
 from .picture import Pictured, Texts
 from .refusal import PARTIAL, written
-from .records import NotReport, Report, read_report, read_written
-from .shape import Misshaped, a_count, member
+from .records import NotReport, Report, read_report, read_written, report_of
+from .shape import Misshaped, a_count, a_text, member
 
 Files = Mapping[str, Text]
 Job = Union[Text, Net]
@@ -41,6 +41,14 @@ class Rules(Pictured):
 
     fates: Tuple[Fate, ...]
     shown: Optional[Texts] = field(default=None, repr=False, compare=False)
+
+
+@dataclass(frozen=True)
+class RefusedPacket:
+    """Why a packet of many has no walks: "bad packet" with the kind of status 11, or "too many walks" with their count (docs/statuses.md)."""
+
+    why: str
+    number: int
 
 
 @dataclass(frozen=True)
@@ -134,6 +142,32 @@ def walk(job: Job, packet: Union[Text, Sequence[int]], *, files: Optional[Files]
     whole, names = _with(taken, job=job, packet=given)
     text = written(run(["walk", names["job"], names["packet"], *_options(hops=hops, limit=limit)], whole))
     return replace(read_report(text, job), text=text, shown=_shown({"walks": text, "job": job}))
+
+
+def _packet_line(packet: Union[Text, Sequence[int]]) -> bytes:
+    """A packet on one line."""
+    if isinstance(packet, str):
+        packet = packet.encode()
+    return b" ".join(packet.split()) if isinstance(packet, bytes) else " ".join(map(str, packet)).encode()
+
+
+def _line_answer(line: bytes, job: Text) -> Union[Report, RefusedPacket]:
+    whole = read_written(line)
+    if "refused" not in whole:
+        return replace(report_of(whole, JobText(job)), text=line, shown=_shown({"walks": line, "job": job}))
+    try:
+        return RefusedPacket(a_text(whole["refused"]), a_count(member(whole, "kind" if "kind" in whole else "count")))
+    except Misshaped as error:
+        raise NotReport(f"no walks: {error}") from None
+
+
+def walk_each(job: Job, packets: Iterable[Union[Text, Sequence[int]]], *, files: Optional[Files] = None, hops: Optional[int] = None,
+              limit: Optional[int] = None) -> List[Union[Report, RefusedPacket]]:
+    """All walks of each of many packets, as of one by `walk`; the job is read once. A packet that is refused does not end it."""
+    taken, [job] = _taken(files, job)
+    whole, names = _with(taken, job=job, packets=b"".join(_packet_line(it) + b"\n" for it in packets))
+    text = written(run(["walk", names["job"], names["packets"], "--packets=lines", *_options(hops=hops, limit=limit)], whole))
+    return [_line_answer(line + b"\n", job) for line in text.split(b"\n")[:-1]]
 
 
 def replay(job: Job, report: Union[Text, Report], *, files: Optional[Files] = None, records: Optional[Literal["each", "whole"]] = None) -> Confirmed:

@@ -13,6 +13,8 @@ use Rattle.command_words.specs.declared.command.Extent.{Extent}
 use Rattle.command_words.specs.declared.command.Extent.TheVariants.{Each, Whole}
 use Rattle.command_words.specs.declared.command.FilterStyle.{FilterStyle}
 use Rattle.command_words.specs.declared.command.FilterStyle.TheVariants as filter
+use Rattle.command_words.specs.declared.command.Packets.{Packets}
+use Rattle.command_words.specs.declared.command.Packets.TheVariants.{One, Lines}
 use Rattle.command_words.specs.declared.command.Open.{Open}
 use Rattle.command_words.specs.declared.command.Open.TheVariants.{Numbers, Visits}
 use Rattle.path_records.specs.declared.sides.RefutedSides.{RefutedSides}
@@ -30,8 +32,12 @@ pub data Command : Type 0 where
   explore : Text → ℕ → ℕ → ℕ → RefutedSides → Command
   -- the job and the packet; hops and limit
   walk : Text → Text → ℕ → ℕ → Command
-  -- the job and the report; and what is confirmed of its records
-  replay : Text → Text → Extent → Command
+  -- the job and the packets; hops and limit
+  walk_lines : Text → Text → ℕ → ℕ → Command
+  -- the job and the report
+  replay : Text → Text → Command
+  -- the same, of all of its records together
+  replay_whole : Text → Text → Command
   -- the job; hops, limit and a bound on choices of cases
   ask : Text → ℕ → ℕ → ℕ → Command
   -- the job; the same, and what is written of paths without a loop
@@ -54,7 +60,9 @@ pub data Command : Type 0 where
 abbrev pub command_of : CommandOf → Command
 command_of (given.Explore job hops limit cases pruned) = explore job.now hops limit cases pruned
 command_of (given.Walk job packet hops limit) = walk job.now packet.now hops limit
-command_of (given.Replay job report extent) = replay job.now report.now extent
+command_of (given.WalkLines job packets hops limit) = walk_lines job.now packets.now hops limit
+command_of (given.Replay job report) = replay job.now report.now
+command_of (given.ReplayWhole job report) = replay_whole job.now report.now
 command_of (given.Ask job hops limit cases) = ask job.now hops limit cases
 command_of (given.Loops job hops limit cases detail) = loops job.now hops limit cases detail
 command_of (given.Compare job other hops limit cases) = compare job.now other.now hops limit cases
@@ -76,7 +84,9 @@ AreBounds most hops limit cases = AreInRange most hops limit × (1 ≤ cases) ×
 abbrev pub HasRanges : Command → Type 0
 HasRanges (explore job hops limit cases pruned) = AreBounds MOST_LIMIT hops limit cases
 HasRanges (walk job packet hops limit) = AreInRange MOST_LIMIT hops limit
-HasRanges (replay job report extent) = Unit {0}
+HasRanges (walk_lines job packets hops limit) = AreInRange MOST_LIMIT hops limit
+HasRanges (replay job report) = Unit {0}
+HasRanges (replay_whole job report) = Unit {0}
 HasRanges (ask job hops limit cases) = AreBounds MOST_ANSWER_LIMIT hops limit cases
 HasRanges (loops job hops limit cases detail) = AreBounds MOST_ANSWER_LIMIT hops limit cases
 HasRanges (compare job other hops limit cases) = AreBounds MOST_ANSWER_LIMIT hops limit cases
@@ -90,7 +100,7 @@ HasRanges (grow seed boxes) = (1 ≤ boxes) × (boxes ≤ MOST_BOXES)
 -- what the words behind a command's name may be
 abbrev pub form_of_verb : Verb → Form
 form_of_verb Explore = record { positionals = codes "JOB" ∷ []; options = codes "hops" ∷ codes "limit" ∷ codes "pruned" ∷ codes "cases" ∷ [] }
-form_of_verb Walk = record { positionals = codes "JOB" ∷ codes "PACKET" ∷ []; options = codes "hops" ∷ codes "limit" ∷ [] }
+form_of_verb Walk = record { positionals = codes "JOB" ∷ codes "PACKET" ∷ []; options = codes "hops" ∷ codes "limit" ∷ codes "packets" ∷ [] }
 form_of_verb Replay = record { positionals = codes "JOB" ∷ codes "REPORT" ∷ []; options = codes "records" ∷ [] }
 form_of_verb Ask = record { positionals = codes "JOB" ∷ []; options = codes "hops" ∷ codes "limit" ∷ codes "cases" ∷ [] }
 form_of_verb Loops =
@@ -172,6 +182,26 @@ abbrev pub extent_or_each : Option Text → Option Extent
 extent_or_each None = Some Each
 extent_or_each (Some word) = extent_of word
 
+abbrev pub packets_of : Text → Option Packets
+packets_of word =
+    if bytes_eq word (codes "one") then Some One
+    else if bytes_eq word (codes "lines") then Some Lines
+    else None
+
+abbrev pub packets_or_one : Option Text → Option Packets
+packets_or_one None = Some One
+packets_or_one (Some word) = packets_of word
+
+-- what is walked, by how many packets the file has
+abbrev pub walk_of : Packets → Text → Text → ℕ → ℕ → Command
+walk_of One = walk
+walk_of Lines = walk_lines
+
+-- and what is confirmed
+abbrev pub replay_of : Extent → Text → Text → Command
+replay_of Each = replay
+replay_of Whole = replay_whole
+
 abbrev pub style_of : Text → Option Style
 style_of word =
     if bytes_eq word (codes "chain") then Some Chain
@@ -219,8 +249,13 @@ module _ (value : Text → Option Text) where
       option_and_then (λ job. with_bounds MOST_LIMIT (λ hops limit. option_and_then (λ cases. option_map (explore job hops limit cases) pruned_in) cases_in))
       (value (codes "JOB"))
 
+  abbrev pub packets_in : Option Packets
+  packets_in = packets_or_one (value (codes "packets"))
+
   abbrev pub walk_from : Option Command
-  walk_from = option_and_then (λ job. option_and_then (λ packet. with_bounds MOST_LIMIT (λ hops limit. Some (walk job packet hops limit))) (value (codes "PACKET"))) (value (codes "JOB"))
+  walk_from =
+      option_and_then (λ job. option_and_then (λ packet. with_bounds MOST_LIMIT (λ hops limit. option_map (λ packets. walk_of packets job packet hops limit) packets_in)) (value (codes "PACKET")))
+      (value (codes "JOB"))
 
   abbrev pub style_in : Option Style
   style_in = style_or_grouped (value (codes "style"))
@@ -229,7 +264,7 @@ module _ (value : Text → Option Text) where
   extent_in = extent_or_each (value (codes "records"))
 
   abbrev pub replay_from : Option Command
-  replay_from = option_and_then (λ job. option_and_then (λ report. option_map (replay job report) extent_in) (value (codes "REPORT"))) (value (codes "JOB"))
+  replay_from = option_and_then (λ job. option_and_then (λ report. option_map (λ extent. replay_of extent job report) extent_in) (value (codes "REPORT"))) (value (codes "JOB"))
 
   abbrev pub ask_from : Option Command
   ask_from = option_and_then (λ job. with_bounds MOST_ANSWER_LIMIT (λ hops limit. option_map (ask job hops limit) cases_in)) (value (codes "JOB"))

@@ -2,7 +2,7 @@
 
 ghost use Rattle.std.specs.Prelude.{◌≡◌, ◌≤◌, IfOk, IfSome, Some, option_map, map, string_bytes};
 ghost use Rattle.clap.specs.Words.{first_value, found_of};
-ghost use Rattle.command_words.specs.Commands.{HasRanges, cases_in, cases_of, command_from, command_of, extent_in, extent_of, filter_style_in, filter_style_of, form_of_verb, hops_in, limit_in, model_of, named, open_in, open_of, pruned_in, pruned_of, read_as, read_verb, reading, second_of, style_in, style_of, verb_of};
+ghost use Rattle.command_words.specs.Commands.{AreInRange, HasRanges, cases_in, cases_of, command_from, command_of, extent_in, extent_of, filter_style_in, filter_style_of, form_of_verb, hops_in, limit_in, model_of, named, open_in, open_of, packets_in, packets_of, pruned_in, pruned_of, read_as, read_verb, reading, replay_of, second_of, style_in, style_of, verb_of, walk_of};
 ghost use Rattle.command_words.specs.Shapes.{form_of, named_of};
 
 use crate::form::Form;
@@ -38,9 +38,17 @@ pub enum Open {
     Visits,
 }
 
+/// How many packets a file has.
+#[derive(Clone, Copy)]
+enum Packets {
+    One,
+    /// One on each line.
+    Lines,
+}
+
 /// What is confirmed of the records of a report.
 #[derive(Clone, Copy)]
-pub enum Extent {
+enum Extent {
     /// That each has its own meaning.
     Each,
     /// And that together they leave nothing out.
@@ -70,10 +78,21 @@ pub enum Command<'a> {
         hops: u32,
         limit: u32,
     },
+    /// Of each line of the file.
+    WalkLines {
+        job: &'a str,
+        packets: &'a str,
+        hops: u32,
+        limit: u32,
+    },
     Replay {
         job: &'a str,
         report: &'a str,
-        extent: Extent,
+    },
+    /// Of all records together.
+    ReplayWhole {
+        job: &'a str,
+        report: &'a str,
     },
     Ask {
         job: &'a str,
@@ -149,7 +168,7 @@ impl Verb {
             },
             Verb::Walk => Form {
                 positionals: &["JOB", "PACKET"],
-                options: &["hops", "limit"],
+                options: &["hops", "limit", "packets"],
             },
             Verb::Replay => Form {
                 positionals: &["JOB", "REPORT"],
@@ -351,6 +370,62 @@ fn extent_in(values: &ArgMatches<'_>) -> Option<Extent>
     }
 }
 
+fn packets_of(word: &str) -> Option<Packets>
+    ensures { result ≡ packets_of word.now }
+{
+    match word {
+        "one" => Some(Packets::One),
+        "lines" => Some(Packets::Lines),
+        _ => None,
+    }
+}
+
+/// How many packets the file has, or the default.
+fn packets_in(values: &ArgMatches<'_>) -> Option<Packets>
+    ensures { result ≡ packets_in (first_value (found_of values.now)) }
+{
+    match values.get_str("packets") {
+        Some(word) => packets_of(word),
+        None => Some(Packets::One),
+    }
+}
+
+fn walk_of<'a>(
+    packets: Packets,
+    job: &'a str,
+    packet: &'a str,
+    hops: u32,
+    limit: u32,
+) -> Command<'a>
+    ensures command { command_of result ≡ walk_of packets job.now packet.now hops limit }
+    ensures ranges { AreInRange MOST_LIMIT hops limit → HasRanges (command_of result) }
+{
+    match packets {
+        Packets::One => Command::Walk {
+            job,
+            packet,
+            hops,
+            limit,
+        },
+        Packets::Lines => Command::WalkLines {
+            job,
+            packets: packet,
+            hops,
+            limit,
+        },
+    }
+}
+
+fn replay_of<'a>(extent: Extent, job: &'a str, report: &'a str) -> Command<'a>
+    ensures command { command_of result ≡ replay_of extent job.now report.now }
+    ensures ranges { HasRanges (command_of result) }
+{
+    match extent {
+        Extent::Each => Command::Replay { job, report },
+        Extent::Whole => Command::ReplayWhole { job, report },
+    }
+}
+
 fn style_of(word: &str) -> Option<Style>
     ensures { result ≡ style_of word.now }
 {
@@ -417,22 +492,14 @@ fn command_from<'a>(verb: Verb, values: &ArgMatches<'a>) -> Option<Command<'a>>
             let packet = values.get_str("PACKET")?;
             let hops = hops_in(values)?;
             let limit = limit_in(MOST_LIMIT, values)?;
-            Some(Command::Walk {
-                job,
-                packet,
-                hops,
-                limit,
-            })
+            let packets = packets_in(values)?;
+            Some(walk_of(packets, job, packet, hops, limit))
         }
         Verb::Replay => {
             let job = values.get_str("JOB")?;
             let report = values.get_str("REPORT")?;
             let extent = extent_in(values)?;
-            Some(Command::Replay {
-                job,
-                report,
-                extent,
-            })
+            Some(replay_of(extent, job, report))
         }
         Verb::Ask => {
             let job = values.get_str("JOB")?;

@@ -8,6 +8,6 @@ mod number;
 mod values;
 
 pub use command::{
-    Command, Extent, FilterStyle, HOPS, LIMIT, MOST_ANSWER_LIMIT, MOST_BOXES, MOST_HOPS,
-    MOST_LIMIT, Open, reading,
+    Command, FilterStyle, HOPS, LIMIT, MOST_ANSWER_LIMIT, MOST_BOXES, MOST_HOPS, MOST_LIMIT, Open,
+    reading,
 };

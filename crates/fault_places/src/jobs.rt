@@ -11,7 +11,9 @@ fn jobs_of(command: Command<'_>) -> Option<(&str, Option<&str>)> {
     match command {
         Command::Explore { job, .. } => Some((job, None)),
         Command::Walk { job, .. } => Some((job, None)),
+        Command::WalkLines { job, .. } => Some((job, None)),
         Command::Replay { job, .. } => Some((job, None)),
+        Command::ReplayWhole { job, .. } => Some((job, None)),
         Command::Ask { job, .. } => Some((job, None)),
         Command::Loops { job, .. } => Some((job, None)),
         Command::Compare { job, other, .. } => Some((job, Some(other))),

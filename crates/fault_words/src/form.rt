@@ -37,6 +37,8 @@ const ANSWER_LIMIT: u16 = 128;
 
 const RECORDS: u16 = 256;
 
+const PACKETS: u16 = 512;
+
 fn hops() -> Choice {
     Choice {
         flag: "--hops",
@@ -107,6 +109,16 @@ fn records() -> Choice {
     }
 }
 
+fn packets() -> Choice {
+    Choice {
+        flag: "--packets",
+        bit: PACKETS,
+        most: 0,
+        words: &["one", "lines"],
+        says: "--packets takes one or lines",
+    }
+}
+
 fn style() -> Choice {
     Choice {
         flag: "--style",
@@ -137,6 +149,7 @@ pub(crate) fn choice_of(options: u16, flag: &str) -> Option<Choice> {
         "--open" => open_paths(),
         "--cases" => cases(),
         "--records" => records(),
+        "--packets" => packets(),
         "--style" if options & FILTER_STYLE != 0 => filter_style(),
         "--style" => style(),
         _ => return None,
@@ -157,7 +170,7 @@ pub(crate) fn form_of(name: &str) -> Option<Form> {
         }),
         "walk" => Some(Form {
             files: &["JOB", "PACKET"],
-            options: HOPS | LIMIT,
+            options: HOPS | LIMIT | PACKETS,
         }),
         "replay" => Some(Form {
             files: &["JOB", "REPORT"],

@@ -1,7 +1,6 @@
 -- Each command: what it reads, in order, and its own work.
 use Rattle.std.specs.Prelude.{ℕ, ◌≡◌, List, [], ◌∷◌}
-use Rattle.command_runs.specs.Inputs.{Given, Input, a_job, a_made_job, a_file}
-use Rattle.command_edge.specs.Puts.{Outcome}
+use Rattle.command_runs.specs.Inputs.{Input, a_job, a_made_job, a_file}
 use Rattle.command_runs.specs.Runs.{OwnWork, one_piece}
 use Rattle.command_edge.specs.declared.limits.TheConstants.{FILE_LIMIT}
 use Rattle.explore_command.specs.Explores.{explore_work}
@@ -20,10 +19,9 @@ use Rattle.model_command.specs.ClickModels.{ClickComes}
 use Rattle.acl_command.specs.declared.model.ListStyle.{ListStyle}
 use Rattle.acl_command.specs.declared.model.ListStyle.TheVariants as list
 use Rattle.acl_command.specs.Commands.{AclComes, BothRulesCome, RulesComes}
+use Rattle.walk_command.specs.Lines.{LinesCome}
 use Rattle.walk_command.specs.Walks.{WalkComes}
-use Rattle.command_words.specs.Commands.{Command, explore, walk, replay, ask, loops, compare, model, click, acl, rules, both_rules, grow}
-use Rattle.command_words.specs.declared.command.Extent.{Extent}
-use Rattle.command_words.specs.declared.command.Extent.TheVariants.{Each, Whole}
+use Rattle.command_words.specs.Commands.{Command, explore, walk, walk_lines, replay, replay_whole, ask, loops, compare, model, click, acl, rules, both_rules, grow}
 use Rattle.command_words.specs.declared.command.FilterStyle.{FilterStyle}
 use Rattle.command_words.specs.declared.command.FilterStyle.TheVariants as filter
 use Rattle.command_words.specs.declared.command.Open.{Open}
@@ -32,7 +30,9 @@ use Rattle.command_words.specs.declared.command.Open.TheVariants as of_words
 abbrev pub inputs : Command → List Input
 inputs (explore job hops limit cases pruned) = a_job job ∷ []
 inputs (walk job packet hops limit) = a_job job ∷ a_file FILE_LIMIT packet ∷ []
-inputs (replay job report extent) = a_job job ∷ a_file REPORT_LIMIT report ∷ []
+inputs (walk_lines job packets hops limit) = a_job job ∷ a_file FILE_LIMIT packets ∷ []
+inputs (replay job report) = a_job job ∷ a_file REPORT_LIMIT report ∷ []
+inputs (replay_whole job report) = a_job job ∷ a_file REPORT_LIMIT report ∷ []
 inputs (ask job hops limit cases) = a_job job ∷ []
 inputs (loops job hops limit cases detail) = a_job job ∷ []
 inputs (compare job other hops limit cases) = a_job job ∷ a_job other ∷ []
@@ -56,15 +56,12 @@ abbrev pub list_style_of : FilterStyle → ListStyle
 list_style_of filter.Chain = list.Chain
 list_style_of filter.Grouped = list.Grouped
 
--- what is confirmed of the records of a report
-abbrev pub comes_of : Extent → List Given → Outcome → Type 0
-comes_of Each = ReplayComes
-comes_of Whole = WholeComes
-
 abbrev pub work : Command → OwnWork
 work (explore job hops limit cases pruned) = explore_work cases hops limit pruned
 work (walk job packet hops limit) = one_piece (WalkComes hops limit)
-work (replay job report extent) = one_piece (comes_of extent)
+work (walk_lines job packets hops limit) = one_piece (LinesCome hops limit)
+work (replay job report) = one_piece ReplayComes
+work (replay_whole job report) = one_piece WholeComes
 work (ask job hops limit cases) = one_piece (AskComes cases hops limit)
 work (loops job hops limit cases detail) = one_piece (LoopsComes cases hops limit (detail_of detail))
 work (compare job other hops limit cases) = one_piece (CompareComes cases hops limit)

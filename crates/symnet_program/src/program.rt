@@ -21,7 +21,7 @@ use ask_command::Ask;
 use command_edge::{Ending, FILE_LIMIT, Stop};
 use command_runs::laws::worlds_decide;
 use command_runs::{Both, ByteFile, JobFile, Piece, Status, run, status_of};
-use command_words::{Command, Extent, FilterStyle, Open, reading};
+use command_words::{Command, FilterStyle, Open, reading};
 use compare_command::{BothJobs, Compare};
 use explore_command::laws::reports_tell_walks;
 use explore_command::{Explore, RecordLimit};
@@ -31,7 +31,7 @@ use model_command::{ClickModel, TableModel};
 use replay_command::{REPORT_LIMIT, Replay, ReplayWhole};
 use sn_edge::{Folder, Patterns, Sink};
 use std::alloc::Global;
-use walk_command::Walk;
+use walk_command::{Walk, WalkLines};
 
 fn detail_of(detail: Open) -> OpenPaths
     ensures { result ≡ detail_of detail }
@@ -106,11 +106,27 @@ fn run_command<F: Folder, P: Patterns, K: Sink>(
             });
             run(alloc, &command, folder, patterns, out)
         }
-        Command::Replay {
+        Command::WalkLines {
             job,
-            report,
-            extent,
+            packets,
+            hops,
+            limit,
         } => {
+            let source = Both {
+                first: JobFile { name: job },
+                second: ByteFile {
+                    name: packets,
+                    limit: FILE_LIMIT,
+                },
+            };
+            let command = Piece(WalkLines {
+                source,
+                hops,
+                limit,
+            });
+            run(alloc, &command, folder, patterns, out)
+        }
+        Command::Replay { job, report } => {
             let source = Both {
                 first: JobFile { name: job },
                 second: ByteFile {
@@ -118,10 +134,17 @@ fn run_command<F: Folder, P: Patterns, K: Sink>(
                     limit: REPORT_LIMIT,
                 },
             };
-            match extent {
-                Extent::Each => run(alloc, &Piece(Replay { source }), folder, patterns, out),
-                Extent::Whole => run(alloc, &Piece(ReplayWhole { source }), folder, patterns, out),
-            }
+            run(alloc, &Piece(Replay { source }), folder, patterns, out)
+        }
+        Command::ReplayWhole { job, report } => {
+            let source = Both {
+                first: JobFile { name: job },
+                second: ByteFile {
+                    name: report,
+                    limit: REPORT_LIMIT,
+                },
+            };
+            run(alloc, &Piece(ReplayWhole { source }), folder, patterns, out)
         }
         Command::Ask {
             job,

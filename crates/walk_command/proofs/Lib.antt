@@ -1,3 +1,4 @@
 pub mod Lending
 pub mod ComesLemmas
 pub mod OnceLemmas
+pub mod LineLemmas

@@ -1,2 +1,3 @@
 pub mod WalkTexts
 pub mod Walks
+pub mod Lines

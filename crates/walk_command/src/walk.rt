@@ -29,7 +29,7 @@ pub struct Walk<'a> {
 }
 
 /// The numbers that the bytes of a packet's file spell.
-fn numbers_of(alloc: Global, bytes: &[u8]) -> Result<Vec<Num>, OwnFault>
+pub(crate) fn numbers_of(alloc: Global, bytes: &[u8]) -> Result<Vec<Num>, OwnFault>
     ensures numbers { IfOk result (λ values. packet_of bytes.now ≡ Some values.items) }
     ensures refused { IfErr result (IsNoPacket bytes.now) }
 {
@@ -41,7 +41,7 @@ fn numbers_of(alloc: Global, bytes: &[u8]) -> Result<Vec<Num>, OwnFault>
 }
 
 /// The text of the walks of a packet with these numbers.
-fn text_of_walks(
+pub(crate) fn text_of_walks(
     alloc: Global,
     job: &Accepted,
     values: &[Num],

@@ -33,8 +33,14 @@ returns-in-Explore-clause-ran g c =
 pub returns-in-Walk-clause-ran : goal.returns-in-Walk-clause-ran
 returns-in-Walk-clause-ran g c = rw (c.in-Walk.is) c.run-in-Walk.ensures.ran
 
+pub returns-in-WalkLines-clause-ran : goal.returns-in-WalkLines-clause-ran
+returns-in-WalkLines-clause-ran g c = rw (c.in-WalkLines.is) c.run-in-WalkLines.ensures.ran
+
 pub returns-in-Replay-clause-ran : goal.returns-in-Replay-clause-ran
 returns-in-Replay-clause-ran g c = rw (c.in-Replay.is) c.run-in-Replay.ensures.ran
+
+pub returns-in-ReplayWhole-clause-ran : goal.returns-in-ReplayWhole-clause-ran
+returns-in-ReplayWhole-clause-ran g c = rw (c.in-ReplayWhole.is) c.run-in-ReplayWhole.ensures.ran
 
 pub returns-in-Grow-clause-ran : goal.returns-in-Grow-clause-ran
 returns-in-Grow-clause-ran g c = rw (c.in-Grow.is) c.run-in-Grow.ensures.ran
