@@ -157,9 +157,11 @@ def check_run(expect):
     expect("a net is asked", [it.answer for it in symnet.ask(net).answers], ["no", "yes", "yes"])
     expect("a net is compared", (symnet.compare(net, net).answer, symnet.loops(net).complete, symnet.replay(net, symnet.explore(net)).undecided), ("same", True, 0))
     expect("a net's report is whole", symnet.replay(net, symnet.explore(net), records="whole"), symnet.replay(net, symnet.explore(net)))
-    left = symnet.explore(net, pruned="count")
-    refused("a report without its refuted sides is not whole", expect, lambda: symnet.replay(net, left, records="whole"))
-    packets = [path.packet.numbers for path in symnet.explore(net).paths]
+    try:
+        expect("a report without its refuted sides is not whole", symnet.replay(net, symnet.explore(net, pruned="count"), records="whole"), "a refusal")
+    except symnet.Refusal as fault:
+        expect("a report without its refuted sides is not whole", fault.text.split()[:3], ["symnet:", "not", "confirmed"])
+    packets = [path.values for path in symnet.explore(net).paths if path.values is not None]
     walked = symnet.walk_each(net, [*packets, [0], b"x", " ".join(map(str, packets[0]))])
     expect("many packets are walked", [it.text for it in walked[:len(packets)]], [symnet.walk(net, it).text for it in packets])
     expect("packets are refused each by itself", walked[len(packets):-1], [symnet.RefusedPacket("bad packet", 1), symnet.RefusedPacket("bad packet", 4)])
