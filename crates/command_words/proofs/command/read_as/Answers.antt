@@ -1,4 +1,4 @@
-use Rattle.std.proofs.Common.{◌≡◌, ◌∙◌, map, string_bytes}
+use Rattle.std.proofs.Common.{◌∙◌, map, string_bytes}
 use Rattle.clap.specs.Words.{found_of}
 use Rattle.command_words.specs.Shapes.{form_of}
 use Rattle.command_words.proofs.CommandLemmas.{command_is}
