@@ -1,3 +1,4 @@
 pub mod FoundLemmas
 pub mod Uncut
 pub mod OnceLemmas
+pub mod Endless

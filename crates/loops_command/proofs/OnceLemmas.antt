@@ -192,18 +192,19 @@ cut_back (path ds places end' fields verdict) h = h
 cut_back (pruned ds before refutation) h = h
 cut_back (unexplored ds) h = h
 
-ok_same : {A E : Type 0} {x y : A} → ◌≡◌ {A = Result A E} (Ok x) (Ok y) → x ≡ y
+pub ok_same : {A E : Type 0} {x y : A} → ◌≡◌ {A = Result A E} (Ok x) (Ok y) → x ≡ y
 ok_same e = cc e
 
-module _ (known : Verdicts) (net : Network) (i : Entry) (hops : ℕ) (arrive : CutPathsArrive net i hops) (start : SymStart) (explored : IsExplored net i hops start) where
+module _ (net : Network) (i : Entry) (hops : ℕ) (arrive : CutPathsArrive net i hops) (start : SymStart) (explored : IsExplored net i hops start) where
   -- the way of a record that is cut
-  cut_path : (x : RecordTree) → IsCutRecord x → IsGood start x → CutPath start (decisions_of x)
+  pub cut_path : (x : RecordTree) → IsCutRecord x → IsGood start x → CutPath start (decisions_of x)
   cut_path (path ds places end' fields verdict) cut good =
       arrive start explored ds good.meaning.way good.meaning.progress good.meaning.leads
       (good.meaning.ended ∙ ap (λ (e : End). over good.meaning.progress e) (cut_is end' cut))
   cut_path (pruned ds before refutation) cut good = absurd cut
   cut_path (unexplored ds) cut good = absurd cut
 
+module _ (known : Verdicts) (net : Network) (i : Entry) (hops : ℕ) (arrive : CutPathsArrive net i hops) (start : SymStart) (explored : IsExplored net i hops start) where
   told_at : (ds : List Decision) (answer : LoopAnswer) → IsRight net i hops ds answer → (p : CutPath start ds)
       → IsAnswerOn (condition_on start p.way) p.last p.earlier answer
   told_at ds answer right p =
@@ -222,7 +223,7 @@ module _ (known : Verdicts) (net : Network) (i : Entry) (hops : ℕ) (arrive : C
   same_found number (x ∷ xs) [] fs gs good e h k = absurd (none_some (sym e))
   same_found number (x ∷ xs) (y ∷ ys) fs gs good e (inl h) (inl k) =
       let ds : decisions_of y ≡ decisions_of x = sym (decisions_same y) ∙ (ap decisions_of (sym (first_same e)) ∙ decisions_same x) in
-      let told = same_right number (decisions_of x) h.answer k.answer (cut_path x h.cut good.0) h.so
+      let told = same_right number (decisions_of x) h.answer k.answer (cut_path net i hops arrive start explored x h.cut good.0) h.so
       (subst (λ (own : List Decision). IsRight net i hops own k.answer) ds k.so) in
       let (loops, opened) = same_found (suc number) xs ys h.rest k.rest good.1 (rest_same e) h.others k.others in (
         ap loops_in h.is ∙ (ap (with_loop number h.answer) loops ∙ (told.loops (loops_in k.rest) ∙ sym (ap loops_in k.is))),

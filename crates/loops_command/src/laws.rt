@@ -3,8 +3,11 @@
 ghost use Rattle.std.specs.Prelude.{◌≡◌, ◌≤◌, ℕ, [], List};
 ghost use Rattle.net_check.specs.Network.{Entry, Network};
 ghost use Rattle.command_edge.specs.Puts.{Outcome};
+ghost use Rattle.command_edge.specs.declared.ending.Ending.{Ending as EndingOf};
 ghost use Rattle.command_edge.specs.declared.ending.Ending.TheVariants.{Done};
 ghost use Rattle.hop_bounds.specs.Beyond.{HasSameWalks};
+ghost use Rattle.loop_check.specs.Finding.{AreFound};
+ghost use Rattle.loops_command.specs.Endless.{GoesRound};
 ghost use Rattle.loops_command.specs.Loops.{IsLoopsText, LoopsOf};
 ghost use Rattle.loops_command.specs.declared.text.OpenPaths.{OpenPaths as OpenPathsOf};
 
@@ -31,4 +34,13 @@ pub fn loops_have_one_outcome()
     a_cut_path_arrives();
     exact_records_are_one();
     explorations_have_one_ending();
+}
+
+/// Each loop that `loops` finds on a path which is marked satisfiable has a packet: the path's own, which goes round for ever.
+pub fn loops_of_packets_are_for_ever()
+    ensures { (hops limit : ℕ) (net : Network) (i : Entry) (detail : OpenPathsOf) (ending : EndingOf) (whole : List ℕ)
+        → (t : IsLoopsText hops limit net i detail ending whole)
+        → AreFound (GoesRound net i hops) 0 t.are.records t.found }
+{
+    a_cut_path_arrives();
 }
