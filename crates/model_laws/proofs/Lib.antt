@@ -9,4 +9,4 @@ pub mod ElementRuns
 pub mod FilterRuns
 pub mod Files
 pub mod Filled
-pub mod Hidden
+pub mod LeftOut

