@@ -11,7 +11,9 @@ module _ (is_out : ℕ → Bool) (test : Rule → Bool) where
   first_stays : (number : ℕ) (rs : List Rule) → ((rule : ℕ) → is_out rule ≡ true → position_from test number rs ≡ Some rule → ⊥)
       → find test (without_from is_out number rs) ≡ find test rs
   first_stays number [] hidden = refl
-  first_stays number (r ∷ rs) hidden = by (test r) refl (is_out number) refl
+  first_stays number (r ∷ rs) hidden =
+      by (test r) refl (is_out number) refl
+      (λ fails. first_stays (number + 1) rs (λ rule out at. hidden rule out (ap (λ b. cond b (Some number) (position_from test (number + 1) rs)) fails ∙ at)))
     where
       others : List Rule
       others = without_from is_out (number + 1) rs
@@ -19,15 +21,12 @@ module _ (is_out : ℕ → Bool) (test : Rule → Bool) where
       later : Option ℕ
       later = position_from test (number + 1) rs
 
-      behind : test r ≡ false → find test others ≡ find test rs
-      behind fails = first_stays (number + 1) rs (λ rule out at. hidden rule out (ap (λ b. cond b (Some number) later) fails ∙ at))
-
-      by : (b : Bool) → test r ≡ b → (o : Bool) → is_out number ≡ o
+      by : (b : Bool) → test r ≡ b → (o : Bool) → is_out number ≡ o → (test r ≡ false → find test others ≡ find test rs)
           → find test (if o then others else r ∷ others) ≡ cond b (Some r) (find test rs)
-      by true passes true out = absurd (hidden number out (ap (λ b. cond b (Some number) later) passes))
-      by true passes false stays = ap (λ b. cond b (Some r) (find test others)) passes
-      by false fails true out = behind fails
-      by false fails false stays = ap (λ b. cond b (Some r) (find test others)) fails ∙ behind fails
+      by true passes true out behind = absurd (hidden number out (ap (λ b. cond b (Some number) later) passes))
+      by true passes false stays behind = ap (λ b. cond b (Some r) (find test others)) passes
+      by false fails true out behind = behind fails
+      by false fails false stays behind = ap (λ b. cond b (Some r) (find test others)) fails ∙ behind fails
 
 pub hidden_rules_go : HiddenRulesMayGo
 hidden_rules_go = λ rules is_out hidden packet fits.
