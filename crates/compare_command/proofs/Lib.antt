@@ -1,2 +1,4 @@
 pub mod Wholes
 pub mod Once
+pub mod Cuts
+pub mod Beyond

@@ -1,5 +1,5 @@
 -- A comparison of two jobs has one outcome.
-use Rattle.std.proofs.Common.{◌≡◌, ◌∙◌, ◌⊎◌, ℕ, suc, inl, inr, List, [], ◌∷◌, ◌++◌, length, map, refl, sym, ap, subst}
+use Rattle.std.proofs.Common.{◌≡◌, ◌∙◌, ◌⊎◌, ℕ, suc, inl, inr, List, [], ◌∷◌, ◌++◌, filter, length, map, Bool, true, false, cond, Some, refl, sym, ap, subst}
 use Rattle.net_check.specs.Network.{Network, Entry}
 use Rattle.path_questions.specs.Formulas.{explored}
 use Rattle.exact_records.specs.Packets.{AreExactFor}
@@ -15,8 +15,8 @@ use Rattle.command_edge.specs.declared.ending.Ending.{Ending}
 use Rattle.command_edge.specs.declared.ending.Ending.TheVariants.{Done, Partial}
 use Rattle.command_edge.specs.declared.fault.OwnFault.TheVariants.{BadCompare}
 use Rattle.explore_command.specs.Explores.{IsEnding}
-use Rattle.compare_command.specs.Compares.{AreFoundFor, ComparesTo, EndsSo, IsLeftOut, IsNotCompared, IsTextOf, OfBoth}
-use Rattle.compare_command.specs.Texts.{compared_text}
+use Rattle.compare_command.specs.Compares.{AreFoundFor, ComparesTo, EndsSo, IsLeftOut, IsNotCompared, IsTextOf, OfBoth, cut_count, cuts_of, is_cut}
+use Rattle.compare_command.specs.Texts.{Cuts, compared_text}
 
 -- ---- delivered paths see no refutation
 
@@ -39,6 +39,40 @@ count_seen (x ∷ xs) = ap suc (count_seen xs)
 
 same_count : (xs ys : List RecordTree) → AreAlike xs ys → length xs ≡ length ys
 same_count xs ys alike = sym (count_seen xs) ∙ (ap length alike ∙ count_seen ys)
+
+-- ---- so does the number of paths that are cut
+
+cut_seen : (x : RecordTree) → is_cut (without_refutation x) ≡ is_cut x
+cut_seen (path ds places end' fields verdict) = refl
+cut_seen (pruned ds before refutation) = refl
+cut_seen (unexplored ds) = refl
+
+-- as many pass a test, where it says the same
+counted_by : {A B : Type 0} (a b : Bool) (x : A) (y : B) (xs : List A) (ys : List B) → a ≡ b → length xs ≡ length ys
+    → length (cond a (x ∷ xs) xs) ≡ length (cond b (y ∷ ys) ys)
+counted_by true true x y xs ys same rest = ap suc rest
+counted_by true false x y xs ys same rest = absurd (clash same)
+  where
+    clash : true ≡ false → ⊥
+    clash e = cc e
+counted_by false true x y xs ys same rest = absurd (clash same)
+  where
+    clash : false ≡ true → ⊥
+    clash e = cc e
+counted_by false false x y xs ys same rest = rest
+
+cuts_seen : (xs : List RecordTree) → cut_count (map without_refutation xs) ≡ cut_count xs
+cuts_seen [] = refl
+cuts_seen (x ∷ xs) =
+    counted_by (is_cut (without_refutation x)) (is_cut x) (without_refutation x) x (filter is_cut (map without_refutation xs)) (filter is_cut xs) (cut_seen x)
+    (cuts_seen xs)
+
+same_cuts : (xs ys : List RecordTree) → AreAlike xs ys → cut_count xs ≡ cut_count ys
+same_cuts xs ys alike = sym (cuts_seen xs) ∙ (ap cut_count alike ∙ cuts_seen ys)
+
+both_cuts : (counts : Bool) (ls ms rs qs : List RecordTree) → AreAlike ls ms → AreAlike rs qs → cuts_of counts ls rs ≡ cuts_of counts ms qs
+both_cuts true ls ms rs qs lefts rights = let left = same_cuts ls ms lefts in let right = same_cuts rs qs rights in λ j. Some (left j, right j)
+both_cuts false ls ms rs qs lefts rights = refl
 
 -- ---- two outcomes
 
@@ -87,17 +121,19 @@ module _ (alike : EndAlike) (records : (net : Network) (i : Entry) (hops : ℕ) 
     same_both : both_paths (half_of hops ln li h.lefts) (half_of hops rn ri h.rights) ≡ both_paths (half_of hops ln li k.lefts) (half_of hops rn ri k.rights)
     same_both = λ j. same_left j ++ behind j
 
-  one_text : (whole line : List ℕ) → Whole (IsTextOf hops limit ln li rn ri whole) → Whole (IsTextOf hops limit ln li rn ri line) → whole ≡ line
-  one_text whole line h k =
+  one_text : (counts : Bool) (whole line : List ℕ) → Whole (IsTextOf hops limit ln li rn ri counts whole) → Whole (IsTextOf hops limit ln li rn ri counts line)
+      → whole ≡ line
+  one_text counts whole line h k =
       let its : IsComparison (paths_of (half_of hops ln li h.lefts)) (paths_of (half_of hops rn ri h.rights)) k.fact.0 =
       subst (λ (ls : List DeliveredPath). IsComparison ls (paths_of (half_of hops rn ri h.rights)) k.fact.0) (sym (same_left h k))
       (subst (λ (rs : List DeliveredPath). IsComparison (paths_of (half_of hops ln li k.lefts)) rs k.fact.0) (sym (same_right h k)) k.fact.1.is) in
       let same = comparison (paths_of (half_of hops ln li h.lefts)) (paths_of (half_of hops rn ri h.rights)) h.fact.0 k.fact.0 h.fact.1.is its in
-      h.fact.2 ∙ (ap compared_text same ∙ sym k.fact.2)
+      let cuts : cuts_of counts h.lefts h.rights ≡ cuts_of counts k.lefts k.rights = both_cuts counts h.lefts k.lefts h.rights k.rights (lefts h k) (rights h k) in
+      h.fact.2 ∙ ((λ j. compared_text (cuts j) (same j)) ∙ sym k.fact.2)
 
-  text_or_not : (whole : List ℕ) (kind one other : ℕ) → Whole (IsTextOf hops limit ln li rn ri whole) → IsNotCompared hops limit ln li rn ri kind one other → ⊥
-  text_or_not whole kind one other h (inl k) = k.3 h.fact.1.own
-  text_or_not whole kind one other h (inr k) =
+  text_or_not : (counts : Bool) (whole : List ℕ) (kind one other : ℕ) → Whole (IsTextOf hops limit ln li rn ri counts whole) → IsNotCompared hops limit ln li rn ri kind one other → ⊥
+  text_or_not counts whole kind one other h (inl k) = k.3 h.fact.1.own
+  text_or_not counts whole kind one other h (inr k) =
       clash.not_none (both_paths (half_of hops ln li h.lefts) (half_of hops rn ri h.rights)) one other h.fact.1.fits
       (subst (λ (ps : List DeliveredPath). IsFirstClash ps one other) (sym (same_both h k.2)) k.2.fact)
 
@@ -119,17 +155,17 @@ module _ (alike : EndAlike) (records : (net : Network) (i : Entry) (hops : ℕ) 
       (subst (λ (ps : List DeliveredPath). IsFirstClash ps its another) (sym (same_both h.2 k.2)) k.2.fact) in
       same_refusal kind one other also its another (h.0 ∙ sym k.0) same.0 same.1
 
-  pub compared_once : (a b : Outcome) → ComparesTo hops limit ln li rn ri a → ComparesTo hops limit ln li rn ri b → a ≡ b
-  compared_once (text Done whole) (text Done line) h k = ap (text Done) (one_text whole line h k)
-  compared_once (text Done whole) (text Partial line) h k = absurd (not_left_out h k.0)
-  compared_once (text Done whole) (refused (BadCompare kind one other)) h k = absurd (text_or_not whole kind one other h k)
-  compared_once (text Done whole) (refused fault) h k = absurd k
-  compared_once (text Partial whole) (text Done line) h k = absurd (not_left_out k h.0)
-  compared_once (text Partial whole) (text Partial line) h k = ap (text Partial) (h.1 ∙ sym k.1)
-  compared_once (text Partial whole) (refused (BadCompare kind one other)) h k = absurd (partial_or_not kind one other h.0 k)
-  compared_once (text Partial whole) (refused fault) h k = absurd k
-  compared_once (refused (BadCompare kind one other)) (text Done line) h k = absurd (text_or_not line kind one other k h)
-  compared_once (refused (BadCompare kind one other)) (text Partial line) h k = absurd (partial_or_not kind one other k.0 h)
-  compared_once (refused (BadCompare kind one other)) (refused (BadCompare also its another)) h k = one_refusal kind one other also its another h k
-  compared_once (refused (BadCompare kind one other)) (refused fault) h k = absurd k
-  compared_once (refused fault) b h k = absurd h
+  pub compared_once : (counts : Bool) (a b : Outcome) → ComparesTo hops limit ln li rn ri counts a → ComparesTo hops limit ln li rn ri counts b → a ≡ b
+  compared_once counts (text Done whole) (text Done line) h k = ap (text Done) (one_text counts whole line h k)
+  compared_once counts (text Done whole) (text Partial line) h k = absurd (not_left_out h k.0)
+  compared_once counts (text Done whole) (refused (BadCompare kind one other)) h k = absurd (text_or_not counts whole kind one other h k)
+  compared_once counts (text Done whole) (refused fault) h k = absurd k
+  compared_once counts (text Partial whole) (text Done line) h k = absurd (not_left_out k h.0)
+  compared_once counts (text Partial whole) (text Partial line) h k = ap (text Partial) (h.1 ∙ sym k.1)
+  compared_once counts (text Partial whole) (refused (BadCompare kind one other)) h k = absurd (partial_or_not kind one other h.0 k)
+  compared_once counts (text Partial whole) (refused fault) h k = absurd k
+  compared_once counts (refused (BadCompare kind one other)) (text Done line) h k = absurd (text_or_not counts line kind one other k h)
+  compared_once counts (refused (BadCompare kind one other)) (text Partial line) h k = absurd (partial_or_not kind one other k.0 h)
+  compared_once counts (refused (BadCompare kind one other)) (refused (BadCompare also its another)) h k = one_refusal kind one other also its another h k
+  compared_once counts (refused (BadCompare kind one other)) (refused fault) h k = absurd k
+  compared_once counts (refused fault) b h k = absurd h

@@ -1,8 +1,12 @@
 -- What `compare` writes of two accepted jobs.
-use Rattle.std.specs.Prelude.{ℕ, ◌≡◌, ◌⊎◌, List, [], ◌∷◌}
+use Rattle.std.specs.Prelude.{ℕ, ◌≡◌, ◌⊎◌, Bool, true, false, List, [], ◌∷◌, filter, length, None, Some}
+use Rattle.sefl_meaning.specs.declared.walk.End.{End}
+use Rattle.sefl_meaning.specs.declared.walk.End.TheVariants.{Stopped, Delivered, Failed, Cut}
 use Rattle.net_check.specs.Network.{Network, Entry, with_choices}
+use Rattle.path_records.specs.declared.records.Record.{Record}
 use Rattle.exact_records.specs.Packets.{AreExactFor}
-use Rattle.exact_records.specs.Records.{RecordTree}
+use Rattle.exact_records.specs.View.{record_tree}
+use Rattle.exact_records.specs.Records.{RecordTree, path, pruned, unexplored}
 use Rattle.compare_meaning.specs.Clashes.{IsFirstClash, both_paths}
 use Rattle.compare_meaning.specs.Comparing.{Comparison}
 use Rattle.compare_meaning.specs.Paths.{Half}
@@ -16,13 +20,37 @@ use Rattle.command_edge.specs.declared.ending.Ending.TheVariants.{Done, Partial}
 use Rattle.command_edge.specs.declared.fault.OwnFault.{OwnFault}
 use Rattle.command_edge.specs.declared.fault.OwnFault.TheVariants.{BadCompare, NoMemory}
 use Rattle.explore_command.specs.Explores.{IsEnding}
-use Rattle.compare_command.specs.Texts.{compared_text, partial_text}
+use Rattle.compare_command.specs.Texts.{Cuts, compared_text, partial_text}
 
 -- 1: the injections differ; 2: two paths clash, by their numbers
 abbrev pub fault_of : CompareFault → OwnFault
 fault_of compared.OtherInjection = BadCompare 1 0 0
 fault_of (compared.Widths one other) = BadCompare 2 one other
 fault_of compared.NoMemory = NoMemory
+
+abbrev pub is_cut_end : End → Bool
+is_cut_end Cut = true
+is_cut_end Delivered = false
+is_cut_end Stopped = false
+is_cut_end (Failed failure site) = false
+
+-- the record is a path that is cut at the bound of hops
+abbrev pub is_cut : RecordTree → Bool
+is_cut (path ds places end' fields verdict) = is_cut_end end'
+is_cut (pruned ds before refutation) = false
+is_cut (unexplored ds) = false
+
+-- of what a record of the program stands for
+abbrev pub is_cut_path : Record → Bool
+is_cut_path x = is_cut (record_tree x)
+
+abbrev pub cut_count : List RecordTree → ℕ
+cut_count records = length (filter is_cut records)
+
+-- how many are cut of each of two lists, where they are counted
+abbrev pub cuts_of : Bool → List RecordTree → List RecordTree → Cuts
+cuts_of false ls rs = None
+cuts_of true ls rs = Some (cut_count ls, cut_count rs)
 
 module _ (hops limit : ℕ) where
   -- the records of an exploration are exact, and end so
@@ -43,9 +71,9 @@ module _ (hops limit : ℕ) where
       pub right : AreFoundFor rn ri Done rights
       pub fact : Fact (half_of hops ln li lefts) (half_of hops rn ri rights)
 
-    -- it is the text of an answer that is right
-    abbrev pub IsTextOf : List ℕ → Half → Half → Type 0
-    IsTextOf whole l r = (answer : Comparison) × IsAnswer hops l r answer × (whole ≡ compared_text answer)
+    -- it is the text of an answer that is right, with the numbers of paths that are cut where they are counted
+    abbrev pub IsTextOf : Bool → List ℕ → Half → Half → Type 0
+    IsTextOf counts whole l r = (answer : Comparison) × IsAnswer hops l r answer × (whole ≡ compared_text (cuts_of counts l.records r.records) answer)
 
     -- The injections are the same. The exploration of the left net leaves something out; or it leaves nothing out, and that of the
     -- right net does.
@@ -59,14 +87,14 @@ module _ (hops limit : ℕ) where
         ((kind ≡ 1) × (one ≡ 0) × (other ≡ 0) × (li.own ≡ ri.own → ⊥))
         ⊎ ((kind ≡ 2) × (li.own ≡ ri.own) × OfBoth (λ l r. IsFirstClash (both_paths l r) one other))
 
-    abbrev pub ComparesTo : Outcome → Type 0
-    ComparesTo (text Done whole) = OfBoth (IsTextOf whole)
-    ComparesTo (text Partial whole) = IsLeftOut × (whole ≡ partial_text)
-    ComparesTo (refused (BadCompare kind one other)) = IsNotCompared kind one other
-    ComparesTo (refused _) = ⊥
+    abbrev pub ComparesTo : Bool → Outcome → Type 0
+    ComparesTo counts (text Done whole) = OfBoth (IsTextOf counts whole)
+    ComparesTo counts (text Partial whole) = IsLeftOut × (whole ≡ partial_text)
+    ComparesTo counts (refused (BadCompare kind one other)) = IsNotCompared kind one other
+    ComparesTo counts (refused _) = ⊥
 
--- `compare` of two jobs, with this bound on choices of cases
-abbrev pub CompareComes : ℕ → ℕ → ℕ → List Given → Outcome → Type 0
-CompareComes most hops limit (a_net ln li lasks ∷ a_net rn ri rasks ∷ []) outcome =
-    ComparesTo hops limit ln (with_choices most li) rn (with_choices most ri) outcome
-CompareComes most hops limit _ outcome = ⊥
+-- `compare` of two jobs, with this bound on choices of cases; and whether paths that are cut are counted
+abbrev pub CompareComes : ℕ → ℕ → ℕ → Bool → List Given → Outcome → Type 0
+CompareComes most hops limit counts (a_net ln li lasks ∷ a_net rn ri rasks ∷ []) outcome =
+    ComparesTo hops limit ln (with_choices most li) rn (with_choices most ri) counts outcome
+CompareComes most hops limit counts _ outcome = ⊥

@@ -17,6 +17,8 @@ pub struct Compare<'a> {
     pub cases: u64,
     pub hops: u32,
     pub limit: RecordLimit,
+    /// Whether paths that are cut at the bound of hops are counted.
+    pub counts_cut: bool,
 }
 
 impl<'a> OnePiece for Compare<'a> {
@@ -24,7 +26,7 @@ impl<'a> OnePiece for Compare<'a> {
 
     ghost source = { λ c. c.source };
 
-    ghost comes = { λ c. CompareComes c.cases c.hops c.limit };
+    ghost comes = { λ c. CompareComes c.cases c.hops c.limit c.counts_cut };
 
     fn source(&self) -> &BothJobs<'a> {
         &self.source
@@ -36,6 +38,7 @@ impl<'a> OnePiece for Compare<'a> {
         let mut right = right;
         left.injection.set_choices(self.cases);
         right.injection.set_choices(self.cases);
-        text_of_comparison(alloc, &left, &right, self.hops, self.limit.count())
+        let limit = self.limit.count();
+        text_of_comparison(alloc, &left, &right, self.hops, limit, self.counts_cut)
     }
 }

@@ -1,6 +1,6 @@
 //! The comparison of two jobs.
 
-ghost use Rattle.std.specs.Prelude.{◌≡◌, ◌<◌, IfOk, IfErr, string_bytes};
+ghost use Rattle.std.specs.Prelude.{◌≡◌, ◌<◌, IfOk, IfErr, filter, length, string_bytes};
 ghost use Rattle.net_check.specs.Network.{entry, network};
 ghost use Rattle.net_check.specs.Sound.{AreOfOneJob};
 ghost use Rattle.exact_records.specs.View.{record_trees};
@@ -9,7 +9,7 @@ ghost use Rattle.net_compare.specs.Delivering.{AreStatesOf};
 ghost use Rattle.command_edge.specs.Puts.{text as a_text};
 ghost use Rattle.command_runs.specs.Runs.{IsRefusal};
 ghost use Rattle.explore_command.specs.Explores.{IsEnding};
-ghost use Rattle.compare_command.specs.Compares.{AreFoundFor, ComparesTo, fault_of};
+ghost use Rattle.compare_command.specs.Compares.{AreFoundFor, ComparesTo, cut_count, cuts_of, fault_of, is_cut_path};
 
 use crate::text::{compared_text, partial_text};
 use command_edge::{Ending, OwnFault};
@@ -17,6 +17,7 @@ use net_check::Accepted;
 use net_compare::{CompareFault, Explored, compare, explore};
 use path_records::Record;
 use same_injections::same_injection;
+use sefl_meaning::End;
 use sn_width::{NoMemory, Steps};
 use std::alloc::Global;
 use std::marker::Brand;
@@ -53,6 +54,36 @@ fn ending_of(records: &[Record]) -> Ending
     Ending::Done
 }
 
+/// Whether the record is a path that is cut at the bound of hops.
+fn is_cut(found: &Record) -> bool
+    ensures { result ≡ is_cut_path found.now }
+{
+    matches!(found, Record::Path { end: End::Cut, .. })
+}
+
+fn cut_paths(records: &[Record]) -> usize
+    ensures { result ≡ length (filter is_cut_path records.now) }
+{
+    records.iter().filter(|found| is_cut(found)).count()
+}
+
+/// How many are.
+fn cut_count(records: &[Record]) -> u64
+    ensures { result ≡ cut_count (record_trees records.now) }
+{
+    cut_paths(records) as u64
+}
+
+/// How many are of each of two lists, where they are to be counted.
+fn cuts_of(counts: bool, left: &[Record], right: &[Record]) -> Option<(u64, u64)>
+    ensures { result ≡ cuts_of counts (record_trees left.now) (record_trees right.now) }
+{
+    if !counts {
+        return None;
+    }
+    Some((cut_count(left), cut_count(right)))
+}
+
 /// One exploration of a job, and how it ended.
 fn explored_of<L: Ledger>(
     alloc: Global,
@@ -76,7 +107,7 @@ fn explored_of<L: Ledger>(
     Ok((ending_of(&found.records), found))
 }
 
-/// The text of the comparison of two jobs, with its ending; or why they are not compared. Nothing is explored where their injections
+/// The text of the comparison of two jobs, with its ending, and with the numbers of paths that are cut where they are to be counted; or why they are not compared. Nothing is explored where their injections
 /// differ, and of the second job nothing where something of the first is left out.
 pub(crate) fn text_of_comparison(
     alloc: Global,
@@ -84,14 +115,15 @@ pub(crate) fn text_of_comparison(
     right: &Accepted,
     hops: u32,
     limit: u32,
+    counts: bool,
 ) -> Result<(Ending, String), OwnFault>
     requires left { AreOfOneJob (network left.now.net) (entry left.now.injection) }
     requires right { AreOfOneJob (network right.now.net) (entry right.now.injection) }
     requires limit { 0 < limit }
     ensures text { IfOk result (λ t. ComparesTo hops limit (network left.now.net) (entry left.now.injection)
-        (network right.now.net) (entry right.now.injection) (a_text t.0 (string_bytes t.1))) }
+        (network right.now.net) (entry right.now.injection) counts (a_text t.0 (string_bytes t.1))) }
     ensures refused { IfErr result (IsRefusal (ComparesTo hops limit (network left.now.net) (entry left.now.injection)
-        (network right.now.net) (entry right.now.injection))) }
+        (network right.now.net) (entry right.now.injection) counts)) }
 {
     if !same_injection(&left.injection, &right.injection) {
         return Err(fault_of(CompareFault::OtherInjection));
@@ -105,7 +137,10 @@ pub(crate) fn text_of_comparison(
         return Ok((Ending::Partial, partial_text(alloc)?));
     }
     match compare(alloc, left, &lefts, right, &rights, hops) {
-        Ok(compared) => Ok((Ending::Done, compared_text(alloc, &compared)?)),
+        Ok(compared) => {
+            let cuts = cuts_of(counts, &lefts.records, &rights.records);
+            Ok((Ending::Done, compared_text(alloc, cuts, &compared)?))
+        }
         Err(fault) => Err(fault_of(fault)),
     }
 }

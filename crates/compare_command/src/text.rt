@@ -1,9 +1,11 @@
 //! The text of a comparison.
 
-ghost use Rattle.std.specs.Prelude.{◌≡◌, string_bytes, IfOk};
-ghost use Rattle.run_text.specs.Tokens.{Gains};
+ghost use Rattle.std.specs.Prelude.{◌≡◌, List, string_bytes, IfOk, OnOk};
+ghost use Rattle.json.specs.Token.{Token};
+ghost use Rattle.serde_json.specs.Data.{Members};
+ghost use Rattle.run_text.specs.Tokens.{EndsObject, Gains};
 ghost use Rattle.net_compare.specs.Saying.{compared_seen};
-ghost use Rattle.compare_command.specs.Texts.{compared_data, compared_text, other_data, partial_data, partial_text, side_of, unknown_data, word_data};
+ghost use Rattle.compare_command.specs.Texts.{compared_data, compared_text, other_data, partial_data, partial_text, side_of, unknown_data, with_cuts, word_data};
 
 use ask_command::write_counts;
 use net_compare::Compared;
@@ -15,14 +17,28 @@ use std::alloc::Global;
 /// The room that a text has at the start, in bytes.
 const ROOM: usize = 1024;
 
+/// How many paths of each job are cut at the bound of hops, where that is told.
+fn write_cuts(out: &mut JsonText, cuts: Option<(u64, u64)>) -> Result<(), NoMemory>
+    ensures { OnOk result ((members : Members) (end' : List Token) → EndsObject members out.new end'
+        → EndsObject (with_cuts cuts members) out.old end') }
+{
+    let Some((left, right)) = cuts else {
+        return Ok(());
+    };
+    objects_are_written();
+    out.key("cut")?;
+    write_counts(out, &[left, right])
+}
+
 /// An answer that is one word.
-fn write_word(out: &mut JsonText, word: &str) -> Result<(), NoMemory>
-    ensures { Gains (word_data word.now) result out.old out.new }
+fn write_word(out: &mut JsonText, cuts: Option<(u64, u64)>, word: &str) -> Result<(), NoMemory>
+    ensures { Gains (word_data cuts word.now) result out.old out.new }
 {
     objects_are_written();
     out.begin_object()?;
     out.key("answer")?;
     out.string(word)?;
+    write_cuts(out, cuts)?;
     out.key("symnet")?;
     out.count(1)?;
     out.end_object()?;
@@ -39,16 +55,18 @@ fn side_of(left: bool) -> &'static str
 fn write_other(
     alloc: Global,
     out: &mut JsonText,
+    cuts: Option<(u64, u64)>,
     left: bool,
     number: u64,
     values: &[Num],
 ) -> Result<(), NoMemory>
-    ensures { Gains (other_data left number values.now) result out.old out.new }
+    ensures { Gains (other_data cuts left number values.now) result out.old out.new }
 {
     objects_are_written();
     out.begin_object()?;
     out.key("answer")?;
     out.string("other")?;
+    write_cuts(out, cuts)?;
     out.key("number")?;
     out.count(number)?;
     out.key("side")?;
@@ -62,13 +80,19 @@ fn write_other(
 }
 
 /// For each side the numbers of the paths for which it is not known.
-fn write_unknown(out: &mut JsonText, left: &[u64], right: &[u64]) -> Result<(), NoMemory>
-    ensures { Gains (unknown_data left.now right.now) result out.old out.new }
+fn write_unknown(
+    out: &mut JsonText,
+    cuts: Option<(u64, u64)>,
+    left: &[u64],
+    right: &[u64],
+) -> Result<(), NoMemory>
+    ensures { Gains (unknown_data cuts left.now right.now) result out.old out.new }
 {
     objects_are_written();
     out.begin_object()?;
     out.key("answer")?;
     out.string("unknown")?;
+    write_cuts(out, cuts)?;
     out.key("left")?;
     write_counts(out, left)?;
     out.key("right")?;
@@ -79,27 +103,36 @@ fn write_unknown(out: &mut JsonText, left: &[u64], right: &[u64]) -> Result<(), 
     Ok(())
 }
 
-fn write_compared(alloc: Global, out: &mut JsonText, compared: &Compared) -> Result<(), NoMemory>
-    ensures { Gains (compared_data (compared_seen compared.now)) result out.old out.new }
+fn write_compared(
+    alloc: Global,
+    out: &mut JsonText,
+    cuts: Option<(u64, u64)>,
+    compared: &Compared,
+) -> Result<(), NoMemory>
+    ensures { Gains (compared_data cuts (compared_seen compared.now)) result out.old out.new }
 {
     match compared {
-        Compared::Same => write_word(out, "same"),
+        Compared::Same => write_word(out, cuts, "same"),
         Compared::Other {
             left,
             number,
             values,
-        } => write_other(alloc, out, *left, *number, values.as_slice()),
-        Compared::Unknown { left, right } => write_unknown(out, left, right),
+        } => write_other(alloc, out, cuts, *left, *number, values.as_slice()),
+        Compared::Unknown { left, right } => write_unknown(out, cuts, left, right),
     }
 }
 
 /// The answer as one line of JSON, keys ascending, with a line feed at its end.
 #[tactic(auto, unfolding(crate::specs::Texts::compared_text))]
-pub fn compared_text(alloc: Global, compared: &Compared) -> Result<String, NoMemory>
-    ensures { IfOk result (λ text. string_bytes text ≡ compared_text (compared_seen compared.now)) }
+pub fn compared_text(
+    alloc: Global,
+    cuts: Option<(u64, u64)>,
+    compared: &Compared,
+) -> Result<String, NoMemory>
+    ensures { IfOk result (λ text. string_bytes text ≡ compared_text cuts (compared_seen compared.now)) }
 {
     let mut out = JsonText::with_capacity(alloc, ROOM)?;
-    write_compared(alloc, &mut out, compared)?;
+    write_compared(alloc, &mut out, cuts, compared)?;
     let mut text = out.into_text();
     text.push('\n')?;
     Ok(text)
@@ -109,7 +142,7 @@ pub fn compared_text(alloc: Global, compared: &Compared) -> Result<String, NoMem
 fn write_partial(out: &mut JsonText) -> Result<(), NoMemory>
     ensures { Gains partial_data result out.old out.new }
 {
-    write_word(out, "partial")
+    write_word(out, None, "partial")
 }
 
 /// The line where something of a job is left out.

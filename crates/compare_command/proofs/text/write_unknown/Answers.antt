@@ -5,6 +5,7 @@ returns c =
     let written = c.objects_are_written.ensures in
     written.opened _ _ _ _ c.in_ok-begin_object.ensures
     (written.member _ _ _ _ _ _ _ c.in_ok-key.ensures c.in_ok-string.ensures
+    (c.in_ok-write_cuts.ensures _ _
     (written.member _ _ _ _ _ _ _ c.in_ok-key-2.ensures c.in_ok-write_counts.ensures
     (written.member _ _ _ _ _ _ _ c.in_ok-key-3.ensures c.in_ok-write_counts-2.ensures
-    (written.member _ _ _ _ _ _ _ c.in_ok-key-4.ensures c.in_ok-count.ensures (written.closed _ _ c.in_ok-end_object.ensures)))))
+    (written.member _ _ _ _ _ _ _ c.in_ok-key-4.ensures c.in_ok-count.ensures (written.closed _ _ c.in_ok-end_object.ensures))))))
