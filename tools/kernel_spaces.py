@@ -11,8 +11,9 @@ import os
 import shutil
 import subprocess
 import sys
+import time
 from pathlib import Path
-from typing import Dict, Iterator, List, Optional, Sequence
+from typing import Dict, Iterator, List, Sequence
 
 from kernel_plan import STRANGER, Abilities, Box, End, Plan
 
@@ -22,6 +23,8 @@ OUTSIDE = "outside"
 MARK = "SYMNET_KERNEL_TEST"
 _NEW_NETWORK = 0x40000000
 _NAMES = Path("/run/netns")
+# How many seconds the kernel may take to notice that wires are up.
+SETTLED = 20
 
 
 class Failed(Exception):
@@ -163,6 +166,29 @@ def _box(box: Box) -> None:
         run(["iptables-restore"], box.iptables) if box.iptables else None
 
 
+def _is_settled(plan: Plan) -> bool:
+    """Whether the kernel has noticed of each wire whether both of its ends are up, and bridges forward."""
+    peers = {one: plan.interface(other).is_up for link in plan.links for one, other in (link, link[::-1])}
+    peers.update({it.at: it.is_up for it in plan.hosts})
+    for box in plan.boxes.values():
+        states = {it["ifname"]: it.get("operstate") for it in json.loads(run(["ip", "-n", box.name, "-j", "link"]))}
+        for it in box.interfaces.values():
+            if it.has_wire and it.is_up and (states[it.name] == "UP") != peers.get((box.name, it.name), True):
+                return False
+        if any(it.is_bridge for it in box.interfaces.values()):
+            if any(it["state"] != "forwarding" for it in json.loads(run(["bridge", "-n", box.name, "-j", "link"]))):
+                return False
+    return True
+
+
+def _settle(plan: Plan) -> None:
+    end = time.monotonic() + SETTLED
+    while not _is_settled(plan):
+        if time.monotonic() > end:
+            raise Failed(f"after {SETTLED} seconds not all wires of seed {plan.seed} are up")
+        time.sleep(0.05)
+
+
 @contextlib.contextmanager
 def network(plan: Plan) -> Iterator[None]:
     """The network of a plan, for as long as it is looked at."""
@@ -175,6 +201,7 @@ def network(plan: Plan) -> Iterator[None]:
         run(["ip", "-n", OUTSIDE, "-batch", "-"], "".join(f"link set {it} up\n" for it in _outside(plan).values() if it not in down))
         for box in plan.boxes.values():
             _box(box)
+        _settle(plan)
         yield
     finally:
         for name in (OUTSIDE, *plan.boxes):

@@ -26,7 +26,7 @@ import build_unproved
 import kernel_spaces
 from checkout import PROGRAM, TOP, is_current
 from kernel_filters import add_filters
-from kernel_packets import End, PacketDrawer, Sent, Wire, without_frame
+from kernel_packets import End, PacketDrawer, Sent, Wire, as_number, without_frame
 from kernel_plan import KINDS, STRANGER, Abilities, Plan, draw
 
 sys.path.insert(0, str(TOP / "python"))
@@ -39,7 +39,7 @@ WHO = "kernel_test"
 AT_ONCE, QUIET, LONG = 32, 0.03, 0.5
 # The most hops of a walk, and a time to live that ends a walk through a loop before.
 HOPS, SHORT_TTL = 256, 16
-ZERO, GROUP = 0, 1 << 40
+GROUP = 1 << 40
 
 
 class Asked(NamedTuple):
@@ -68,6 +68,11 @@ def program() -> Optional[Path]:
     return next((it for it in places if it.is_file()), None)
 
 
+def is_no_station(mac: int) -> bool:
+    """Whether an address of Ethernet is one that no station sends from."""
+    return mac == 0 or bool(mac & GROUP)
+
+
 # ---------------------------------------------------------------- the job
 
 
@@ -88,7 +93,7 @@ class Job:
     def values(self, sent: Sent) -> List[int]:
         """The numbers of a packet; a stranger's address is that of each neighbor whose address the job leaves open."""
         given = [sent.host if it == "global host:16" else sent.packet[FIELDS[it]] for it in self.fields]
-        return given + [int(STRANGER.replace(":", ""), 16)] * HOPS
+        return given + [as_number(STRANGER)] * HOPS
 
     def walk(self, sent: Sent) -> "symnet.Report":
         return symnet.walk(self.text, self.values(sent), files=self.made.files, hops=HOPS)
@@ -101,7 +106,12 @@ class Job:
     def sent(self, values: Sequence[int]) -> Sent:
         found = dict(zip(self.fields, values))
         fields = {FIELDS[it]: value for it, value in found.items() if it in FIELDS}
-        return Sent(found.get("global host:16", 0), {**fields, **({"Ethernet type": 0x0800} if self.has_frames else {})})
+        host = found.get("global host:16", 0)
+        if self.has_frames:
+            fields["Ethernet type"] = 0x0800
+            if is_no_station(fields["Ethernet source"]):
+                fields["Ethernet source"] = as_number(self.plan.hosts[host].mac)
+        return Sent(host, fields)
 
     def ways(self, report: "symnet.Report") -> "Set[FrozenSet[End]]":
         """Where a packet may end: for each way that boxes may choose among hops of equal cost, the places that it comes to."""
@@ -137,7 +147,7 @@ class Job:
     def is_documented(self, sent: Sent, report: "symnet.Report") -> bool:
         """Whether docs/import.md says of a packet that the job differs ("What the job does not say")."""
         source, destination = sent.packet["source address"], sent.packet["destination address"]
-        return source == destination == 0 or any(self.turns_back(it, source) for it in report.paths)
+        return source == destination == 0 or is_no_station(sent.packet.get("Ethernet source", 1)) or any(self.turns_back(it, source) for it in report.paths)
 
 
 # ---------------------------------------------------------------- one network
