@@ -11,7 +11,7 @@ import time
 from dataclasses import dataclass, field
 from typing import Dict, List, NamedTuple, Sequence, Set, Tuple
 
-from kernel_plan import STRANGER, Plan, Values
+from kernel_plan import STRANGER, Plan
 from kernel_spaces import OUTSIDE, ends_outside, inside
 
 Packet = Dict[str, int]
@@ -37,11 +37,11 @@ class Sent(NamedTuple):
 class PacketDrawer:
     """Draws packets at the borders of the values that a plan names."""
 
-    def __init__(self, plan: Plan, has_frames: bool, has_vlans: bool):
+    def __init__(self, plan: Plan, has_frames: bool):
         self.drawn, self.plan = random.Random(f"{plan.seed} packets"), plan
         self.has_frames = has_frames
         values = plan.values
-        self.addresses = sorted(values.addresses | {0x7F000001, 0xE0000005, 0xFFFFFFFF, 1, 0xF0000001})
+        self.addresses = sorted(values.addresses | {0x7F000001, 0xE0000001, 0xE0000005, 0xFFFFFFFF, 1, 0xF0000001})
         self.ports = sorted(values.ports | {0, 1, 65535, 0x0800})
         self.protocols = sorted(values.protocols | {255})
         self.ttls = sorted(values.ttls | {0, 1, 2, 3})
@@ -49,7 +49,7 @@ class PacketDrawer:
         faces = [it for box in plan.boxes.values() for it in box.interfaces.values()]
         stations = [it.mac for it in plan.hosts] + [it.mac for it in faces]
         self.macs = [as_number(it) for it in [*stations, STRANGER, "ff:ff:ff:ff:ff:ff", "01:00:5e:00:00:05", *(f"01:80:c2:00:00:0{it}" for it in "012ef")]]
-        self.vlans = sorted({it.vlan for it in faces if it.vlan} | {int(words.split()[0]) for it in faces for words in it.vlans} | {1, 4094}) if has_vlans else [0]
+        self.vlans = sorted({it.vlan for it in faces if it.vlan} | {int(words.split()[0]) for it in faces for words in it.vlans} | {1, 4094})
         self.hosts = [number for number, it in enumerate(plan.hosts) if it.is_up]
 
     def often(self, part: float, likely: Sequence[int], others: Sequence[int]) -> int:

@@ -38,6 +38,8 @@ class Interface:
     vlan: int = 0
     bridge: str = ""
     is_bridge: bool = False
+    # of a bridge, the reserved addresses that it forwards, as bits
+    forwarded: int = 0
     # of a port of a bridge that looks at VLANs, the words of `bridge vlan add`
     vlans: List[str] = field(default_factory=list)
     # of a port of a bridge, or of the bridge itself, the words of `bridge fdb add` for each station
@@ -228,7 +230,7 @@ class _Drawer:
 
     def bridge(self, box: Box, has_vlans: bool = False) -> Interface:
         box.has_vlans = has_vlans
-        made = box.interfaces["br0"] = Interface("br0", self.mac(), is_bridge=True)
+        made = box.interfaces["br0"] = Interface("br0", self.mac(), is_bridge=True, forwarded=self.drawn.choice((0, 0, 1 << 14, 0xFFF8)))
         return made
 
     def port(self, box: Box, vlans: Tuple[str, ...] = ()) -> Interface:

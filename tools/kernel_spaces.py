@@ -20,7 +20,7 @@ from kernel_plan import STRANGER, Abilities, Box, End, Plan
 # The namespace of hosts, and of what lies behind interfaces that lead out.
 OUTSIDE = "outside"
 # What the process is told by that it is in namespaces of its own already.
-MARK = "SYMNET_KERNEL_TEST"
+_MARK = "SYMNET_KERNEL_TEST"
 _NEW_NETWORK = 0x40000000
 _NAMES = Path("/run/netns")
 # How many seconds the kernel may take to notice that wires are up.
@@ -59,12 +59,17 @@ def _apart() -> List[str]:
     return ["unshare", "--net", "--mount", *([] if os.geteuid() == 0 else ["--user", "--map-root-user"])]
 
 
+def is_apart() -> bool:
+    """Whether this process is in namespaces of its own already."""
+    return os.environ.get(_MARK) == str(os.getpid())
+
+
 def isolate(words: Sequence[str]) -> None:
     """Begins this script anew in namespaces of its own, where it is not in them yet."""
-    if os.environ.get(MARK) == str(os.getpid()):
+    if is_apart():
         run(["mount", "-t", "tmpfs", "none", "/run"])
         return
-    os.environ[MARK] = str(os.getpid())
+    os.environ[_MARK] = str(os.getpid())
     os.execvp("unshare", [*_apart(), sys.executable, *words])
 
 
@@ -145,7 +150,7 @@ def _box(box: Box) -> None:
     lines, bridge = ["link set lo up"], []
     for it in box.interfaces.values():
         if it.is_bridge:
-            lines.append(f"link add {it.name} address {it.mac} type bridge stp_state 0 mcast_snooping 0{' vlan_filtering 1 vlan_default_pvid 0' if box.has_vlans else ''}")
+            lines.append(f"link add {it.name} address {it.mac} type bridge stp_state 0 mcast_snooping 0 group_fwd_mask {it.forwarded}{' vlan_filtering 1 vlan_default_pvid 0' if box.has_vlans else ''}")
     for it in box.interfaces.values():
         if it.below:
             lines.append(f"link add link {it.below} name {it.name} type vlan id {it.vlan}")
@@ -248,10 +253,10 @@ def _prints(box: Box) -> Dict[str, List[str]]:
 
 def write_outputs(plan: Plan, folder: Path) -> None:
     """Writes the folder that `symnet import` reads."""
-    folder.mkdir(parents=True)
+    folder.mkdir(parents=True, exist_ok=True)
     (folder / "topology").write_text(plan.topology)
     for box in plan.boxes.values():
-        (folder / box.name).mkdir()
+        (folder / box.name).mkdir(exist_ok=True)
         with inside(box.name):
             for name, words in _prints(box).items():
                 (folder / box.name / name).write_text(run(words))

@@ -1,11 +1,11 @@
 #!/usr/bin/env python3
 """Compares the program with the Linux kernel: networks are drawn and set up in network namespaces, `symnet import` makes jobs of what their boxes print, and packets are
-sent into the kernel and walked through the jobs. Each has to end at the same places with the same headers.
+sent into the kernel and walked through the jobs. Each has to end at the same places with the same headers, except as docs/import.md says ("What the job does not say").
 
     tools/kernel_test.py [--seeds A..B] [--packets N] [--keep FOLDER]
 
---seeds: the networks that are drawn, one of each seed (0..9 where it is not given); --packets: how many packets each is sent; --keep: writes there what the boxes print, and
-the jobs. The program is the one that SYMNET names, else the proved one of the checkout, else the one that tools/build_unproved.py made of these sources. What the machine has
+--seeds: the networks that are drawn, one of each seed (0..9 where it is not given); --packets: how many packets each is sent (100); --keep: writes there what the boxes print,
+and the jobs. The program is the one that SYMNET names, else the proved one of the checkout, else the one that tools/build_unproved.py made of these sources. What the machine has
 not is left out, and a line says so. Nothing of the machine's own network is used or changed.
 """
 
@@ -13,6 +13,7 @@ import itertools
 import json
 import os
 import re
+import signal
 import sys
 import tempfile
 import warnings
@@ -20,14 +21,14 @@ from collections import Counter
 from concurrent.futures import ThreadPoolExecutor
 from ipaddress import IPv4Address
 from pathlib import Path
-from typing import Any, Dict, FrozenSet, Iterator, List, NamedTuple, Optional, Sequence, Set, Tuple
+from typing import Dict, FrozenSet, Iterator, List, NamedTuple, Optional, Sequence, Set, Tuple
 
 import build_unproved
 import kernel_spaces
 from checkout import PROGRAM, TOP, is_current
 from kernel_filters import add_filters
 from kernel_packets import End, PacketDrawer, Sent, Wire, as_number, without_frame
-from kernel_plan import KINDS, STRANGER, Abilities, Plan, draw
+from kernel_plan import STRANGER, Abilities, Plan, draw
 
 sys.path.insert(0, str(TOP / "python"))
 import symnet  # noqa: E402
@@ -39,7 +40,7 @@ WHO = "kernel_test"
 AT_ONCE, QUIET, LONG = 32, 0.03, 0.5
 # The most hops of a walk, and a time to live that ends a walk through a loop before.
 HOPS, SHORT_TTL = 256, 16
-GROUP = 1 << 40
+GROUP, ALL_SYSTEMS = 1 << 40, 0xE0000001
 
 
 class Asked(NamedTuple):
@@ -50,7 +51,7 @@ class Asked(NamedTuple):
 
 def read_words(words: List[str]) -> Optional[Asked]:
     """What is asked for; None where the words have no reading."""
-    found = {"--seeds": "0..9", "--packets": "150", "--keep": ""}
+    found = {"--seeds": "0..9", "--packets": "100", "--keep": ""}
     if len(words) % 2 or not set(words[::2]) <= set(found):
         return None
     found.update(zip(words[::2], words[1::2]))
@@ -161,9 +162,9 @@ class Compared(NamedTuple):
     differences: List[str]
 
 
-def drawn_packets(job: Job, plan: Plan, able: Abilities, count: int) -> List[Sent]:
+def drawn_packets(job: Job, plan: Plan, count: int) -> List[Sent]:
     """A third from the program's report, and the others drawn."""
-    drawer = PacketDrawer(plan, job.has_frames, able.vlans)
+    drawer = PacketDrawer(plan, job.has_frames)
     up = {number for number, it in enumerate(plan.hosts) if it.is_up}
     found = [it for it in job.examples(count // 3) if it.host in up and it.packet["protocol"]]
     found += [drawer.random() for _ in range(count // 10)]
@@ -180,8 +181,8 @@ def walked(job: Job, sent: Sent) -> "Tuple[Sent, symnet.Report, bool]":
 
 
 def is_wanted(found: "Set[End]", ways: "Set[FrozenSet[End]]", sent: Sent) -> bool:
-    """Whether a packet came where it should. A frame to a group with a packet for the router itself is dropped by the job alone."""
-    if sent.packet.get("Ethernet destination", 0) & GROUP:
+    """Whether a packet came where it should. What a router takes for itself of frames to groups, and of packets for groups that it has joined, the job drops."""
+    if sent.packet.get("Ethernet destination", 0) & GROUP or sent.packet["destination address"] == ALL_SYSTEMS:
         found = {it for it in found if it[0] != "itself"}
     return frozenset(found) in ways
 
@@ -212,13 +213,13 @@ def told(packet: Dict[str, int]) -> str:
     return "[" + " ".join(f"{name.replace(' ', '-')}={value(name, number)}" for name, number in packet.items() if name != "Ethernet type") + "]"
 
 
-def compare(plan: Plan, able: Abilities, count: int, folder: Path) -> Compared:
+def compare(plan: Plan, count: int, folder: Path) -> Compared:
     """Sends packets into a network, and walks them through its job."""
     with kernel_spaces.network(plan):
         kernel_spaces.write_outputs(plan, folder)
         job = Job(folder, plan)
         job.made.save(f"{folder}-job")
-        packets = drawn_packets(job, plan, able, count)
+        packets = drawn_packets(job, plan, count)
         with ThreadPoolExecutor(os.cpu_count()) as pool:
             walks = list(pool.map(lambda it: walked(job, it), packets))
         known = [it for it in walks if not job.is_documented(it[0], it[1])]
@@ -257,7 +258,10 @@ def run_all(asked: Asked, able: Abilities, room: Path) -> bool:
         if plan is None:
             continue
         add_filters(plan, able)
-        found = compare(plan, able, asked.packets, room / f"{plan.kind}-{seed}")
+        try:
+            found = compare(plan, asked.packets, room / f"{plan.kind}-{seed}")
+        except (kernel_spaces.Failed, importing.Refused, symnet.Refusal) as fault:
+            found = Compared(0, 0, 0, 0, [f"seed {seed} ({plan.kind}): {fault}"])
         totals.update({"networks": 1, "packets": found.packets, "arrived": found.arrived, "loops": found.loops, "left out": found.left_out, "differences": len(found.differences)})
         for it in found.differences:
             print(f"{WHO}: {it}", flush=True)
@@ -271,7 +275,7 @@ def main(words: List[str]) -> int:
     if asked is None:
         print(__doc__, end="", file=sys.stderr)
         return 2
-    reason = "" if os.environ.get(kernel_spaces.MARK) else kernel_spaces.why_not()
+    reason = "" if kernel_spaces.is_apart() else kernel_spaces.why_not()
     found = program()
     if not reason and found is None:
         reason = "no program is built of these sources"
@@ -281,6 +285,8 @@ def main(words: List[str]) -> int:
     os.environ["SYMNET"] = str(found)
     os.environ.pop("SYMNET_LIBRARY", None)
     kernel_spaces.isolate([__file__, *words])
+    for it in (signal.SIGTERM, signal.SIGHUP):
+        signal.signal(it, lambda number, _: sys.exit(128 + number))
     warnings.simplefilter("ignore")
     with tempfile.TemporaryDirectory(prefix="symnet-") as room:
         if asked.keep:
