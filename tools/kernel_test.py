@@ -116,15 +116,16 @@ class Job:
 
     def ways(self, report: "symnet.Report") -> "Set[FrozenSet[End]]":
         """Where a packet may end: for each way that boxes may choose among hops of equal cost, the places that it comes to."""
-        ends = [(ended(path, self.map, self.has_frames), dict(self.choices(path.places))) for path in report.paths]
+        ends = [(ended(path, self.map, self.has_frames), set(self.choices(path.places))) for path in report.paths]
         nodes: Dict[str, Set[str]] = {}
         for _, chosen in ends:
-            for node, port in chosen.items():
+            for node, port in chosen:
                 nodes.setdefault(node, set()).add(port)
         found = set()
         for ports in itertools.product(*map(sorted, nodes.values())):
-            one = dict(zip(nodes, ports))
-            found.add(frozenset(without_frame(end) for end, chosen in ends if end and all(one[node] == port for node, port in chosen.items())))
+            # a box takes the same hop for a packet each time that it comes by
+            one = set(zip(nodes, ports))
+            found.add(frozenset(without_frame(end) for end, chosen in ends if end and chosen <= one))
         return found
 
     @staticmethod
@@ -172,10 +173,14 @@ def drawn_packets(job: Job, plan: Plan, count: int) -> List[Sent]:
 
 
 def walked(job: Job, sent: Sent) -> "Tuple[Sent, symnet.Report, bool]":
-    """The walks of a packet. One that goes round for longer than a walk may be gets a short time to live."""
-    report = job.walk(sent)
-    if not any(it.end == "cut" for it in report.paths):
-        return sent, report, False
+    """The walks of a packet. One that goes round for longer than a walk may be, or in too many ways, gets a short time to live."""
+    try:
+        report = job.walk(sent)
+        if not any(it.end == "cut" for it in report.paths):
+            return sent, report, False
+    except symnet.Refusal as fault:
+        if not fault.text.startswith("symnet: too many walks"):
+            raise
     short = Sent(sent.host, {**sent.packet, "TTL": sent.packet["TTL"] % SHORT_TTL})
     return short, job.walk(short), True
 
