@@ -9,14 +9,14 @@ import socket
 import struct
 import time
 from dataclasses import dataclass, field
-from typing import Dict, List, NamedTuple, Sequence, Set, Tuple
+from typing import Dict, NamedTuple, Sequence, Set, Tuple
 
 from kernel_plan import STRANGER, Plan
 from kernel_spaces import OUTSIDE, ends_outside, inside
 
 Packet = Dict[str, int]
 End = Tuple[str, str, Tuple[Tuple[str, int], ...]]
-IPV4, TAGGED = 0x0800, 0x8100
+IPV4, TAGGED, UDP = 0x0800, 0x8100, 17
 ETHERNET = ("VLAN", "Ethernet destination", "Ethernet source", "Ethernet type")
 # Behind 20 bytes of a header of ports stand these and the number of the packet; what answers a packet of ours has them further behind.
 _MARK = b"symnet"
@@ -101,8 +101,9 @@ def _sum(data: bytes) -> int:
 
 def _ip(packet: Packet, number: int) -> bytes:
     """The packet of IPv4. Behind the ports stands what a packet of TCP or UDP would have."""
-    behind = struct.pack("!HH", 24 + len(_MARK), 0) + bytes(4) + b"\x50\x10\xff\xff" + bytes(4) if packet["protocol"] == 17 else bytes(8) + b"\x50\x10\xff\xff" + bytes(4)
-    rest = struct.pack("!HH", packet["source port"], packet["destination port"]) + behind + _MARK + struct.pack("!I", number)
+    length = struct.pack("!HHI", 24 + len(_MARK), 0, 0) if packet["protocol"] == UDP else bytes(8)
+    ports = struct.pack("!HH", packet["source port"], packet["destination port"])
+    rest = ports + length + b"\x50\x10\xff\xff" + bytes(4) + _MARK + struct.pack("!I", number)
 
     def header(checksum: int) -> bytes:
         return struct.pack("!BBHHHBBHII", 0x45, 0, 20 + len(rest), number & 0xFFFF, 0, packet["TTL"], packet["protocol"], checksum, packet["source address"], packet["destination address"])
