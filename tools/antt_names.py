@@ -218,7 +218,9 @@ class Reader:
     def literal(self, items: Sequence[Token], at: int, scope: Scope) -> int:
         """A record's value or type behind the word `record`; a value may begin with another record that it changes."""
         if items[at].text == "(":
-            at, scope = self.group(items, at, scope)
+            at, _ = self.group(items, at, scope)
+            while items[at].text == ".":
+                at += 2
         elif items[at].is_name:
             path, after = path_at(items, at)
             self.use(path, items[at].line, scope)

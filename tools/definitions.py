@@ -13,7 +13,10 @@ from checkout import TOP
 from rust_items import Function, Item, RustFile, Term, read_rust, types_in
 
 # Constructors of the kit's libraries whose names begin with a small letter or a sign.
-OUTSIDE_CONSTRUCTORS = frozenset("zero suc pos negsuc true false [] ◌∷◌ less equal greater inl inr".split())
+OUTSIDE_CONSTRUCTORS = {
+    "std": frozenset("zero suc pos negsuc true false [] ◌∷◌ Some None Ok Err".split()),
+    "serde_json": frozenset("null boolean number unsigned negative float string array no_items item object no_members member".split()),
+}
 # Types of the code that are the library's, in every file.
 OUTSIDE_TYPES = frozenset("Vec String Option Result Box Self Some None Ok Err Drop Copy Clone Fn FnMut FnOnce Iterator Send Sync Sized Ord Eq PartialEq".split())
 
@@ -165,7 +168,7 @@ class Project:
             return Meaning(Outside(path[0], ".".join(path[1:]), name))
         crate, rest = path[1], tuple(path[2:])
         if crate not in self.crates:
-            is_constructor = name in OUTSIDE_CONSTRUCTORS or name[0].isupper() and "Variants" in "".join(rest) or name in ("Some", "None", "Ok", "Err")
+            is_constructor = name in OUTSIDE_CONSTRUCTORS.get(crate, ()) or rest[-1:] == ("TheVariants",)
             return Meaning(Outside(crate, ".".join(rest), name), is_constructor)
         if rest[:2] == ("specs", "declared"):
             return self.declared(crate, rest[2:], name)

@@ -284,7 +284,7 @@ def bounds_of(text: str) -> Dict[str, List[str]]:
     """The type parameters that a signature names, with the traits that they keep."""
     made: Dict[str, List[str]] = {}
     for name, said in re.findall(r"(?<!:)\b([A-Z]\w*)\s*:(?!:)\s*([^,>{(=<]*)", text):
-        made.setdefault(name, []).extend(re.findall(r"[A-Z]\w*", said))
+        made.setdefault(name, []).extend(re.findall(r"(?:\w+::)*[A-Z]\w*", said))
     for name in generics_of(text.lstrip(), 0):
         made.setdefault(name, [])
     return made
