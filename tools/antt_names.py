@@ -13,7 +13,7 @@ TOKEN = re.compile(r'"(?:[^"\\]|\\.)*"|«[^»]*»|[(){}.;,@]|[^\s(){}.;,@"«»]+
 # Words and signs that are no names of definitions.
 KEYWORDS = frozenset("→ × ↦ = | : [ ] λ Type elim let in as record ∀ do _".split())
 # What antt's prelude has, which needs no import.
-BUILT_IN = frozenset("tt Unit absurd ⊥ ¬ ↔ Path Id refl".split())
+BUILT_IN = frozenset("tt Unit absurd ⊥ ¬ ↔ Path Id refl Prim".split())
 # The end of a line behind which a block begins.
 HEAD_END = re.compile(r"(?:^|\s)(?:where|mutual)\s*$")
 CLOSERS = {"(": ")", "{": "}", "[": "]"}

@@ -446,11 +446,13 @@ def public_clauses(project: Project) -> Iterator[Tuple[Clause, List[object]]]:
         for file in project.code_files(crate):
             code = project.code(file)
             yield from project.clauses(file, lambda it, file=file: (it.is_public or bool(it.of_trait)) and is_exported(project, file, it.owner or it.name))
-            for owner, terms, uses in code.members:
+            for it in code.items.values():
+                if it.kind == "trait" and is_exported(project, file, it.name):
+                    yield Clause(file, it.name, it.name, "", it.line), list(project.used_by(project.node(file, it.name)))
+            for owner, terms, uses, generics in code.members:
                 if is_exported(project, file, owner):
                     for term in terms:
-                        scope = frozenset(it for other in code.functions if other.owner == owner for it in other.bounds) | {"Self"}
-                        yield Clause(file, owner, owner, term.label, term.line), list(project.used_by_term(code, term, scope, uses))
+                        yield Clause(file, owner, owner, term.label, term.line), list(project.used_by_term(code, term, frozenset(generics) | {"Self"}, uses))
 
 
 def aliases(project: Project) -> Iterator[Tuple[Node, str]]:

@@ -170,6 +170,9 @@ class Project:
         if crate not in self.crates:
             is_constructor = name in OUTSIDE_CONSTRUCTORS.get(crate, ()) or rest[-1:] == ("TheVariants",)
             return Meaning(Outside(crate, ".".join(rest), name), is_constructor)
+        if rest[:2] == ("specs", "contracts"):
+            # what the prover made of the contract of a function
+            return Meaning(Outside(crate, ".".join(rest), name))
         if rest[:2] == ("specs", "declared"):
             return self.declared(crate, rest[2:], name)
         file = f"{crate}/specs/{'/'.join(rest[1:])}.antt"
@@ -286,7 +289,7 @@ class Project:
         if item.kind == "trait":
             members = frozenset(it.label for it in item.terms)
             for term in item.terms:
-                yield from self.used_by_term(file, term, members | {"Self"}, self.trait_uses(file, node.name))
+                yield from self.used_by_term(file, term, members | {"Self"} | frozenset(item.generics), file.trait_uses[node.name])
             for function in file.functions:
                 if function.owner == node.name:
                     for clause in function.clauses:
@@ -300,10 +303,6 @@ class Project:
                 found = self.rust_type(file, path, item)
                 if found is not None:
                     yield found
-
-    @staticmethod
-    def trait_uses(file: RustFile, trait: str) -> List[str]:
-        return next((it.ghost_uses for it in file.functions if it.owner == trait), [])
 
     # ---- names of code
 

@@ -108,8 +108,10 @@ class RustFile:
     # the view of a type: its value, as clauses see it, and the imports of that
     models: Dict[str, Tuple[List[Term], List[str]]] = field(default_factory=dict)
     functions: List[Function] = field(default_factory=list)
-    # the ghost members that impls of traits give, with their imports
-    members: List[Tuple[str, List[Term], List[str]]] = field(default_factory=list)
+    # the imports of a trait's members
+    trait_uses: Dict[str, List[str]] = field(default_factory=dict)
+    # the ghost members that impls of traits give, with their imports and the type parameters
+    members: List[Tuple[str, List[Term], List[str], List[str]]] = field(default_factory=list)
     ghost_uses: List[str] = field(default_factory=list)
 
 
@@ -174,6 +176,8 @@ class RustReader:
             if not any(start < it.start() < end for start, end, *_ in blocks) and not it[1]:
                 self.item(it)
         traits = [(start, end, it.name) for it, start, end in self.spans if it.kind == "trait"]
+        for start, end, name in traits:
+            made.trait_uses[name] = [it[1] for it in GHOST_USE.finditer(self.terms, start, end)]
         for start, end, head, inside in blocks:
             self.impl_block(start, end, head, inside)
         inner = [*((start, end) for start, end, *_ in blocks), *((start, end) for start, end, _ in traits)]
@@ -221,7 +225,7 @@ class RustReader:
             return
         if without_generics(of).strip() == "Model":
             self.made.models[name[1]] = ([it for it in found if it.label == "Value"], uses)
-        self.made.members.append((name[1], found, uses))
+        self.made.members.append((name[1], found, uses, list(bounds_of(head))))
 
     def function(self, it: "re.Match[str]", blocks: List[Tuple[int, int, str, int]], traits: List[Tuple[int, int, str]]) -> None:
         at = it.end()
@@ -249,7 +253,7 @@ class RustReader:
         for start, end, name in traits:
             if start < it.start() < end:
                 owner = of_trait = name
-                uses = [use[1] for use in GHOST_USE.finditer(self.terms, start, end)]
+                uses = self.made.trait_uses[name]
         first = self.line_at(it.start())
         names = re.findall(r"(?:\bmut )?\b([a-z_]\w*)\s*:(?!:)", signature)
         self.made.functions.append(Function(it[3], first, doc_of(self.lines, first - 1), it[2] == "pub ", owner, of_trait, bounds, names, signature, clauses, uses,
