@@ -472,10 +472,10 @@ def alias_of(items: List[str]) -> str:
     at = items.index("=")
     given, body = items[1:at], items[at + 1 :]
     head = len(body) - len(given)
+    said = " ".join(body[: max(head, 0)])
     if head < 1 or body[head:] != given or any(it in "(){}" for it in items):
         return ""
-    called = "".join(body[:head]) if "view" not in body[:head] else "".join(body[: head - 1]) + " view"
-    return called if re.fullmatch(r"[^\W\d][\w'.-]*( view)?", called) else ""
+    return said.replace(" . ", ".") if re.fullmatch(r"[^\W\d][\w'-]*( \. [\w'-]+)*( view)?", said) else ""
 
 
 def count(project: Project) -> Iterator[str]:
