@@ -23,6 +23,8 @@ PAGE = TOP / "docs/believe.md"
 CLAIMS = TOP / "docs/claims.md"
 PROGRAM = ("symnet_program/src/program.rt", "symnet")
 LIBRARY = ("symnet_c/src/call.rt", "symnet_call")
+# What else than a type the code has.
+CODE_KINDS = {"const": "constant", "static": "constant", "trait": "trait"}
 # How long a comment may be on the page before its first sentence stands for it.
 LONG = 260
 
@@ -98,7 +100,8 @@ class Laws:
                         self.functions.setdefault(it, set()).add(file)
 
     def public_functions(self, file: str) -> List[str]:
-        return [it.name for it in self.project.code(file).functions if it.is_public and not it.owner and it.clauses]
+        """The functions of a file that answer nothing, and so can only be laws."""
+        return [it.name for it in self.project.code(file).functions if it.is_public and not it.owner and it.clauses and "->" not in it.types]
 
     def named_in(self, block: str) -> Iterator[Tuple[str, str]]:
         """The laws that a block names, each as its file and its name."""
@@ -285,7 +288,7 @@ def part_lines(made: Claimed, number: int, part: Part, found: List[object], is_r
 def crate_lines(project: Project, nodes: List[Node], is_row: Set[Node], is_whole: bool) -> Iterator[str]:
     """A crate in a part: the types of its code, its files, and those of which each definition only helps."""
     types = sorted((it for it in nodes if it.is_code), key=lambda it: (it.file, it.line))
-    yield from (f"- {link(it)}, a type of the code{': ' + shown(it.comment) if it.comment else '.'}" for it in types if it in is_row)
+    yield from (f"- {link(it)}, a {CODE_KINDS.get(it.kind, 'type')} of the code{': ' + shown(it.comment) if it.comment else '.'}" for it in types if it in is_row)
     folded = [it for it in types if it not in is_row]
     if folded:
         yield f"- Of the code, too: {', '.join(link(it) for it in folded)}."
@@ -353,7 +356,7 @@ def page(made: Claimed, words: str) -> str:
     total = len(made.project.all_definitions())
     lines = [HEAD, "## In numbers", "",
              f"`specs/` has {total:,} definitions. The contract of `symnet` needs {Counts.of(program)}; with the library and the laws it is {Counts.of(everything)}.",
-             "A line is one of code, without comments and blank lines.", "", "| Part | Definitions | Lines | Files | Crates | Types of the code |", "|---|---:|---:|---:|---:|---:|"]
+             "A line is one of code, without comments and blank lines; traits and constants of the code count as types.", "", "| Part | Definitions | Lines | Files | Crates | Types of the code |", "|---|---:|---:|---:|---:|---:|"]
     for number, (part, found) in enumerate(made.parts, 1):
         it = Counts.of(found)
         lines.append(f"| [{number}. {part.title}](#{anchor(f'{number}. {part.title}')}) | {it.definitions:,} | {it.lines:,} | {it.files} | {it.crates} | {it.types} |")
