@@ -114,7 +114,7 @@ class Project:
         return self.rust[file]
 
     def spec_files(self) -> List[str]:
-        return [str(it.relative_to(self.crates_folder)) for crate in self.crates for it in sorted((self.crates_folder / crate / "specs").glob("*.antt"))]
+        return [str(it.relative_to(self.crates_folder)) for crate in self.crates for it in sorted((self.crates_folder / crate / "specs").glob("**/*.antt"))]
 
     def code_files(self, crate: str) -> List[str]:
         return [str(it.relative_to(self.crates_folder)) for it in sorted((self.crates_folder / crate / "src").glob("**/*.rt"))]
