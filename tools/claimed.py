@@ -323,6 +323,12 @@ def libraries(found: Sequence[object]) -> str:
     return ", ".join(f"`{name}` ({number})" for name, number in sorted(names.items(), key=lambda it: (-it[1], it[0])))
 
 
+def others_of(project: Project, found: Sequence[object]) -> str:
+    """The libraries of the kit that crates depend on, and of which no name is used."""
+    names = {it.library for it in found if isinstance(it, Outside)}
+    return ", ".join(f"`{it}`" for it in project.libraries if it not in names)
+
+
 HEAD = """# What you have to believe
 
 `tools/claimed.py write` writes this page from the contracts and from `specs/`, except its last section; the checks behind the gate compare it.
@@ -340,8 +346,8 @@ crate names; of what only its own crate names the number stands behind each file
 BESIDE = """## What else you have to believe
 
 - **The toolchain**: Rattle's compiler and prover with its logic, and LLVM; and the C library.
-- **The libraries of the kit**: the clauses of the ported crates and of std (README, "What is trusted"). Definitions and clauses use names of {names}; code also calls
-  `json`, `thiserror` and `clap`.
+- **The libraries of the kit**: the clauses of the ported crates and of std (README, "What is trusted"). Definitions and clauses use names of {names}; code
+  alone uses {others}.
 - **The adapters and `main`**, which are only tested: that loads and puts reach real files and the real output, what is printed below a status, and the exit status (README, "What is only
   tested").
 - **The outside and the model**: that memory and time suffice, what the file system or the terminal does with bytes, and that a model in SEFL is like the real box (README,
@@ -361,7 +367,7 @@ def page(made: Claimed, words: str) -> str:
         it = Counts.of(found)
         lines.append(f"| [{number}. {part.title}](#{anchor(f'{number}. {part.title}')}) | {it.definitions:,} | {it.lines:,} | {it.files} | {it.crates} | {it.types} |")
     lines += ["", "What each clause needs, all parts together:", "", "| Clause | Definitions | Lines | Files | Crates | Types of the code |", "|---|---:|---:|---:|---:|---:|",
-              *clause_rows(made.project, [*made.program, *made.library]), "", BESIDE.format(names=libraries(everything))]
+              *clause_rows(made.project, [*made.program, *made.library]), "", BESIDE.format(names=libraries(everything), others=others_of(made.project, everything))]
     is_row = rows_of(made.project, [it for it in everything if isinstance(it, Node)], set(made.roots) | {root(made.project, it) for part in PARTS for it in part.roots})
     for number, (part, found) in enumerate(made.parts, 1):
         lines += part_lines(made, number, part, found, is_row)

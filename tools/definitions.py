@@ -8,7 +8,7 @@ from dataclasses import dataclass, field
 from pathlib import Path as File
 from typing import Callable, Dict, FrozenSet, Iterator, List, Optional, Sequence, Set, Tuple
 
-from antt_names import BUILT_IN, Definition, Path, Scope, Source, Token, Unread, path_at, source_of, split_top, term_uses, tokens, uses_of
+from antt_names import BUILT_IN, Path, Scope, Source, Token, Unread, path_at, source_of, split_top, term_uses, tokens, uses_of
 from checkout import TOP
 from rust_items import Function, Item, RustFile, Term, read_rust, types_in
 
@@ -92,6 +92,9 @@ class Project:
     def __init__(self, top: File = TOP):
         self.crates_folder = top / "crates"
         self.crates = re.findall(r"(?m)^(\w+)(?: staticlib)?:", (top / "crates.txt").read_text())
+        listed = {it for said in re.findall(r"(?m)^\w+(?: staticlib)?:(.*)$", (top / "crates.txt").read_text()) for it in said.split()}
+        # the libraries of the kit that crates depend on
+        self.libraries = sorted(listed - set(self.crates))
         self.sources: Dict[str, Source] = {}
         self.rust: Dict[str, RustFile] = {}
         self.names: Dict[str, Names] = {}

@@ -16,7 +16,7 @@ from collections import Counter
 from pathlib import Path
 from typing import Dict, Iterator, List, Optional, Sequence, Set, Tuple
 
-from antt_names import Statement, Unread, statements, tokens, unmarked, uses_of, without_comment
+from antt_names import Statement, statements, unmarked, uses_of, without_comment
 from checkout import TOP
 from claimed import claimed, counted, public_clauses
 from definitions import Node, Project, reach, read_use
