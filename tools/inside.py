@@ -113,6 +113,9 @@ class Plan:
         file = f"{crate}/specs/{module}.antt"
         if crate not in self.project.crates or not self.project.is_file(file):
             return False
+        if self.is_whole(crate, module):
+            # also what it passes on
+            return True
         source = self.project.spec(file)
         owner = name if name in source.definitions else next((it.name for it in source.definitions.values() if name in it.members and it.kind == "data"), None)
         return owner is not None and self.project.node(file, owner) in self.moved
