@@ -426,6 +426,47 @@ def check_rules(expect):
             expect(f"import: {what}: no interface that it goes by", all(import_walk.accepts(it, packet(), "eth0") for it in delivered), False)
 
 
+# ---------------------------------------------------------------- what a Linux kernel showed (tools/kernel_test.py)
+
+OWN = '[{"type":"local","dst":"10.0.0.1","dev":"eth0","table":"local","protocol":"kernel"},{"type":"broadcast","dst":"10.0.0.255","dev":"eth0","table":"local","protocol":"kernel"},%s{"dst":"10.0.0.0/24","dev":"eth0"}]'
+WIDE = '{"type":"local","dst":"10.0.0.0/8","dev":"lo","table":"local"},'
+BRIDGED = ('[{"ifname":"br0","flags":["UP"],"address":"02:00:00:00:00:01","addr_info":[{"family":"inet","local":"10.0.0.1","prefixlen":24}],"linkinfo":{"info_kind":"bridge","info_data":{%s}}},'
+           '{"ifname":"eth0","flags":["UP"],"master":"br0","address":"02:00:00:00:00:02","addr_info":[]%s},{"ifname":"eth1","flags":["UP"],"master":"br0","address":"02:00:00:00:00:03","addr_info":[]}]')
+PORTS = ('[{"mac":"02:00:00:00:00:01","ifname":"br0","master":"br0","state":"permanent"},{"mac":"02:00:00:00:00:02","ifname":"eth0","master":"br0","state":"permanent"},'
+         '{"mac":"02:00:00:00:00:03","ifname":"eth1","master":"br0","state":"permanent"}]')
+
+
+def bridged(settings="", port=""):
+    """A router with a bridge of its own, and these settings of the bridge and of a port."""
+    return {"topology": TOPOLOGY, "r1/ip-addr.json": BRIDGED % (settings, port), "r1/ip-route.json": (OWN % "").replace("eth0", "br0"), "r1/bridge-fdb.json": PORTS}
+
+
+def read(files):
+    with tempfile.TemporaryDirectory() as room:
+        write(Path(room, "net"), files)
+        return folder.read_folder(Path(room, "net"))
+
+
+def check_kernel(expect):
+    """Local and main are one table; where a route of the type local was added, no source may be of such a route, or a broadcast; reserved addresses; addresses of ports."""
+    for added, destination, wanted in ((WIDE, "10.0.0.5", ""), (WIDE, "10.0.1.5", "local"), (WIDE.replace("10.0.0.0/8", "10.0.0.0/24"), "10.0.0.5", "local"), ("", "10.0.1.5", "no route")):
+        router = read({**LINUX, "r1/ip-route.json": OWN % added}).boxes["r1"].router
+        found = [it for it in router.routes if IPv4Address(destination) in it.prefix]
+        expect(f"import: the route of {destination} with {added}", max(found, key=lambda it: it.prefix.prefixlen).kind if found else "no route", wanted)
+    for added, source, wanted in ((WIDE, "10.0.1.5", True), (WIDE, "10.0.0.5", False), (WIDE, "10.0.0.255", True), ("", "10.0.0.255", False), ("", "10.0.0.1", True), (WIDE.replace('"lo"', '"lo","protocol":"kernel"'), "10.0.1.5", False)):
+        router = read({**LINUX, "r1/ip-route.json": OWN % added}).boxes["r1"].router
+        expect(f"import: no source {source} with {added}", model.has(router.no_sources, int(IPv4Address(source))), wanted)
+    for settings, wanted in (("", range(1, 16)), ('"stp_state":0', range(1, 16)), ('"stp_state":1', range(16)), ('"group_fwd_mask":"4008"', set(range(1, 16)) - {3, 14}), ('"group_fwd_mask":"ffff"', (1, 2))):
+        reserved = read(bridged(settings)).boxes["r1"].bridges[0].reserved
+        expect(f"import: addresses that no bridge forwards with {settings}", {it - 0x0180C2000000 for low, high in reserved for it in range(low, high + 1)}, set(wanted))
+    expect("import: a port that forwards reserved addresses", refusal(bridged(port=',"linkinfo":{"info_slave_kind":"bridge","info_slave_data":{"group_fwd_mask":"8"}}'))[0], "r1/ip-addr.json:1")
+    expect("import: a mask that is none", refusal(bridged('"group_fwd_mask":"x"'))[0], "r1/ip-addr.json:1")
+    walker = import_walk.Walker(read(bridged()), True)
+    for number, wanted in ((1, {"itself"}), (2, {"itself"}), (3, set()), (9, {"host"})):
+        came = walker.ends("a", {**packet(destination="10.0.0.1"), "VLAN": 0, "Ethernet destination": 0x020000000000 + number})
+        expect(f"import: a frame for 02:00:00:00:00:0{number} at eth0", {it[0] for it in came}, wanted)
+
+
 # ---------------------------------------------------------------- the command
 
 
@@ -577,7 +618,7 @@ def check_sites(expect):
 
 def check(expect):
     """What needs nothing that is built."""
-    for part in (check_jobs, check_places, check_ranges, check_rules, check_refusals, check_broken, check_large, check_command):
+    for part in (check_jobs, check_places, check_ranges, check_rules, check_kernel, check_refusals, check_broken, check_large, check_command):
         part(expect)
 
 

@@ -10,7 +10,6 @@ from symnet.importing.model import (ACCEPT, COUNT_DOWN, DROP, GOTO, ITSELF, JUMP
 Packet = Dict[str, int]
 # Where a packet ends: at a host, at a box itself, or behind an interface without a link; with its fields. What is dropped ends nowhere.
 End = Tuple[str, str, Tuple[Tuple[str, int], ...]]
-RESERVED = range(0x0180C2000000, 0x0180C2000010)
 
 
 def frozen(packet: Packet) -> Tuple[Tuple[str, int], ...]:
@@ -92,7 +91,7 @@ class Walker:
     def router(self, name: str, router: Router, wire: str, packet: Packet, found: Set[End]) -> List[Tuple[str, Packet]]:
         interface = router.interfaces[wire]
         if self.has_frames:
-            if interface.mac is not None and packet["Ethernet destination"] != interface.mac:
+            if interface.mac is not None and packet["Ethernet destination"] not in (interface.mac, *interface.port_macs):
                 return []
             above = [it for it in router.interfaces.values() if it.below == wire and it.vlan == packet["VLAN"]]
             if packet["VLAN"] and not above:
@@ -134,14 +133,17 @@ class Walker:
     def bridge(self, box: Box, bridge: Bridge, name: str, packet: Packet) -> List[Tuple[str, Packet]]:
         has_itself = bool(box.router and bridge.name in box.router.interfaces)
         ports = {it.name: it for it in bridge.ports if it.name != ITSELF or has_itself}
-        if packet["Ethernet destination"] in RESERVED:
+        if has(bridge.reserved, packet["Ethernet destination"]):
             return []
         vlan = packet["VLAN"] if bridge.has_vlans else 0
         if bridge.has_vlans and vlan == 0:
             vlan = ports[name].pvid
         if vlan not in ports[name].vlans or (bridge.has_vlans and vlan == 0):
             return []
-        known = [it.port for it in bridge.entries if it.vlan == vlan and it.mac == packet["Ethernet destination"]]
+        entries = [it for it in bridge.entries if it.vlan == vlan and it.mac == packet["Ethernet destination"]]
+        if has_itself and box.router and any(it.port == ITSELF and it.device not in ("", name) and it.mac != box.router.interfaces[bridge.name].mac for it in entries):
+            return []
+        known = [it.port for it in entries]
         names: FrozenSet[str] = frozenset(known[:1]) if known else frozenset(ports)
         made = []
         for out in (names & set(ports)) - {name}:

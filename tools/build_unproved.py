@@ -1,8 +1,7 @@
 #!/usr/bin/env python3
 """Compiles the program without its proofs, where that was not done before of the same sources, and prints the name of its file.
 
-    tools/build_unproved.py             compiles it
-    tools/build_unproved.py --built     prints the name of its file where it is compiled, and else ends with 1
+    tools/build_unproved.py
 
 Programs stand in a folder of the user's cache, each under a sum of its sources, for all checkouts; nothing is written into the checkout, so no build or gate there
 is disturbed. One is compiled at a time, of a copy of the sources, and moved to its place once it answers. Nothing of it is proved.
@@ -173,11 +172,6 @@ def program() -> Path:
 
 
 def main(words: List[str]) -> int:
-    if words == ["--built"]:
-        found = place(cache(), sum_of(TOP))
-        if found.is_file():
-            print(found)
-        return 0 if found.is_file() else 1
     if words:
         print(__doc__, end="", file=sys.stderr)
         return 2

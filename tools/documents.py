@@ -2,14 +2,16 @@
 """Compares documents with the code that they tell of.
 
   tools/documents.py check        says what differs: the sentences that the program shows below a status, and docs/statuses.md; the tables of
-                                  docs/definitions.md, and what is defined in the files that they name; the list of layers in docs/architecture.md
+                                  docs/definitions.md, and what is defined in the files that they name; docs/believe.md, and what contracts and specs/ say; the
+                                  list of layers in docs/architecture.md
   tools/documents.py write        writes the words of those tables from the comments in specs/, in each row whose names all have one that can be read by itself,
-                                  and the list of layers from crates.txt
+                                  docs/believe.md, and the list of layers from crates.txt
 """
 
 import re
 import sys
 
+import claimed
 from checkout import TOP
 
 WORDS = TOP / "crates/fault_words/src"
@@ -146,11 +148,11 @@ def main(words):
         for name, made in (("definitions", lambda text: with_comments(text)[0]), ("architecture", with_layers)):
             file = TOP / f"docs/{name}.md"
             file.write_text(made(file.read_text()))
-        return 0
+        return claimed.main(["write"])
     if words != ["check"]:
         print(__doc__)
         return 2
-    faults = [*status_faults(), *definition_faults(), *layer_faults()]
+    faults = [*status_faults(), *definition_faults(), *claimed.faults(), *layer_faults()]
     for it in faults:
         print(f"documents: {it}")
     print(f"documents: {len(faults)} faults" if faults else "documents: they agree with the code")

@@ -1,14 +1,12 @@
 """The built program, for where there is no library: words and files go in as bytes, and come out as the library gives them.
 
-It is the one that the environment's SYMNET names, else the one beside this file, else that of a checkout, the proved one first, else `symnet` on the path.
+It is the one that the environment's SYMNET names, else the one beside this file, else that of a checkout, else `symnet` on the path.
 """
 
-import functools
 import os
 import re
 import shutil
 import subprocess
-import sys
 import tempfile
 import warnings
 from pathlib import Path
@@ -19,8 +17,6 @@ from .library import Ended, NotBuilt
 NAME = "symnet_cli"
 _HERE = Path(__file__).resolve().parent
 PLACES = (_HERE / NAME, _HERE.parents[1] / "crates/symnet_cli/out" / NAME)
-# What compiles the program of a checkout without its proofs.
-_BUILD = _HERE.parents[1] / "tools/build_unproved.py"
 
 # How the line begins in which the checkout's script says, ahead of all else, that its program is not proved.
 _NOTICE = "symnet: this program was compiled without its proofs"
@@ -29,24 +25,13 @@ _NOTICE = "symnet: this program was compiled without its proofs"
 _PARTS = re.compile(rb'"([^"\x00-\x1f\x7f]*)"|//[^\n]*|[^"/]+|["/]')
 
 
-@functools.lru_cache(maxsize=None)
-def _unproved() -> Optional[Path]:
-    """The program that a checkout has compiled without its proofs; None where there is none."""
-    if not _BUILD.is_file():
-        return None
-    ran = subprocess.run([sys.executable, str(_BUILD), "--built"], stdin=subprocess.DEVNULL, capture_output=True, check=False)
-    found = Path(os.fsdecode(ran.stdout).rstrip("\n"))
-    return found if ran.returncode == 0 and found.is_file() else None
-
-
 def place() -> Optional[Path]:
     """Where the program is; None where there is none."""
     named = os.environ.get("SYMNET")
     if named:
         return Path(shutil.which(named) or named)
-    proved = next((it for it in PLACES if it.is_file()), None)
     on_path = shutil.which("symnet")
-    return proved or _unproved() or (Path(on_path) if on_path else None)
+    return next((it for it in PLACES if it.is_file()), Path(on_path) if on_path else None)
 
 
 def leads_out(name: bytes) -> bool:
@@ -87,8 +72,6 @@ def run(words: Sequence[bytes], folder: Optional[Path] = None) -> Ended:
         raise NotBuilt(f"{program} does not run: {error.strerror}") from None
     if ran.returncode < 0:
         raise RuntimeError(f"{program} was ended by signal {-ran.returncode}")
-    if program == _unproved():
-        warnings.warn(_NOTICE, stacklevel=2)
     return Ended(ran.returncode, ran.stdout, _without_notice(ran.stderr.decode(errors="replace")))
 
 

@@ -2,13 +2,31 @@
 
 from typing import Any, Dict, List, NamedTuple, Optional, Tuple
 
-from .model import ITSELF, Bridge, BridgePort, Entry, Refused, Source
+from .model import ITSELF, Bridge, BridgePort, Entry, Ranges, Refused, Source, ranges_of
 from .sources import Text, members, shaped, told
 from .topology import mac_of
 
 # The greatest number of a VLAN (IEEE 802.1Q, 9.6): 4,095 is reserved, and 0 says that there is none.
 LAST_VLAN = 4094
 _GROUP = 1 << 40
+# Addresses that no bridge forwards (IEEE 802.1Q, table 8-1). The first one is that of spanning trees.
+_RESERVED = range(0x0180C2000000, 0x0180C2000010)
+# The last of those that no setting of Linux lets through: those of pauses and of link aggregation.
+_ALWAYS = 2
+
+
+class Settings(NamedTuple):
+    """What `ip -d -j addr` says of a bridge, and what it begins with: whether it looks at VLANs (None: whether it has some), whether it builds spanning trees, and
+    the reserved addresses that it forwards all the same, as bits."""
+
+    has_vlans: Optional[bool] = None
+    has_trees: bool = False
+    forwarded: int = 0
+
+    @property
+    def reserved(self) -> Ranges:
+        """The addresses that it does not forward. Without spanning trees Linux forwards their frames, so that trees of others find loops through it."""
+        return ranges_of([(it, it) for number, it in enumerate(_RESERVED) if (self.has_trees if number == 0 else number <= _ALWAYS or not self.forwarded >> number & 1)])
 
 
 class _Member(NamedTuple):
@@ -87,6 +105,7 @@ class _Row(NamedTuple):
     port: str
     bridge: str
     source: Source
+    device: str
 
 
 def _row(item: Any, source: Source) -> Optional[_Row]:
@@ -111,7 +130,7 @@ def _row(item: Any, source: Source) -> Optional[_Row]:
         return None
     if master is None:
         return None
-    return _Row(mac, vlan, ITSELF if is_own or name == master else name, str(master), source)
+    return _Row(mac, vlan, ITSELF if is_own or name == master else name, str(master), source, name)
 
 
 def read_table(text: Text) -> List[_Row]:
@@ -128,7 +147,7 @@ def read_table(text: Text) -> List[_Row]:
     return list(made.values())
 
 
-def bridges(rows: List[_Row], vlans: Dict[str, BridgePort], ports: Optional[Ports], masters: Dict[str, str], is_filtering: Dict[str, bool], whole: Source) -> List[Bridge]:
+def bridges(rows: List[_Row], vlans: Dict[str, BridgePort], ports: Optional[Ports], masters: Dict[str, str], settings: Dict[str, Settings], whole: Source) -> List[Bridge]:
     """The bridges of a box. Which port is whose stands in the table, in `bridge -j link` or in `ip -j addr` (`masters`)."""
     bridge_of = {row.source.text.split(" dev ")[1].split()[0]: row.bridge for row in rows}
     bridge_of = {name: bridge for name, bridge in bridge_of.items() if name != bridge}
@@ -145,12 +164,13 @@ def bridges(rows: List[_Row], vlans: Dict[str, BridgePort], ports: Optional[Port
         raise Refused(unknown[0].source, f"the port {unknown[0].name} is of a bridge that no file names: `bridge -j link` does")
     made = []
     for name in names:
-        has_vlans = is_filtering.get(name, bool(vlans))
+        own_settings = settings.get(name, Settings())
+        has_vlans = bool(vlans) if own_settings.has_vlans is None else own_settings.has_vlans
         listed = [_port(port, vlans, ports, has_vlans, whole) for port in sorted(bridge_of, key=_natural) if bridge_of[port] == name]
         own = [_port(name, vlans, None, has_vlans, whole)] if name in vlans or not has_vlans else [BridgePort(ITSELF, whole)]
         listed.append(BridgePort(ITSELF, own[0].source, own[0].pvid, own[0].vlans, own[0].untagged))
-        entries = [Entry(row.mac, row.vlan, row.port, row.source) for row in rows if row.bridge == name]
-        made.append(Bridge(name, listed, entries, has_vlans, whole))
+        entries = [Entry(row.mac, row.vlan, row.port, row.source, row.device) for row in rows if row.bridge == name]
+        made.append(Bridge(name, listed, entries, has_vlans, whole, own_settings.reserved))
     return made
 
 

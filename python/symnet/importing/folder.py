@@ -50,12 +50,13 @@ def _linux(name: str, files: Files, box: Source, notes: List[str]) -> Box:
     _need(files, "ip-route", box)
     if devices is None:
         raise Refused(box, f"it has no file ip-addr, which `{FILES['ip-addr']}` prints")
-    routes = linux.read_routes(files["ip-route"], notes)
+    table = linux.read_routes(files["ip-route"], notes)
+    routes = table.routes
     if any(it.kind == LOCAL for it in routes):
         routes.append(linux.everyone(files["ip-route"]))
     else:
         raise Refused(files["ip-route"].source(1), "no route of the table local: `ip -j route show table all` prints those, too")
-    router = Router(_interfaces(devices, made), routes, no_sources=linux.source_limits(devices.interfaces), no_destinations=linux.NO_DESTINATIONS)
+    router = Router(_interfaces(devices, made), routes, no_sources=linux.source_limits(devices.interfaces, table), no_destinations=linux.NO_DESTINATIONS)
     _filters(router, files, notes)
     made.router = router
     return made
@@ -69,7 +70,7 @@ def _bridges(files: Files, devices: Optional[linux.Devices], box: Source) -> Lis
     ports = bridge.read_ports(files["bridge-link"]) if "bridge-link" in files else None
     known = {row.bridge for row in rows} | (set(ports.bridge_of.values()) if ports else set())
     masters = {name: of for name, of in devices.masters.items() if of in known} if devices else {}
-    return bridge.bridges(rows, vlans, ports, masters, devices.filtering if devices else {}, Source(files["bridge-fdb"].name, 1, "the table of the switch"))
+    return bridge.bridges(rows, vlans, ports, masters, devices.settings if devices else {}, Source(files["bridge-fdb"].name, 1, "the table of the switch"))
 
 
 def _interfaces(devices: linux.Devices, box: Box) -> Dict[str, Interface]:
@@ -78,7 +79,11 @@ def _interfaces(devices: linux.Devices, box: Box) -> Dict[str, Interface]:
     for name, master in devices.masters.items():
         if master not in bridges:
             raise Refused(devices.interfaces[name].source, f"the interface {name} is a part of {master}, and no file says how: a bridge has the file bridge-fdb, and a job has no other kind")
-    return {name: it for name, it in devices.interfaces.items() if name not in devices.masters and name != "lo"}
+    found = {name: it for name, it in devices.interfaces.items() if name not in devices.masters and name != "lo"}
+    for name in bridges & set(found):
+        macs = {devices.interfaces[port].mac for port, master in devices.masters.items() if master == name}
+        found[name].port_macs = tuple(sorted(it for it in macs if it is not None and it != found[name].mac))
+    return found
 
 
 def _filters(router: Router, files: Files, notes: List[str]) -> None:

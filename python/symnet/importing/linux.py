@@ -3,6 +3,7 @@
 from ipaddress import IPv4Address, IPv4Interface, IPv4Network
 from typing import Any, Dict, List, NamedTuple, Optional, Tuple
 
+from .bridge import Settings
 from .model import LOCAL, MOST_ROUTES, Hop, Interface, Ranges, Refused, Route, Source, of_network, ranges_of
 from .sources import Text, members, shaped, told
 from .topology import mac_of
@@ -22,18 +23,18 @@ NO_DESTINATIONS: Ranges = ranges_of([of_network(IPv4Network(it)) for it in ("0.0
 
 
 class Devices(NamedTuple):
-    """What `ip -j addr` says: the interfaces by their names, the interface that each is a part of (a bridge, a bond), and of bridges whether they look at VLANs."""
+    """What `ip -j addr` says: the interfaces by their names, the interface that each is a part of (a bridge, a bond), and the settings of bridges."""
 
     interfaces: Dict[str, Interface]
     masters: Dict[str, str]
-    filtering: Dict[str, bool]
+    settings: Dict[str, Settings]
 
 
 def read_addresses(text: Text) -> Devices:
     """The interfaces of `ip -j addr`."""
     found: Dict[str, Interface] = {}
     masters: Dict[str, str] = {}
-    filtering: Dict[str, bool] = {}
+    settings: Dict[str, Settings] = {}
     below: Dict[str, Tuple[str, Any, Source]] = {}
     for item, source in members(text):
         shaped(item, dict, source, "an interface")
@@ -50,12 +51,32 @@ def read_addresses(text: Text) -> Devices:
             masters[name] = item["master"]
         info = item.get("linkinfo")
         if isinstance(info, dict) and info.get("info_kind") == "bridge" and isinstance(info.get("info_data"), dict):
-            filtering[name] = info["info_data"].get("vlan_filtering") == 1
+            settings[name] = _settings(info["info_data"], source)
+        _check_port(info, source)
         if isinstance(item.get("link"), str):
             below[name] = item["link"], item.get("linkinfo"), source
     for name, (other, info, source) in below.items():
         _stand_on(found, name, other, info, source, below)
-    return Devices(found, masters, filtering)
+    return Devices(found, masters, settings)
+
+
+def _mask(data: Any, source: Source) -> int:
+    """The reserved addresses that a bridge or a port forwards, which `ip` writes as hexadecimal digits."""
+    try:
+        return int(str(data.get("group_fwd_mask", "0")), 16)
+    except ValueError:
+        raise Refused(source, f"group_fwd_mask: '{data['group_fwd_mask']}' is no mask") from None
+
+
+def _settings(data: Any, source: Source) -> Settings:
+    return Settings(data.get("vlan_filtering") == 1, data.get("stp_state", 0) != 0, _mask(data, source))
+
+
+def _check_port(info: Any, source: Source) -> None:
+    """Refused where the port of a bridge forwards reserved addresses that the bridge does not."""
+    data = info.get("info_slave_data") if isinstance(info, dict) and info.get("info_slave_kind") == "bridge" else None
+    if isinstance(data, dict) and _mask(data, source):
+        raise Refused(source, "a port that forwards reserved addresses (group_fwd_mask), which is not read")
 
 
 def _addresses(item: Any, source: Source) -> List[IPv4Interface]:
@@ -161,11 +182,18 @@ def route_words(item: Any) -> str:
     return " ".join(words)
 
 
-def read_routes(text: Text, notes: List[str]) -> List[Route]:
-    """The routes that decide, of those of `ip -j route`: of equal prefixes of one table the one with the least metric, and of the table main those that are not
-    within a prefix of the table local, which is looked into first."""
+class Table(NamedTuple):
+    """The routes that decide, of which the one with the longest prefix does; and whether a route of the type local was added to those that the kernel makes of addresses."""
+
+    routes: List[Route]
+    has_added: bool
+
+
+def read_routes(text: Text, notes: List[str]) -> Table:
+    """The routes of `ip -j route` that decide: of equal prefixes of one table the one with the least metric, and of equal prefixes of both tables that of local. The kernel
+    keeps local and main as one table, from version 4.1 on, as long as no rule was added: so a longer prefix of main comes before a shorter one of local."""
     best: Dict[str, Dict[IPv4Network, Tuple[int, Route]]] = {"local": {}, "main": {}}
-    others = 0
+    of_ipv6, has_added = 0, False
     for item, source in members(text):
         shaped(item, dict, source, "a route")
         if not item:
@@ -173,7 +201,7 @@ def read_routes(text: Text, notes: List[str]) -> List[Route]:
         source = told(source, route_words(item))
         prefix = _prefix(shaped(item.get("dst"), str, source, "a route"), source)
         if prefix is None:
-            others += 1
+            of_ipv6 += 1
             continue
         table = str(item.get("table", "main"))
         if table in ("254", "255"):
@@ -181,26 +209,16 @@ def read_routes(text: Text, notes: List[str]) -> List[Route]:
         if table not in best:
             raise Refused(source, f"a route of the table {table}: which packets are looked up there is policy routing, and a job has none")
         route = _route(item, prefix, source)
+        has_added = has_added or (item.get("type") == "local" and item.get("protocol") != "kernel")
         metric = shaped(item.get("metric", 0), int, source, "a route")
         if route is not None and (prefix not in best[table] or metric < best[table][prefix][0]):
             best[table][prefix] = metric, route
             if len(best["local"]) + len(best["main"]) > MOST_ROUTES:
                 raise Refused(source, f"a table of more than {MOST_ROUTES:,} routes")
-    if others:
-        notes.append(f"{text.name}: {others:,} routes of IPv6, which decide no packet of IPv4")
-    first = [route for _, route in best["local"].values()]
-    covers = ranges_of([of_network(it.prefix) for it in first])
-    return [*first, *(route for _, route in best["main"].values() if not _within(route.prefix, covers))]
-
-
-def _within(prefix: IPv4Network, covers: Ranges) -> bool:
-    """Whether one of the ranges has the whole prefix. Neighbours are joined there, and a packet of either is decided by the first table all the same."""
-    low, high = of_network(prefix)
-    begin, end = 0, len(covers)
-    while begin < end:
-        middle = (begin + end) // 2
-        begin, end = (begin, middle) if covers[middle][1] >= low else (middle + 1, end)
-    return begin < len(covers) and covers[begin][0] <= low and high <= covers[begin][1]
+    if of_ipv6:
+        notes.append(f"{text.name}: {of_ipv6:,} routes of IPv6, which decide no packet of IPv4")
+    local, main = ({prefix: route for prefix, (_, route) in of.items()} for of in best.values())
+    return Table([*local.values(), *(route for prefix, route in main.items() if prefix not in local)], has_added)
 
 
 def check_rules(text: Text) -> None:
@@ -218,7 +236,26 @@ def everyone(text: Text) -> Route:
     return Route(IPv4Network("255.255.255.255/32"), text.source(1, "255.255.255.255, which the kernel takes for its own"), kind=LOCAL)
 
 
-def source_limits(interfaces: Dict[str, Interface]) -> Ranges:
-    """The sources that a Linux box takes from no neighbor: the ones of above, and its own addresses."""
+def _own(routes: List[Route]) -> List[Tuple[int, int]]:
+    """The addresses that routes of the box itself decide: those within no longer prefix of another kind."""
+    made: List[Tuple[int, int]] = []
+    # the prefixes around the place `at`, the longest last: where each ends, and whether it is of the box itself
+    around: List[Tuple[int, bool]] = []
+    at = 0
+    spans = [(*of_network(it.prefix), it.kind == LOCAL) for it in sorted(routes, key=lambda it: (int(it.prefix.network_address), it.prefix.prefixlen))]
+    for low, high, is_own in [*spans, (1 << 32, 1 << 32, False)]:
+        while around and around[-1][0] < low:
+            end, was_own = around.pop()
+            made += [(at, end)] if was_own and at <= end else []
+            at = max(at, end + 1)
+        made += [(at, low - 1)] if around and around[-1][1] and at < low else []
+        around.append((high, is_own))
+        at = low
+    return made
+
+
+def source_limits(interfaces: Dict[str, Interface], table: Table) -> Ranges:
+    """The sources that a Linux box takes from no neighbor: the ones of above, and its own addresses. Where a route of the type local was added, the kernel looks each source
+    up (fib_validate_source), and takes none that routes of the types local and broadcast decide."""
     own = [(int(it.ip), int(it.ip)) for interface in interfaces.values() for it in interface.addresses]
-    return ranges_of([*NO_SOURCES, *own])
+    return ranges_of([*NO_SOURCES, *own, *(_own(table.routes) if table.has_added else [])])

@@ -168,7 +168,7 @@ class Filter:
 
 @dataclass
 class Interface:
-    """An interface of a router. `below` is the interface that it stands on, and `vlan` its VLAN there, where it has one."""
+    """An interface of a router. `below` is the interface that it stands on, and `vlan` its VLAN there, where it has one. It takes frames for its address and for those of its ports."""
 
     name: str
     source: Source
@@ -177,6 +177,8 @@ class Interface:
     is_up: bool = True
     below: str = ""
     vlan: int = 0
+    # of a bridge of the box, the addresses of its ports
+    port_macs: Tuple[int, ...] = ()
     inbound: List[Filter] = field(default_factory=list)
     outbound: List[Filter] = field(default_factory=list)
 
@@ -232,12 +234,13 @@ class BridgePort:
 
 @dataclass(frozen=True)
 class Entry:
-    """An entry of a table of addresses: frames of the VLAN for the address leave by the port."""
+    """An entry of a table of addresses: frames of the VLAN for the address leave by the port. Of an address of the box itself `device` is the interface that has it."""
 
     mac: int
     vlan: int
     port: str
     source: Source
+    device: str = ""
 
 
 @dataclass
@@ -249,6 +252,8 @@ class Bridge:
     entries: List[Entry]
     has_vlans: bool
     source: Source
+    # addresses that it does not forward
+    reserved: Ranges = ()
 
 
 ITSELF = "itself"

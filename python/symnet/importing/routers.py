@@ -10,7 +10,7 @@ from typing import Dict, List, NamedTuple, Optional, Sequence, Tuple
 
 from .chains import Context, filter_code, tests_arrival
 from .code import Do, If, JobText, Node, Origin, Port, Row, Step, Table, fail, is_in
-from .model import LOCAL, MOST_ROUTES, Box, Filter, Hop, Interface, Refused, Route, Router, common, has
+from .model import LOCAL, MOST_ROUTES, Box, Filter, Hop, Interface, Refused, Route, Router, common, has, ranges_of
 from .parts import Built, Names, Surroundings
 
 # The most ports of a box.
@@ -92,7 +92,9 @@ class _Printer:
             return self.taken(interface)
         made: List[Step] = []
         if interface.mac is not None:
-            made.append(If(f"head L2+0:48 == {interface.mac}", (), [fail("a frame for another station")], Origin((interface.source,))))
+            taken = ranges_of([(it, it) for it in (interface.mac, *interface.port_macs)])
+            test = is_in("Ethernet destination", taken) if interface.port_macs else f"head L2+0:48 == {interface.mac}"
+            made.append(If(test, (), [fail("a frame for another station")], Origin((interface.source,))))
         made += [If(is_in("VLAN", ((it.vlan, it.vlan),)), self.taken(it), (), Origin((it.source,))) for it in self.above[interface.name]]
         made.append(If(is_in("VLAN", ((0, 0),)), (), [fail(f"no interface has the VLAN on {interface.name}")]))
         return [*made, *self.taken(interface)]

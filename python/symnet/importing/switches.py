@@ -4,22 +4,21 @@ The VLAN of a frame is the metadata `vlan`, 0 for a frame without a tag. A frame
 out by the port that it came by (IEEE 802.1Q, 8.6).
 """
 
-from typing import Dict, List, Sequence, Tuple
+from typing import Dict, List, Optional, Sequence, Tuple
 
 from .code import Do, If, JobText, Node, Origin, Step, fail, forward, is_in
-from .model import ITSELF, Box, Bridge, BridgePort, Entry, Ranges, Refused, ranges_of
+from .model import ITSELF, Box, Bridge, BridgePort, Entry, Refused, ranges_of
 from .parts import Built, Names
 
-# Addresses that no bridge forwards (IEEE 802.1Q, table 8-1).
-RESERVED: Ranges = ((0x0180C2000000, 0x0180C200000F),)
 _PORTS = 1024
 # The most ranges of a job (docs/statuses.md).
 _RANGES = 4_000_000
 
 
 class _Printer:
-    def __init__(self, bridge: Bridge, has_itself: bool):
-        self.bridge = bridge
+    def __init__(self, bridge: Bridge, has_itself: bool, own: Optional[int]):
+        """`own` is the address of the switch as an interface of its box's router."""
+        self.bridge, self.own = bridge, own
         self.ports = bridge.ports if has_itself else bridge.ports[:-1]
         self.has_itself = has_itself
         self.number = {port.name: number for number, port in enumerate(self.ports)}
@@ -38,7 +37,7 @@ class _Printer:
 
     def arriving(self, port: BridgePort) -> List[Step]:
         """The code of an input port."""
-        made: List[Step] = [If(is_in("Ethernet destination", RESERVED), [fail("an address that no switch forwards")])]
+        made: List[Step] = [If(is_in("Ethernet destination", self.bridge.reserved), [fail("an address that no switch forwards")])]
         if not self.bridge.has_vlans:
             if not port.vlans:
                 return [fail(f"the port {port.name} does not forward")]
@@ -58,16 +57,27 @@ class _Printer:
         entries = self.by_vlan.get(vlan, {})
         names = [it.name for it in self.bridge.ports]
         for name in sorted(entries, key=lambda it: names.index(it) if it in names else len(names)):
-            mine = entries[name]
-            made.append(If(is_in("Ethernet destination", ranges_of([(it.mac, it.mac) for it in mine])), [self.towards(port, name, vlan, mine)], (), _origin(mine)))
+            for mine in self.apart(port, entries[name]):
+                made.append(If(is_in("Ethernet destination", ranges_of([(it.mac, it.mac) for it in mine])), [self.towards(port, name, vlan, mine)], (), _origin(mine)))
         others = [number for name, number in self.number.items() if name != port.name and vlan in self.ports[number].vlans]
         flood = f"fork {', '.join(map(str, others))};" if len(others) > 1 else f"forward {others[0]};" if others else ""
         return [*made, Do(flood) if flood else fail("no other port carries the VLAN")]
+
+    def is_elsewhere(self, port: BridgePort, entry: Entry) -> bool:
+        """Whether an entry is of another port of the box: the router of the box takes such a frame by that port alone."""
+        return self.has_itself and entry.port == ITSELF and entry.mac != self.own and entry.device not in ("", port.name)
+
+    def apart(self, port: BridgePort, entries: Sequence[Entry]) -> List[List[Entry]]:
+        """Entries of one port, in parts that are alike for a frame that came by the other one."""
+        parts = [[it for it in entries if self.is_elsewhere(port, it) == is_elsewhere] for is_elsewhere in (False, True)]
+        return [it for it in parts if it]
 
     def towards(self, port: BridgePort, name: str, vlan: int, entries: Sequence[Entry]) -> Step:
         """What is done with a frame that the table sends to the port of this name."""
         if name == port.name:
             return fail("its port is the one that it came by", entries[0].source)
+        if self.is_elsewhere(port, entries[0]):
+            return fail("a frame for another port of the box", entries[0].source)
         if name == ITSELF and not self.has_itself:
             return fail("a frame for the switch itself", entries[0].source)
         if name not in self.number:
@@ -91,7 +101,7 @@ def _origin(entries: Sequence[Entry]) -> Origin:
 
 def print_bridge(box: Box, bridge: Bridge, job: JobText, names: Names, places: Dict[str, str], has_itself: bool) -> Built:
     """Adds the node of a switch to the job. `has_itself` says that the switch is an interface of its box's router, which then has the name of the switch."""
-    out = _Printer(bridge, has_itself)
+    out = _Printer(bridge, has_itself, box.router.interfaces[bridge.name].mac if box.router and has_itself else None)
     if len(out.ports) > _PORTS:
         raise Refused(box.source, f"the switch {bridge.name} has {len(out.ports):,} ports, and a box of a job has at most {_PORTS:,}")
     if len(out.ports) * len(bridge.entries) > _RANGES:
