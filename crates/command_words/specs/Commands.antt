@@ -1,5 +1,5 @@
 -- The commands, and the words that give them.
-use Rattle.std.specs.Prelude.{ℕ, ◌≤◌, ◌<◌, ◌^◌, List, [], ◌∷◌, map, String, string_bytes, codes, Option, Some, None, option_map, option_and_then, if◌then◌else◌}
+use Rattle.std.specs.Prelude.{ℕ, ◌≤◌, ◌<◌, ◌^◌, Bool, true, false, List, [], ◌∷◌, map, String, string_bytes, codes, Option, Some, None, option_map, option_and_then, if◌then◌else◌}
 use Rattle.std.specs.Option.{option_or}
 use Rattle.std.specs.Str.{bytes_eq}
 use Rattle.std.specs.declared.alloc.Global.{Global}
@@ -42,8 +42,8 @@ pub data Command : Type 0 where
   ask : Text → ℕ → ℕ → ℕ → Command
   -- the job; the same, and what is written of paths without a loop
   loops : Text → ℕ → ℕ → ℕ → Open → Command
-  -- the job and the other one; hops, limit and a bound on choices of cases
-  compare : Text → Text → ℕ → ℕ → ℕ → Command
+  -- the job and the other one; hops, limit and a bound on choices of cases; and whether paths that are cut are counted
+  compare : Text → Text → ℕ → ℕ → ℕ → Bool → Command
   -- a table's file; and the style of its node
   model : TableKind → Text → Style → Command
   -- the file of a Click configuration
@@ -65,7 +65,7 @@ command_of (given.Replay job report) = replay job.now report.now
 command_of (given.ReplayWhole job report) = replay_whole job.now report.now
 command_of (given.Ask job hops limit cases) = ask job.now hops limit cases
 command_of (given.Loops job hops limit cases detail) = loops job.now hops limit cases detail
-command_of (given.Compare job other hops limit cases) = compare job.now other.now hops limit cases
+command_of (given.Compare job other hops limit cases counts_cut) = compare job.now other.now hops limit cases counts_cut
 command_of (given.Model table file style) = model table file.now style
 command_of (given.Click file) = click file.now
 command_of (given.Acl file style) = acl file.now style
@@ -89,7 +89,7 @@ HasRanges (replay job report) = Unit {0}
 HasRanges (replay_whole job report) = Unit {0}
 HasRanges (ask job hops limit cases) = AreBounds MOST_ANSWER_LIMIT hops limit cases
 HasRanges (loops job hops limit cases detail) = AreBounds MOST_ANSWER_LIMIT hops limit cases
-HasRanges (compare job other hops limit cases) = AreBounds MOST_ANSWER_LIMIT hops limit cases
+HasRanges (compare job other hops limit cases counts_cut) = AreBounds MOST_ANSWER_LIMIT hops limit cases
 HasRanges (model table file style) = Unit {0}
 HasRanges (click file) = Unit {0}
 HasRanges (acl file style) = Unit {0}
@@ -106,7 +106,7 @@ form_of_verb Ask = record { positionals = codes "JOB" ∷ []; options = codes "h
 form_of_verb Loops =
     record { positionals = codes "JOB" ∷ []; options = codes "hops" ∷ codes "open" ∷ codes "limit" ∷ codes "cases" ∷ [] }
 form_of_verb Compare =
-    record { positionals = codes "JOB" ∷ codes "OTHER" ∷ []; options = codes "hops" ∷ codes "limit" ∷ codes "cases" ∷ [] }
+    record { positionals = codes "JOB" ∷ codes "OTHER" ∷ []; options = codes "hops" ∷ codes "limit" ∷ codes "cases" ∷ codes "cut" ∷ [] }
 form_of_verb (Model table) = record { positionals = codes "FILE" ∷ []; options = codes "style" ∷ [] }
 form_of_verb Click = record { positionals = codes "FILE" ∷ []; options = [] }
 form_of_verb Acl = record { positionals = codes "FILE" ∷ []; options = codes "style" ∷ [] }
@@ -181,6 +181,17 @@ extent_of word =
 abbrev pub extent_or_each : Option Text → Option Extent
 extent_or_each None = Some Each
 extent_or_each (Some word) = extent_of word
+
+-- whether paths that are cut are counted
+abbrev pub cut_of : Text → Option Bool
+cut_of word =
+    if bytes_eq word (codes "omit") then Some false
+    else if bytes_eq word (codes "count") then Some true
+    else None
+
+abbrev pub cut_or_omit : Option Text → Option Bool
+cut_or_omit None = Some false
+cut_or_omit (Some word) = cut_of word
 
 abbrev pub packets_of : Text → Option Packets
 packets_of word =
@@ -274,9 +285,14 @@ module _ (value : Text → Option Text) where
       option_and_then (λ job. with_bounds MOST_ANSWER_LIMIT (λ hops limit. option_and_then (λ cases. option_map (loops job hops limit cases) open_in) cases_in))
       (value (codes "JOB"))
 
+  abbrev pub cut_in : Option Bool
+  cut_in = cut_or_omit (value (codes "cut"))
+
   abbrev pub compare_from : Option Command
   compare_from =
-      option_and_then (λ job. option_and_then (λ other. with_bounds MOST_ANSWER_LIMIT (λ hops limit. option_map (compare job other hops limit) cases_in)) (value (codes "OTHER")))
+      option_and_then
+      (λ job. option_and_then (λ other. with_bounds MOST_ANSWER_LIMIT (λ hops limit. option_and_then (λ cases. option_map (compare job other hops limit cases) cut_in) cases_in))
+      (value (codes "OTHER")))
       (value (codes "JOB"))
 
   abbrev pub model_from : TableKind → Option Command

@@ -2,7 +2,7 @@
 
 ghost use Rattle.std.specs.Prelude.{◌≡◌, ◌≤◌, IfOk, IfSome, Some, option_map, map, string_bytes};
 ghost use Rattle.clap.specs.Words.{first_value, found_of};
-ghost use Rattle.command_words.specs.Commands.{AreInRange, HasRanges, cases_in, cases_of, command_from, command_of, extent_in, extent_of, filter_style_in, filter_style_of, form_of_verb, hops_in, limit_in, model_of, named, open_in, open_of, packets_in, packets_of, pruned_in, pruned_of, read_as, read_verb, reading, replay_of, second_of, style_in, style_of, verb_of, walk_of};
+ghost use Rattle.command_words.specs.Commands.{AreInRange, HasRanges, cases_in, cases_of, command_from, command_of, cut_in, cut_of, extent_in, extent_of, filter_style_in, filter_style_of, form_of_verb, hops_in, limit_in, model_of, named, open_in, open_of, packets_in, packets_of, pruned_in, pruned_of, read_as, read_verb, reading, replay_of, second_of, style_in, style_of, verb_of, walk_of};
 ghost use Rattle.command_words.specs.Shapes.{form_of, named_of};
 
 use crate::form::Form;
@@ -113,6 +113,8 @@ pub enum Command<'a> {
         hops: u32,
         limit: u32,
         cases: u64,
+        /// Whether paths that are cut are counted.
+        counts_cut: bool,
     },
     Model {
         table: TableKind,
@@ -184,7 +186,7 @@ impl Verb {
             },
             Verb::Compare => Form {
                 positionals: &["JOB", "OTHER"],
-                options: &["hops", "limit", "cases"],
+                options: &["hops", "limit", "cases", "cut"],
             },
             Verb::Model(_) => Form {
                 positionals: &["FILE"],
@@ -370,6 +372,26 @@ fn extent_in(values: &ArgMatches<'_>) -> Option<Extent>
     }
 }
 
+fn cut_of(word: &str) -> Option<bool>
+    ensures { result ≡ cut_of word.now }
+{
+    match word {
+        "omit" => Some(false),
+        "count" => Some(true),
+        _ => None,
+    }
+}
+
+/// Whether paths that are cut are to be counted, or the default.
+fn cut_in(values: &ArgMatches<'_>) -> Option<bool>
+    ensures { result ≡ cut_in (first_value (found_of values.now)) }
+{
+    match values.get_str("cut") {
+        Some(word) => cut_of(word),
+        None => Some(false),
+    }
+}
+
 fn packets_of(word: &str) -> Option<Packets>
     ensures { result ≡ packets_of word.now }
 {
@@ -533,12 +555,14 @@ fn command_from<'a>(verb: Verb, values: &ArgMatches<'a>) -> Option<Command<'a>>
             let hops = hops_in(values)?;
             let limit = limit_in(MOST_ANSWER_LIMIT, values)?;
             let cases = cases_in(values)?;
+            let counts_cut = cut_in(values)?;
             Some(Command::Compare {
                 job,
                 other,
                 hops,
                 limit,
                 cases,
+                counts_cut,
             })
         }
         Verb::Model(table) => {

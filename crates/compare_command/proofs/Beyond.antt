@@ -1,8 +1,7 @@
 -- A comparison over records of which none is cut holds under every larger bound of hops.
-use Rattle.std.proofs.Common.{◌≡◌, ◌∙◌, ◌≤◌, ℕ, Bool, true, false, cond, List, [], ◌∷◌, filter, length, map, refl, sym, ap, subst, arith}
+use Rattle.std.proofs.Common.{◌≡◌, ◌∙◌, ℕ, Bool, true, false, if◌then◌else◌, suc, List, [], ◌∷◌, map, refl, sym, ap, subst, arith}
 use Rattle.std.specs.List.{AllByRecursion}
 use Rattle.net_check.specs.Network.{Network, Entry}
-use Rattle.sefl_meaning.specs.declared.walk.End.{End}
 use Rattle.sefl_meaning.specs.declared.walk.End.TheVariants.{Cut}
 use Rattle.sefl_meaning.specs.Order.{Has}
 use Rattle.sefl_meaning.specs.Walks.{Passage, Trail, shown}
@@ -10,14 +9,13 @@ use Rattle.exact_records.specs.Exact.{IsTried}
 use Rattle.exact_records.specs.Packets.{IsWalkOf}
 use Rattle.exact_records.specs.Records.{RecordTree, path, pruned, unexplored}
 use Rattle.hop_bounds.specs.Beyond.{AllUncut, HasSameWalks, IsUncut, UncutRecordsGoBeyond}
-use Rattle.compare_meaning.specs.Answers.{DeliverAlike, IsMissedBy, IsTrueOf}
+use Rattle.compare_meaning.specs.Answers.{IsMissedBy, IsTrueOf}
 use Rattle.compare_meaning.specs.Comparing.{Comparison, same, other, unknown}
 use Rattle.compare_meaning.specs.Outputs.{Delivers, Output}
 use Rattle.compare_meaning.specs.Paths.{Half}
 use Rattle.net_compare.specs.Halves.{half_of}
-use Rattle.command_edge.specs.declared.ending.Ending.TheVariants.{Done}
 use Rattle.compare_command.specs.Beyond.{UncutComparisonsGoBeyond}
-use Rattle.compare_command.specs.Compares.{AreFoundFor, cut_count, is_cut, is_cut_end}
+use Rattle.compare_command.specs.Compares.{cut_count, is_cut, is_cut_end}
 
 -- ---- none is cut
 
@@ -32,18 +30,18 @@ uncut (path ds places end' fields verdict) tried not_cut = λ (is : end' ≡ Cut
 uncut (pruned ds before refutation) tried not_cut = tt
 uncut (unexplored ds) tried not_cut = absurd (tried tt)
 
-first_uncut : (b : Bool) (x : RecordTree) (xs : List RecordTree) → length (cond b (x ∷ xs) xs) ≡ 0 → b ≡ false
-first_uncut true x xs none = absurd (omega (arith, none))
-first_uncut false x xs none = refl
+first_uncut : (b : Bool) (n : ℕ) → (if b then suc n else n) ≡ 0 → b ≡ false
+first_uncut true n none = absurd (omega (arith, none))
+first_uncut false n none = refl
 
-rest_uncut : (b : Bool) (x : RecordTree) (xs : List RecordTree) → length (cond b (x ∷ xs) xs) ≡ 0 → length xs ≡ 0
-rest_uncut true x xs none = absurd (omega (arith, none))
-rest_uncut false x xs none = none
+rest_uncut : (b : Bool) (n : ℕ) → (if b then suc n else n) ≡ 0 → n ≡ 0
+rest_uncut true n none = absurd (omega (arith, none))
+rest_uncut false n none = none
 
 all_uncut : (xs : List RecordTree) → AllByRecursion IsTried xs → cut_count xs ≡ 0 → AllUncut xs
 all_uncut [] tried none = tt
 all_uncut (x ∷ xs) tried none =
-    (uncut x tried.0 (first_uncut (is_cut x) x (filter is_cut xs) none), all_uncut xs tried.1 (rest_uncut (is_cut x) x (filter is_cut xs) none))
+    (uncut x tried.0 (first_uncut (is_cut x) (cut_count xs) none), all_uncut xs tried.1 (rest_uncut (is_cut x) (cut_count xs) none))
 
 -- ---- so walks are the same
 

@@ -1,4 +1,3 @@
 pub mod Wholes
 pub mod Once
-pub mod Cuts
 pub mod Beyond

@@ -1,12 +1,12 @@
 -- A comparison of two jobs has one outcome.
-use Rattle.std.proofs.Common.{◌≡◌, ◌∙◌, ◌⊎◌, ℕ, suc, inl, inr, List, [], ◌∷◌, ◌++◌, filter, length, map, Bool, true, false, cond, Some, refl, sym, ap, subst}
+use Rattle.std.proofs.Common.{◌≡◌, ◌∙◌, ◌⊎◌, ℕ, suc, inl, inr, List, [], ◌∷◌, ◌++◌, if◌then◌else◌, length, map, Bool, true, false, Some, refl, sym, ap, subst}
 use Rattle.net_check.specs.Network.{Network, Entry}
 use Rattle.path_questions.specs.Formulas.{explored}
 use Rattle.exact_records.specs.Packets.{AreExactFor}
 use Rattle.exact_records.specs.Records.{RecordTree, SymStart, path, pruned, unexplored}
 use Rattle.one_list.specs.Same.{AreAlike, RecordsAreOne, without_refutation}
-use Rattle.compare_meaning.specs.Clashes.{IsFirstClash, NoneClash, both_paths}
-use Rattle.compare_meaning.specs.Comparing.{Comparison, IsComparison}
+use Rattle.compare_meaning.specs.Clashes.{IsFirstClash, both_paths}
+use Rattle.compare_meaning.specs.Comparing.{IsComparison}
 use Rattle.compare_meaning.specs.Laws.{ComparisonIsOne, FirstClashIsOne}
 use Rattle.compare_meaning.specs.Paths.{DeliveredPath, Half, delivered, delivered_from, paths_of, with_one}
 use Rattle.net_compare.specs.Halves.{half_of}
@@ -16,7 +16,7 @@ use Rattle.command_edge.specs.declared.ending.Ending.TheVariants.{Done, Partial}
 use Rattle.command_edge.specs.declared.fault.OwnFault.TheVariants.{BadCompare}
 use Rattle.explore_command.specs.Explores.{IsEnding}
 use Rattle.compare_command.specs.Compares.{AreFoundFor, ComparesTo, EndsSo, IsLeftOut, IsNotCompared, IsTextOf, OfBoth, cut_count, cuts_of, is_cut}
-use Rattle.compare_command.specs.Texts.{Cuts, compared_text}
+use Rattle.compare_command.specs.Texts.{compared_text}
 
 -- ---- delivered paths see no refutation
 
@@ -47,25 +47,9 @@ cut_seen (path ds places end' fields verdict) = refl
 cut_seen (pruned ds before refutation) = refl
 cut_seen (unexplored ds) = refl
 
--- as many pass a test, where it says the same
-counted_by : {A B : Type 0} (a b : Bool) (x : A) (y : B) (xs : List A) (ys : List B) → a ≡ b → length xs ≡ length ys
-    → length (cond a (x ∷ xs) xs) ≡ length (cond b (y ∷ ys) ys)
-counted_by true true x y xs ys same rest = ap suc rest
-counted_by true false x y xs ys same rest = absurd (clash same)
-  where
-    clash : true ≡ false → ⊥
-    clash e = cc e
-counted_by false true x y xs ys same rest = absurd (clash same)
-  where
-    clash : false ≡ true → ⊥
-    clash e = cc e
-counted_by false false x y xs ys same rest = rest
-
 cuts_seen : (xs : List RecordTree) → cut_count (map without_refutation xs) ≡ cut_count xs
 cuts_seen [] = refl
-cuts_seen (x ∷ xs) =
-    counted_by (is_cut (without_refutation x)) (is_cut x) (without_refutation x) x (filter is_cut (map without_refutation xs)) (filter is_cut xs) (cut_seen x)
-    (cuts_seen xs)
+cuts_seen (x ∷ xs) = λ j. if cut_seen x j then suc (cuts_seen xs j) else cuts_seen xs j
 
 same_cuts : (xs ys : List RecordTree) → AreAlike xs ys → cut_count xs ≡ cut_count ys
 same_cuts xs ys alike = sym (cuts_seen xs) ∙ (ap cut_count alike ∙ cuts_seen ys)

@@ -1,11 +1,9 @@
 -- What `compare` writes of two accepted jobs.
-use Rattle.std.specs.Prelude.{ℕ, ◌≡◌, ◌⊎◌, Bool, true, false, List, [], ◌∷◌, filter, length, None, Some}
+use Rattle.std.specs.Prelude.{ℕ, ◌≡◌, ◌⊎◌, Bool, true, false, List, [], ◌∷◌, if◌then◌else◌, suc, None, Some}
 use Rattle.sefl_meaning.specs.declared.walk.End.{End}
 use Rattle.sefl_meaning.specs.declared.walk.End.TheVariants.{Stopped, Delivered, Failed, Cut}
 use Rattle.net_check.specs.Network.{Network, Entry, with_choices}
-use Rattle.path_records.specs.declared.records.Record.{Record}
 use Rattle.exact_records.specs.Packets.{AreExactFor}
-use Rattle.exact_records.specs.View.{record_tree}
 use Rattle.exact_records.specs.Records.{RecordTree, path, pruned, unexplored}
 use Rattle.compare_meaning.specs.Clashes.{IsFirstClash, both_paths}
 use Rattle.compare_meaning.specs.Comparing.{Comparison}
@@ -40,12 +38,9 @@ is_cut (path ds places end' fields verdict) = is_cut_end end'
 is_cut (pruned ds before refutation) = false
 is_cut (unexplored ds) = false
 
--- of what a record of the program stands for
-abbrev pub is_cut_path : Record → Bool
-is_cut_path x = is_cut (record_tree x)
-
 abbrev pub cut_count : List RecordTree → ℕ
-cut_count records = length (filter is_cut records)
+cut_count [] = 0
+cut_count (x ∷ xs) = if is_cut x then suc (cut_count xs) else cut_count xs
 
 -- how many are cut of each of two lists, where they are counted
 abbrev pub cuts_of : Bool → List RecordTree → List RecordTree → Cuts

@@ -1,15 +1,15 @@
 //! The comparison of two jobs.
 
-ghost use Rattle.std.specs.Prelude.{◌≡◌, ◌<◌, IfOk, IfErr, filter, length, string_bytes};
+ghost use Rattle.std.specs.Prelude.{◌≡◌, ◌<◌, IfOk, IfErr, string_bytes};
 ghost use Rattle.net_check.specs.Network.{entry, network};
 ghost use Rattle.net_check.specs.Sound.{AreOfOneJob};
-ghost use Rattle.exact_records.specs.View.{record_trees};
+ghost use Rattle.exact_records.specs.View.{record_tree, record_trees};
 ghost use Rattle.path_questions.specs.Formulas.{explored};
 ghost use Rattle.net_compare.specs.Delivering.{AreStatesOf};
 ghost use Rattle.command_edge.specs.Puts.{text as a_text};
 ghost use Rattle.command_runs.specs.Runs.{IsRefusal};
 ghost use Rattle.explore_command.specs.Explores.{IsEnding};
-ghost use Rattle.compare_command.specs.Compares.{AreFoundFor, ComparesTo, cut_count, cuts_of, fault_of, is_cut_path};
+ghost use Rattle.compare_command.specs.Compares.{AreFoundFor, ComparesTo, cut_count, cuts_of, fault_of, is_cut};
 
 use crate::text::{compared_text, partial_text};
 use command_edge::{Ending, OwnFault};
@@ -56,22 +56,22 @@ fn ending_of(records: &[Record]) -> Ending
 
 /// Whether the record is a path that is cut at the bound of hops.
 fn is_cut(found: &Record) -> bool
-    ensures { result ≡ is_cut_path found.now }
+    ensures { result ≡ is_cut (record_tree found.now) }
 {
     matches!(found, Record::Path { end: End::Cut, .. })
-}
-
-fn cut_paths(records: &[Record]) -> usize
-    ensures { result ≡ length (filter is_cut_path records.now) }
-{
-    records.iter().filter(|found| is_cut(found)).count()
 }
 
 /// How many are.
 fn cut_count(records: &[Record]) -> u64
     ensures { result ≡ cut_count (record_trees records.now) }
 {
-    cut_paths(records) as u64
+    let mut count: u64 = 0;
+    for found in records {
+        if is_cut(found) {
+            count += 1;
+        }
+    }
+    count
 }
 
 /// How many are of each of two lists, where they are to be counted.

@@ -39,6 +39,8 @@ const RECORDS: u16 = 256;
 
 const PACKETS: u16 = 512;
 
+const CUT: u16 = 1024;
+
 fn hops() -> Choice {
     Choice {
         flag: "--hops",
@@ -109,6 +111,16 @@ fn records() -> Choice {
     }
 }
 
+fn cut() -> Choice {
+    Choice {
+        flag: "--cut",
+        bit: CUT,
+        most: 0,
+        words: &["omit", "count"],
+        says: "--cut takes omit or count",
+    }
+}
+
 fn packets() -> Choice {
     Choice {
         flag: "--packets",
@@ -150,6 +162,7 @@ pub(crate) fn choice_of(options: u16, flag: &str) -> Option<Choice> {
         "--cases" => cases(),
         "--records" => records(),
         "--packets" => packets(),
+        "--cut" => cut(),
         "--style" if options & FILTER_STYLE != 0 => filter_style(),
         "--style" => style(),
         _ => return None,
@@ -186,7 +199,7 @@ pub(crate) fn form_of(name: &str) -> Option<Form> {
         }),
         "compare" => Some(Form {
             files: &["JOB", "OTHER"],
-            options: HOPS | ANSWER_LIMIT | CASES,
+            options: HOPS | ANSWER_LIMIT | CASES | CUT,
         }),
         // The words are right without OTHER, so it is never said to be missing.
         "rules" => Some(Form {

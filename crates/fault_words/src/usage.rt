@@ -10,7 +10,7 @@ symnet walk JOB PACKET [--hops N] [--limit N] [--packets one|lines]
 symnet replay JOB REPORT [--records each|whole]
 symnet ask JOB [--hops N] [--limit N] [--cases N|all]
 symnet loops JOB [--hops N] [--limit N] [--cases N|all] [--open numbers|visits]
-symnet compare JOB OTHER [--hops N] [--limit N] [--cases N|all]
+symnet compare JOB OTHER [--hops N] [--limit N] [--cases N|all] [--cut omit|count]
 symnet model mac|fib FILE [--style chain|grouped|egress]
 symnet model click FILE
 symnet model acl FILE [--style chain|grouped]
@@ -21,6 +21,7 @@ symnet grow SEED NODES
 --limit N of ask, loops and compare: records, 1 to 4,294,967,295 (10,000)
 --cases N|all: choices of cases that a decision tries, 1 to 18,446,744,073,709,551,615 (4,096)
 --pruned: sides that no packet takes, each or their number alone (all)
+--cut: paths that end at the bound of hops, not told or their number in each job (omit)
 --packets: how many the file has, one or one on each line (one)
 --records: what is confirmed, each record by itself or also that none is missing (each)
 --open: paths that show no loop, their numbers or their earlier visits too (numbers)

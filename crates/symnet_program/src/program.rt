@@ -182,6 +182,7 @@ fn run_command<F: Folder, P: Patterns, K: Sink>(
             hops,
             limit,
             cases,
+            counts_cut,
         } => {
             let source = BothJobs {
                 left: JobFile { name: job },
@@ -192,6 +193,7 @@ fn run_command<F: Folder, P: Patterns, K: Sink>(
                 cases,
                 hops,
                 limit: RecordLimit::new(limit),
+                counts_cut,
             });
             run(alloc, &command, folder, patterns, out)
         }

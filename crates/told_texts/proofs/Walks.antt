@@ -1,5 +1,5 @@
 -- Texts of walks.
-use Rattle.std.proofs.Common.{◌≡◌, ◌<◌, ◌≤◌, ◌^◌, ◌==◌, ℕ, ℤ, List, [], ◌∷◌, map, Option, Some, None, refl, ap, arith}
+use Rattle.std.proofs.Common.{◌≡◌, ◌<◌, ◌^◌, ◌==◌, ℕ, ℤ, List, ◌∷◌, map, Option, Some, None, refl, ap, arith}
 use Rattle.std.specs.Prelude.{bytes_eq, codes, if◌then◌else◌, option_map, unwrap_or}
 use Rattle.std.specs.List.{AllByRecursion}
 use Rattle.serde_json.specs.Data.{Data, no_items}
@@ -28,7 +28,7 @@ use Rattle.run_text.specs.Forms.{list, count, number_parts, value_data, address_
 use Rattle.run_text.specs.Names.{meta_name, node_name, tag_name}
 use Rattle.report_names.specs.Names.{meta_named, node_named, place_named, tag_named}
 use Rattle.report_names.specs.Own.{IsOwnPlace}
-use Rattle.report_forms.specs.Fits.{AddressFits, DecisionFits, EndFits, OwnerFits, TagFits}
+use Rattle.report_forms.specs.Fits.{DecisionFits, EndFits, OwnerFits, TagFits}
 use Rattle.walk_command.specs.WalkTexts.{walk_data, walk_list, walks_data, walks_text}
 use Rattle.told_texts.specs.Walks.{CellFits, FieldsFit, HeadFits, MetaFits, NumberFits, WalkFits, WalkTold, walk_told}
 use Rattle.told_texts.proofs.Lines.{AreGood, IsGood, ReadsLines, address_good, array_good, count_good, deeper, end_good, item_good, list_good, null_good, object_good, one_good, same_told, text_good, value_good}

@@ -12,7 +12,7 @@ use Rattle.path_questions.specs.Telling.{AreOpenBy, IsFirstHit, LeavesItOpen, Ou
 use Rattle.queries.specs.Answers.{AreReplies, Reply, reply_of}
 use Rattle.command_edge.specs.declared.ending.Ending.TheVariants.{Done}
 use Rattle.ask_command.specs.Asks.{IsAnswersText}
-use Rattle.grow_command.specs.Counted.{count_where, counts_of, ends_so, has_cause, has_values, is_cut, is_delivered, is_failed, is_pruned, is_stopped, is_unexplored, judged_so, one_more}
+use Rattle.grow_command.specs.Counted.{count_where, ends_so, has_cause, has_values, is_cut, is_delivered, is_failed, is_pruned, is_stopped, is_unexplored, judged_so, one_more}
 use Rattle.grow_command.specs.Grows.{AreCounts}
 use Rattle.grow_command.specs.declared.counts.Counts.{Counts}
 use Rattle.grow_command.specs.declared.grow.TheConstants.{LIMIT}

@@ -11,7 +11,7 @@ use Rattle.sefl_meaning.specs.Fields.{Fields, fields_of}
 use Rattle.sefl_meaning.specs.Walks.{Trail}
 use Rattle.net_check.specs.Network.{Network}
 use Rattle.report_names.specs.Own.{IsOwnName, IsOwnPlace}
-use Rattle.report_forms.specs.Fits.{AddressFits, DecisionFits, EndFits, Fit128, OwnerFits, TagFits}
+use Rattle.report_forms.specs.Fits.{AddressFits, DecisionFits, EndFits, OwnerFits, TagFits}
 
 -- what was decided, where it was, how it ended, and what the packet carries then
 pub record WalkTold : Type 0 where

@@ -11,7 +11,7 @@ ghost use Rattle.queries.specs.Answers.{Reply};
 ghost use Rattle.ask_command.specs.Asks.{IsAnswersText};
 ghost use Rattle.ask_command.specs.Texts.{answers_text};
 ghost use Rattle.compare_meaning.specs.Comparing.{Comparison};
-ghost use Rattle.compare_command.specs.Texts.{compared_text, partial_text};
+ghost use Rattle.compare_command.specs.Texts.{Cuts, compared_text, partial_text};
 ghost use Rattle.grow_command.specs.Grows.{AreCounts};
 ghost use Rattle.grow_command.specs.Summary.{summary_text};
 ghost use Rattle.grow_command.specs.declared.counts.Counts.{Counts as CountsOf};
@@ -21,7 +21,7 @@ ghost use Rattle.loops_command.specs.declared.text.OpenPaths.{OpenPaths as OpenP
 ghost use Rattle.record_checks.specs.declared.counts.Confirmed.{Confirmed as ConfirmedOf};
 ghost use Rattle.replay_command.specs.Counted.{confirmed_text};
 ghost use Rattle.walk_command.specs.WalkTexts.{walks_text};
-ghost use Rattle.told_texts.specs.Compared.{ComparisonFits};
+ghost use Rattle.told_texts.specs.Compared.{ComparisonFits, CutsFit};
 ghost use Rattle.told_texts.specs.Loops.{FoundFits, loops_told};
 ghost use Rattle.told_texts.specs.Ranges.{AllBelow, AllFit, ConfirmedFits, CountsFit, SummaryFits, numbers_of};
 ghost use Rattle.told_texts.specs.Walks.{WalkFits, walk_told};
@@ -57,11 +57,12 @@ pub fn confirmed_counts_are_told()
     lines_are_read();
 }
 
-/// The text of a comparison tells it, and is not the text that says that some decision was not tried.
+/// The text of a comparison tells it, and how many paths are cut where they are counted; it is not the text that says that some
+/// decision was not tried.
 pub fn comparisons_are_told()
-    ensures texts { (a b : Comparison) → ComparisonFits a → ComparisonFits b → compared_text a ≡ compared_text b
-        → a ≡ b }
-    ensures whole { (a : Comparison) → ComparisonFits a → compared_text a ≡ partial_text → ⊥ }
+    ensures texts { (k m : Cuts) (a b : Comparison) → CutsFit k → CutsFit m → ComparisonFits a → ComparisonFits b
+        → compared_text k a ≡ compared_text m b → (k ≡ m) × (a ≡ b) }
+    ensures whole { (k : Cuts) (a : Comparison) → CutsFit k → ComparisonFits a → compared_text k a ≡ partial_text → ⊥ }
 {
     lines_are_read();
 }

@@ -66,7 +66,7 @@ pub returns-in-Compare-clause-ran : goal.returns-in-Compare-clause-ran
 returns-in-Compare-clause-ran g c =
     rw (c.in-Compare.is) (subst (λ (limit : ℕ). Runs g.K.Sink.told g.K.Sink.put_gives c.args.out.now c.run-in-Compare.new.out
     (outside g.F.Folder.told g.F.Folder.load_gives g.P.Patterns.told g.P.Patterns.find_gives)
-    (c.args.folder.now, c.args.patterns.now) (c.run-in-Compare.new.folder, c.run-in-Compare.new.patterns) (a_job c.in-Compare.job.now ∷ a_job c.in-Compare.other.now ∷ []) (one_piece (CompareComes c.in-Compare.cases c.in-Compare.hops limit)) c.run-in-Compare.result) c.new-in-Compare.ensures
+    (c.args.folder.now, c.args.patterns.now) (c.run-in-Compare.new.folder, c.run-in-Compare.new.patterns) (a_job c.in-Compare.job.now ∷ a_job c.in-Compare.other.now ∷ []) (one_piece (CompareComes c.in-Compare.cases c.in-Compare.hops limit c.in-Compare.counts_cut)) c.run-in-Compare.result) c.new-in-Compare.ensures
     c.run-in-Compare.ensures.ran)
 
 pub returns-in-Model-clause-ran : goal.returns-in-Model-clause-ran
