@@ -156,18 +156,29 @@ _SIDES = {"left": ("first network", "second"), "right": ("second network", "firs
 def compared_lines(compared: Compared, job: Optional[Job], walks: Optional[Mapping[str, Sequence[Path]]] = None) -> List[str]:
     """What a comparison says, with the packet that shows a difference; where its walks are given, by the side of the network, what becomes of it in each."""
     if compared.answer == "same":
-        return ["same: each packet of the injection is delivered at the same ports with the same header, within the bound of hops"]
+        bound = "" if compared.cut == (0, 0) else ", within the bound of hops"
+        return [f"same: each packet of the injection is delivered at the same ports with the same header{bound}", *_cut_lines(compared)]
     if compared.answer == "partial":
         return ["partial: an exploration reached its limit of records, so nothing is known; raise --limit, or narrow the injection by where lines"]
     if compared.answer == "unknown":
         sides = [f"{_records(numbers)} of the {_SIDES[side][0]}" for side, numbers in (("left", compared.left), ("right", compared.right)) if numbers]
-        return [f"unknown: no difference was found, and of {' and '.join(sides)} it is undecided whether the other network delivers the same", f"  {HINT}"]
+        return [f"unknown: no difference was found, and of {' and '.join(sides)} it is undecided whether the other network delivers the same", f"  {HINT}", *_cut_lines(compared)]
     _fits(compared.values, job)
     has, lacks = _SIDES[compared.side]
     known = (walks or {}).get(compared.side, ())
     choices = follow(job, known[0].decisions, known[0].places).choices if len(known) == 1 else ()
     return [f"other: path {compared.number} of the {has} delivers this packet, and the {lacks} does not deliver the same", *packet_lines(compared.values, job, "  ", choices),
-            *_walk_lines(walks or {})]
+            *_walk_lines(walks or {}), *_cut_lines(compared)]
+
+
+def _cut_lines(compared: Compared) -> List[str]:
+    """How many paths are cut at the bound of hops, where that was counted and some are."""
+    if compared.cut is None:
+        return []
+    if compared.cut == (0, 0):
+        return ["  no path is cut at the bound of hops, so it holds of walks of any length"]
+    first, second = (_plural(count, "path", "paths") for count in compared.cut)
+    return [f"  {first} of the first network and {second} of the second are cut at the bound of hops: raise --hops to look further"]
 
 
 def _walk_lines(walks: Mapping[str, Sequence[Path]]) -> List[str]:

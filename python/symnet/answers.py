@@ -86,6 +86,8 @@ class Compared(Pictured):
     values: Tuple[int, ...] = ()
     left: Tuple[int, ...] = ()
     right: Tuple[int, ...] = ()
+    # How many paths of each network are cut at the bound of hops; None where they are not counted.
+    cut: Optional[Tuple[int, int]] = None
     shown: Optional[Texts] = field(default=None, repr=False, compare=False)
     job: Optional[JobText] = field(default=None, repr=False, compare=False)
 
@@ -160,16 +162,25 @@ def read_loops(whole: Written) -> Loops:
         raise NotAnswer(f"the answer of loops has not its form: {error}") from None
 
 
+def _cut(value: object) -> Tuple[int, int]:
+    """How many paths of each of two networks are cut."""
+    counts = some(a_count, value)
+    if len(counts) != 2:
+        raise Misshaped(f"{named(value)} has not two counts")
+    return counts[0], counts[1]
+
+
 def read_compared(whole: Written) -> Compared:
     """The answer of `compare`."""
     try:
         said = one_of(member(whole, "answer"), ("same", "other", "unknown", "partial"))
+        cut = _cut(whole["cut"]) if "cut" in whole else None
         if said == "unknown":
-            return Compared(said, left=some(a_count, member(whole, "left")), right=some(a_count, member(whole, "right")))
+            return Compared(said, left=some(a_count, member(whole, "left")), right=some(a_count, member(whole, "right")), cut=cut)
         if said == "other":
             side = one_of(member(whole, "side"), ("left", "right"))
-            return Compared(said, side, a_count(member(whole, "number")), some(a_value, member(whole, "values")))
-        return Compared(said)
+            return Compared(said, side, a_count(member(whole, "number")), some(a_value, member(whole, "values")), cut=cut)
+        return Compared(said, cut=cut)
     except Misshaped as error:
         raise NotAnswer(f"the answer of compare has not its form: {error}") from None
 

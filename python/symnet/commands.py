@@ -199,11 +199,12 @@ def loops(job: Job, *, files: Optional[Files] = None, hops: Optional[int] = None
 
 
 def compare(job: Job, other: Job, *, files: Optional[Files] = None, hops: Optional[int] = None, limit: Optional[int] = None,
-            cases: Optional[Cases] = "all") -> Compared:
-    """Whether two jobs deliver the same, or a packet that shows a difference."""
+            cases: Optional[Cases] = "all", cut: Optional[Literal["omit", "count"]] = None) -> Compared:
+    """Whether two jobs deliver the same, or a packet that shows a difference. With `cut="count"` its `cut` says how many paths of each are cut at the bound of hops:
+    where none is, the answer holds of walks of any length."""
     taken, [job, other] = _taken(files, job, other)
     whole, names = _with(taken, job=job, other=other)
-    text = written(run(["compare", names["job"], names["other"], *_options(hops=hops, limit=limit, cases=cases)], whole))
+    text = written(run(["compare", names["job"], names["other"], *_options(hops=hops, limit=limit, cases=cases, cut=cut)], whole))
     return replace(read_compared(read_written(text)), job=JobText(job), shown=_shown({"answer": text, "job": job}, {"job": other}))
 
 
