@@ -1,16 +1,18 @@
 // Answers.
 
+// The record of the report that has this number. Null where there is none.
+const recordAt = (number) => (state.report && !state.report.isWalks && state.report.records[number]) || null;
+
 // A button that shows a record of the report, or the words alone where there is none.
 function recordLink(number, words) {
-  const isThere = state.report && !state.report.isWalks && number < state.report.records.length;
-  return isThere ? element("button", { class: "more", click: () => choose(number) }, words) : words;
+  return recordAt(number) !== null ? element("button", { class: "more", click: () => choose(number) }, words) : words;
 }
 
 // A packet in one line.
-function packetWords(values, fields) {
+function packetWords(values, symbols) {
   return values.map((value, symbol) => {
-    const target = symbolTarget(fields, symbol), position = positionOf(target);
-    return `${nameOf(target)} ${valueWords(position && position.kind, value)}`;
+    const position = positionOf(symbolTarget(symbols, symbol));
+    return `${symbolName(symbols, symbol)} ${valueWords(position && position.kind, value)}`;
   }).join(", ");
 }
 
@@ -25,12 +27,12 @@ function checkAsk({ answers }) {
 }
 
 function joinAsk(answer, { job }) {
-  if (!job) return { asks: [], fields: null };
+  if (!job) return { asks: [] };
   if (job.asks.length !== answer.answers.length) throw new Error(`the job has ${plural(job.asks.length, "question", "questions")}, and the answer ${answer.answers.length}: it is of another job`);
   const fields = unknownFields(job);
   const bad = answer.answers.findIndex(({ values }) => values !== undefined && values.length < fields.length);
   if (bad >= 0) throw new Error(`answer ${bad} has fewer values than the job has unknown fields: it is of another job`);
-  return { asks: job.asks, fields };
+  return { asks: job.asks };
 }
 
 const SHADES = { yes: "good", no: "bad", unknown: "warn" };
@@ -40,7 +42,7 @@ function showAsk({ answers, joined }) {
     const ask = joined.asks[number] || { text: "", note: "" };
     const shown = answer.number === undefined ? [] : [recordLink(answer.number, `record ${answer.number}`)];
     const open = answer.numbers ? [`open: records ${answer.numbers.join(", ")}`, ...openLines(state.report, answer.numbers, state.job).map((line) => element("div", { class: "warn" }, line))] : [];
-    const packet = answer.values ? [element("span", {}, packetWords(answer.values, joined.fields)), element("div", { class: "soft" }, answer.values.join(" "))] : [];
+    const packet = answer.values ? [element("span", {}, packetWords(answer.values, symbolsOf(state.job, recordAt(answer.number)))), element("div", { class: "soft" }, answer.values.join(" "))] : [];
     return element("tr", {}, element("td", {}, String(number)), element("td", {}, codeWords(ask.text), element("div", { class: "soft" }, ask.note)),
       element("td", { class: SHADES[answer.answer] }, answer.answer), element("td", {}, ...shown, ...open), element("td", {}, ...packet), rawCell(ask.text, codeWords(ask.text)));
   });
@@ -159,8 +161,8 @@ function showLoops(answer) {
 }
 
 // Why an earlier visit of the last port shows no loop.
-function visitWords(visit, fields) {
-  const packet = () => (fields === null ? "" : `: so it is for the packet with ${packetWords(visit.values, fields)}`);
+function visitWords(visit, symbols) {
+  const packet = () => (symbols === null ? "" : `: so it is for the packet with ${packetWords(visit.values, symbols)}`);
   const why = {
     choice: () => "a value was chosen after it",
     layout: () => "other tags or cells were there",

@@ -155,8 +155,8 @@ function shownValues(record) {
     const position = positionOf(target);
     found.push({ names: `${nameOf(target)} ${target}`.toLowerCase(), kind: position && position.kind, value: BigInt(value) });
   };
-  const values = packetOf(record), fields = unknownFields(state.job);
-  if (values !== null) values.forEach((value, symbol) => add(symbolTarget(fields, symbol), value));
+  const values = packetOf(record), symbols = symbolsOf(state.job, record);
+  if (values !== null) values.forEach((value, symbol) => add(symbolTarget(symbols, symbol), value));
   if (values !== null && state.job) for (const field of state.job.fields) add(field.target, field.given);
   if (!record.fields) return found;
   for (const [address, cells] of record.fields.heads) {
