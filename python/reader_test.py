@@ -12,12 +12,14 @@ import tempfile
 import time
 from pathlib import Path
 
-from symnet import answer_words, answers, engine, inputs, picture, report, sefl, ways
+from symnet import answer_words, answers, engine, inputs, library, picture, program, report, sefl, ways
 from symnet.plain import plain, wrapped
 
 TOP = Path(__file__).resolve().parent.parent
-sys.path.append(str(TOP / "viewer"))
+sys.path += [str(TOP / "viewer"), str(TOP / "tools")]
+import build_unproved  # noqa: E402
 import made_files  # noqa: E402
+import symnet_report  # noqa: E402
 
 # Each character that may not reach a terminal, by its number, and some beside them that may.
 UNSEEN = [*range(0x20), *range(0x7f, 0xa0), 0x61c, 0x200e, 0x200f, *range(0x2028, 0x202f), *range(0x2066, 0x206a), 0xd800, 0xdfff]
@@ -410,6 +412,31 @@ def check_program(expect):
     run = subprocess.run([sys.executable, str(TOP / "tools/symnet_report.py"), "-"], input=b'{"answer":"same","symnet":1}', capture_output=True, timeout=60, check=False)
     expect("the reader is asked for help", (ran("--help")[0], ran("-h")[1].startswith(b"Reads what symnet writes")), (0, True))
     expect("the reader as a program", (run.returncode, run.stdout.split(b":")[0], run.stderr), (0, b"same", b""))
+    # what ./symnet compiled is taken where nothing else is built or named
+    with tempfile.TemporaryDirectory() as room:
+        kept = {name: os.environ.pop(name, None) for name in ("XDG_CACHE_HOME", "SYMNET", "SYMNET_LIBRARY")}
+        os.environ["XDG_CACHE_HOME"] = room
+        place = build_unproved.place(build_unproved.cache(), build_unproved.sum_of(TOP))
+        try:
+            expect("no program that was compiled", symnet_report.compiled(), None)
+            place.parent.mkdir(parents=True)
+            place.write_text("")
+            expect("a program that was compiled", symnet_report.compiled(), place)
+            is_built = library.place() is not None or program.place() is not None
+            for words, wanted in ((["-"], None), (["-", "a.sefl", "--only-read"], None), (["-", "a.sefl"], None if is_built else str(place))):
+                os.environ.pop("SYMNET", None)
+                symnet_report.name_program(words)
+                expect(f"{words}: what runs", os.environ.get("SYMNET"), wanted)
+        finally:
+            for name, value in kept.items():
+                os.environ.pop(name, None)
+                os.environ.update({} if value is None else {name: value})
+    for what, text, part in (("nested too deep", "[" * 200000, "nested too deep"), ("a huge number", '{"symnet":1,"hops":%s}' % ("9" * 100000), "no report: it has a number with more digits"), ("no UTF-8", b"{\xff", "its byte 1 begins no character")):
+        try:
+            report.read_report(text)
+            expect(what, "a report", "a message")
+        except report.NotReport as error:
+            expect(f"{what}: {error}", part in str(error) or what == "a huge number" and str(error).startswith("no report: "), True)
 
 
 def check(expect):

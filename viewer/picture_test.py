@@ -299,6 +299,20 @@ def test_choices(look):
     look.expect("the value of a choice", look.value("byId('message').textContent + symbolName(symbolsOf(null, null), 1)"), "symbol 1")
 
 
+def test_rounds(look):
+    """A path that goes round is named by one round, and one round is told, however often the path comes round."""
+    links, way = [(("top", 0), ("a", 0)), (("a", 0), ("b", 0)), (("b", 0), ("a", 0))], ["in top.0", "out top.0", *["in a.0", "out a.0", "in b.0", "out b.0"] * 5, "in a.0"]
+    files = {"net.sefl": made_job(links, "top"), "net.json": made_files.report([made_files.path([], way, "cut", [0])])}
+    for first in (2, 6, 14):
+        look.show({**files, "net.loops": made_files.written({"loops": [{"first": first, "number": 0}], "open": [], "symnet": 1})})
+        look.expect(f"a round from place {first}: its path", look.value(ROWS), ["0: top, a, b, a .. for ever"])
+        look.expect(f"a round from place {first}: one round", look.value("[document.querySelector('#loops td:nth-child(2)').textContent, byId('round').textContent]"),
+                    ["in a.0 \u2192 out a.0 \u2192 in b.0 \u2192 out b.0 \u2192 in a.0 again", "0 a 0 \u2192 0 b 0 \u2192 0 a"])
+        look.expect(f"a round from place {first}: its boxes", look.value("[...document.querySelectorAll('.node')].filter((it) => it.querySelector('.box.round')).map((it) => it.dataset.box)"), ["a", "b"])
+    look.show({"list.acl": made_files.LIST, "list.rules": made_files.RULES})
+    look.expect("rules after a report: what is left of it", look.value("['network', 'detail', 'groups', 'undecided'].map((name) => byId(name).childNodes.length)"), [0] * 4)
+
+
 def test_counts(look):
     """Sides that no packet takes are told by the report's own count, where none of them is listed and where some are."""
     summary = lambda report: look.show({"r.json": report}) or look.value("byId('summary').textContent.split(', ').slice(0, 3).join(', ')")  # noqa: E731
@@ -425,7 +439,7 @@ def test_phone(look):
     look.expect("rows of the packet on one line", look.value("[...document.querySelectorAll('#packet tr')].filter((it) => it.getBoundingClientRect().height > 30).length"), 0)
     look.open(list="/examples/border-filter/border.acl", answer="/examples/border-filter/border.rules")
     look.expect("rules: what sticks out", look.value(WIDE), [False])
-    look.expect("rules: those on several lines", look.value("[...document.querySelectorAll('#rules tr:not(.hidden)')].filter((it) => it.getBoundingClientRect().height > 30).length"), 0)
+    look.expect("rules: those on several lines", look.value("[...document.querySelectorAll('#rules tr:not(.hidden):not(:first-child)')].filter((it) => it.getBoundingClientRect().height > 30).length"), 0)
     look.size(1400, 900)
     look.open(report=f"{OFFICE}.json", job=f"{OFFICE}.sefl", answer=f"{OFFICE}.answers")
     columns = look.value("[...document.querySelectorAll('#answers tr')].map((row) => [...row.children].map((it) => it.textContent === '' ? null : it.getBoundingClientRect()).map((it) => it && [it.left, it.right, it.top]))")
@@ -551,6 +565,7 @@ def test(expect, browser, address, folder):
     test_folds(look)
     test_names(look)
     test_choices(look)
+    test_rounds(look)
     test_counts(look)
     test_traffic(look)
     test_other_job(look)
