@@ -12,12 +12,14 @@ import tempfile
 import time
 from pathlib import Path
 
-from symnet import answer_words, answers, engine, inputs, picture, report, sefl, ways
+from symnet import answer_words, answers, engine, inputs, library, picture, program, report, sefl, ways
 from symnet.plain import plain, wrapped
 
 TOP = Path(__file__).resolve().parent.parent
-sys.path.append(str(TOP / "viewer"))
+sys.path += [str(TOP / "viewer"), str(TOP / "tools")]
+import build_unproved  # noqa: E402
 import made_files  # noqa: E402
+import symnet_report  # noqa: E402
 
 # Each character that may not reach a terminal, by its number, and some beside them that may.
 UNSEEN = [*range(0x20), *range(0x7f, 0xa0), 0x61c, 0x200e, 0x200f, *range(0x2028, 0x202f), *range(0x2066, 0x206a), 0xd800, 0xdfff]
@@ -237,6 +239,9 @@ def check_records(expect):
     expect("one record: its decisions", one[one.index("  decisions") + 1:][:5], ["    then  if protocol in {TCP, UDP}", "    0     fork 0, 1", "    pass  constrain protocol != ICMP", "    0     the table of t", "    pass  the table of t"])
     expect("choices by what they set", [" ".join(line.split()[:4]) for line in one[-2:]], ["mark 1", "mark (2) 2"])
     expect("another choice", lines_of(CHOOSING_REPORT, "choosing.sefl")[-1], "  packet: protocol ICMP, set 3")
+    twice = CHOOSING.replace("set global mark:16 = any; } else", "set head L3+72:8 = any; } else")
+    given = report.Inputs(jobs=[("twice.sefl", inputs.read_job(twice))])
+    expect("a choice of an unknown field", report.shown(CHOOSING_REPORT, given).split("\n")[7], "  packet: protocol TCP, protocol (2) ICMP, mark 2")
     expect("a way that is not known", lines_of('{"answer":"other","number":0,"side":"left","symnet":1,"values":[6,1,2]}', "choosing.sefl")[2], "  choice 0  1")
     carried = lines_of((TOP / "examples/branch-office/office.json").read_text(), "office.sefl", record=3)
     expect("what a record carries", [" ".join(line.split()) for line in carried[-9:-6]], ["TTL 63 head L3+64:8", "protocol {protocol} = UDP head L3+72:8", "source address {destination address} = 0.0.0.0 head L3+96:32"])
@@ -252,6 +257,22 @@ def check_records(expect):
     expect("many ends", ends[:42][1::20] + ends[41:43], ["  1 stopped at in r.0: record 0", "  1 stopped at in r.20: record 20", "  and 60 other ends", "  and 60 other ends", ""])
     wide = made_files.report([made_files.path(["else"] * 5000, ["in r.0"], "stopped", []), *[made_files.path([], ["in r.0"], "stopped", [])] * 50])
     expect("a long record pads no other", len("".join(lines_of(wide))) < 10000, True)
+    job = CHOOSING.replace("inject a.0 { tag L3 = 112;", f"inject a.0 {{ tag L3 = 112; field global {'long' * 500}:8;")
+    given = report.Inputs(jobs=[("job.sefl", inputs.read_job(job))])
+    long = report.shown(made_files.report([made_files.path(["else", 1], CHOOSING_WAY[:1] + ["out a.1"], "delivered", [1, 2, 3])]), given, record=0).split("\n")
+    expect("a long name pads no other", [" ".join(line.split()) for line in long if len(line) < 100 and line.startswith("    ")][-2:], ["protocol 2 head L3+72:8", "set 3"])
+
+
+def check_lists(expect):
+    """Of a filter list first how many rules are hidden, then a paragraph for each rule."""
+    given = report.Inputs()
+    given.add("list.acl", b"permit any 0.0.0.0/0 0.0.0.0/0 any any\npermit 6 10.0.0.0/8 0.0.0.0/0 any 80\ndeny any 0.0.0.0/0 0.0.0.0/0 any any\n")
+    answer = made_files.written({"rules": [{"rule": "decides", "values": [6, 2**24, 2, 1, 80]}, {"cover": [["inside", 0]], "rule": "hidden"}, {"cover": [["inside", 0]], "rule": "hidden"}], "symnet": 1})
+    lines = report.shown(answer, given).split("\n")
+    expect("the rules of a list", lines[:3], ["3 rules, 2 hidden: 1, 2", "rule 0, line 1: permit any 0.0.0.0/0 0.0.0.0/0 any any", "  decides protocol TCP, from 1.0.0.0 port 1 to 0.0.0.2 port 80"])
+    expect("a hidden rule", lines[-3:], ["rule 2, line 3: deny any 0.0.0.0/0 0.0.0.0/0 any any", "  hidden by rule 0, DANGEROUS: it denies, and 0 permits", "    rule 0 has all of its packets"])
+    many = made_files.written({"rules": [{"rule": "decides", "values": [0] * 5}, *[{"cover": [["inside", 0]], "rule": "hidden"}] * 100], "symnet": 1})
+    expect("many hidden rules", report.shown(many, report.Inputs()).split("\n")[0], f"101 rules, 100 hidden: {', '.join(map(str, range(1, 21)))} and 80 more")
 
 
 def check_ways(expect):
@@ -391,6 +412,31 @@ def check_program(expect):
     run = subprocess.run([sys.executable, str(TOP / "tools/symnet_report.py"), "-"], input=b'{"answer":"same","symnet":1}', capture_output=True, timeout=60, check=False)
     expect("the reader is asked for help", (ran("--help")[0], ran("-h")[1].startswith(b"Reads what symnet writes")), (0, True))
     expect("the reader as a program", (run.returncode, run.stdout.split(b":")[0], run.stderr), (0, b"same", b""))
+    # what ./symnet compiled is taken where nothing else is built or named
+    with tempfile.TemporaryDirectory() as room:
+        kept = {name: os.environ.pop(name, None) for name in ("XDG_CACHE_HOME", "SYMNET", "SYMNET_LIBRARY")}
+        os.environ["XDG_CACHE_HOME"] = room
+        place = build_unproved.place(build_unproved.cache(), build_unproved.sum_of(TOP))
+        try:
+            expect("no program that was compiled", symnet_report.compiled(), None)
+            place.parent.mkdir(parents=True)
+            place.write_text("")
+            expect("a program that was compiled", symnet_report.compiled(), place)
+            is_built = library.place() is not None or program.place() is not None
+            for words, wanted in ((["-"], None), (["-", "a.sefl", "--only-read"], None), (["-", "a.sefl"], None if is_built else str(place))):
+                os.environ.pop("SYMNET", None)
+                symnet_report.name_program(words)
+                expect(f"{words}: what runs", os.environ.get("SYMNET"), wanted)
+        finally:
+            for name, value in kept.items():
+                os.environ.pop(name, None)
+                os.environ.update({} if value is None else {name: value})
+    for what, text, part in (("nested too deep", "[" * 200000, "nested too deep"), ("a huge number", '{"symnet":1,"hops":%s}' % ("9" * 100000), "no report: it has a number with more digits"), ("no UTF-8", b"{\xff", "its byte 1 begins no character")):
+        try:
+            report.read_report(text)
+            expect(what, "a report", "a message")
+        except report.NotReport as error:
+            expect(f"{what}: {error}", part in str(error) or what == "a huge number" and str(error).startswith("no report: "), True)
 
 
 def check(expect):
@@ -398,6 +444,7 @@ def check(expect):
     check_shapes(expect)
     check_jobs(expect)
     check_records(expect)
+    check_lists(expect)
     check_ways(expect)
     check_sizes(expect)
     check_widths(expect)

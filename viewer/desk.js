@@ -269,7 +269,7 @@ const desk = { files: new Map(), open: "", names: [], place: null, answers: new 
   seconds: 60, bytes: 128 << 20 };
 
 const DESK_PARTS = `
-  <div class="row"><label>example <select id="example"></select></label><label>open files <input type="file" id="opened" multiple></label></div>
+  <div class="row"><label>example <select id="example"></select></label><label class="files">open files <input type="file" id="opened" multiple></label></div>
   <div class="row"><select id="command" aria-label="command"></select><span id="taken" class="row"></span>
     <input id="options" aria-label="options" placeholder="options, as --hops 32 or --limit 100"><button id="run">run</button></div>
   <div class="row" id="tabs"></div>
@@ -462,7 +462,9 @@ function showRun({ ends, shown, others }) {
 
 function showRefusal(ends) {
   const told = ends.filter(({ status, error }) => status !== 0 || error !== "");
-  byId("refusal").textContent = told.map(({ error }) => error.trimEnd()).join("\n\n");
+  // The line of a file and the caret below it are not broken, so that the caret stays at its place.
+  const lines = told.map(({ error }) => error.trimEnd()).join("\n\n").split("\n");
+  fill(byId("refusal"), lines.flatMap((line, at) => [at === 0 ? "" : "\n", line.startsWith(" ") ? element("span", {}, line) : line]));
   byId("refusal").className = told.every(wrote) ? "partial" : "";
   document.body.classList.toggle("stale", !wrote(ends[0]));
   desk.place = told.map(({ error }) => placeOf(error)).find((place) => place !== null) || null;

@@ -285,6 +285,14 @@ def test_file_names(expect, page, name):
     expect(f"{name}: the next run", run_of(page, f"addFiles([['mine.sefl', {json.dumps(JOB)}]])"), "")
 
 
+# How far the caret of a refusal is from the character that it is below: to the right, and down.
+CARET = """(() => {
+  const [line, caret] = byId('refusal').querySelectorAll('span'), place = (text, at) => { const range = document.createRange(); range.setStart(text, at); range.setEnd(text, at + 1); return range.getBoundingClientRect(); };
+  const one = place(line.firstChild, line.textContent.indexOf('forward 7')), other = place(caret.firstChild, caret.textContent.indexOf('^'));
+  return [other.left - one.left, other.top - one.top];
+})()"""
+
+
 def test_room(expect, page, name):
     """The gutter is as wide as what stands in it, its numbers beside their lines; at the width of a phone nothing sticks out."""
     expect(f"{name}: a job in the gutter", run_of(page, f"desk.files.clear(), addFiles([['mine.sefl', {json.dumps(JOB)}]])"), "")
@@ -295,8 +303,16 @@ def test_room(expect, page, name):
     expect(f"{name}: the line of the answer", round(answer) + 1, 6)
     narrow = run_of(page, f"addFiles([['other.sefl', {json.dumps(JOB.split('ask')[0])}]])") or page.value(gutter)[0]
     expect(f"{name}: the gutter without an answer ({narrow} pixels)", narrow < width - 15, True)
-    page.call("Emulation.setDeviceMetricsOverride", width=390, height=844, deviceScaleFactor=1, mobile=True)
+    expect(f"{name}: a broken line", run_of(page, f"desk.files.clear(), addFiles([['mine.sefl', {json.dumps(JOB.replace('forward 0;', 'forward 7;'))}]])"), "symnet: refused at 4 3")
+    said = page.value("byId('unproved').textContent")
+    page.value(f"byId('unproved').textContent = 'Behind this page runs /{'long' * 60}/symnet'")
+    for width in (1400, 390):
+        page.call("Emulation.setDeviceMetricsOverride", width=width, height=844, deviceScaleFactor=1, mobile=width < 600)
+        expect(f"{name}: words that stick out, at {width} pixels", page.value("['unproved', 'ran', 'desk'].filter((it) => byId(it).scrollWidth > byId(it).clientWidth)"), [])
+        caret = page.value(CARET)
+        expect(f"{name}: the caret below its place, at {width} pixels: {caret}", (abs(caret[0]) < 4, 8 < caret[1] < 25), (True, True))
     expect(f"{name}: at the width of a phone, what sticks out", page.value(WIDE), [False])
+    page.value(f"byId('unproved').textContent = {json.dumps(said)}")
     expect(f"{name}: at the width of a phone, the text", page.value("byId('text').getBoundingClientRect().width > 260 && byId('editor').getBoundingClientRect().height > 200"), True)
     page.call("Emulation.clearDeviceMetricsOverride")
 

@@ -242,6 +242,16 @@ def test_folds(look):
     look.expect("boxes on the way", look.value("[...document.querySelectorAll('.node')].filter((it) => it.querySelector('.box.on')).map((it) => it.dataset.box).sort()"), ["3 boxes", "r"])
     look.value("document.querySelector('.fold').click()")
     look.expect("boxes once unfolded", len(look.value(names)), 6)
+    # of an imported network each box with all of its helpers, also those that are linked with helpers alone
+    look.show({it: (TOP / "examples/imported" / it).read_text() for it in ("net.sefl", "net.map", "net.walks.json")})
+    look.expect("the imported network: its fold", look.value("document.querySelector('.fold').parentNode.textContent"), " fold 6 helper boxes")
+    look.value("document.querySelector('.fold').click(); shownPicture.show('all'); shownPicture.zoom(1 / shownPicture.view.scale)")
+    look.expect("the imported network: boxes once folded", sorted(look.value(names)), ["core", "desk", "entry", "floor", "gate", "internet", "web"])
+    check_drawing(look.expect, "the imported network, folded", look.value(DRAWN))
+    nested = [(("r", 0), ("r_a", 0)), (("r_a", 0), ("r_b", 0)), (("r_b", 0), ("r_b_in", 0)), (("r_b_in", 0), ("s", 0)), (("s", 0), ("s_b", 0)), (("s_b", 0), ("r_c", 0))]
+    look.show({"net.sefl": made_job(nested, "r"), "net.json": drawn_path(["in r.0"])})
+    look.value("document.querySelector('.fold').click()")
+    look.expect("helpers of helpers, and one that is linked with another box alone", look.value(names), ["r", "s", "r_c"])
 
 
 ROWS = "[...document.querySelectorAll('.record')].map((it) => it.textContent)"
@@ -264,12 +274,53 @@ def test_names(look):
     look.expect("office without its table", look.value(ROWS)[:1], ["3: ttl, routes, nat, filter, server, filter, nat, ttl, host; UDP port 53"])
     heights = look.value("(() => { const way = byId('way'), hops = [...way.querySelectorAll('.hop')].map((it) => it.getBoundingClientRect().top); return [new Set(hops).size, hops.length, way.getBoundingClientRect().height]; })()")
     look.expect("office: the way stands on one line", (heights[0], heights[1], heights[2] < 50), (1, 9, True))
+    look.open(report=f"{OFFICE}.json", job=f"{OFFICE}.sefl", answer=f"{OFFICE}.answers")
+    look.expect("office: a choice in the packet", look.value("[...[...document.querySelectorAll('#packet tr')].at(-1).children].map((it) => it.textContent)"), ["outside_port", "1024", "local outside_port:16", ""])
+    look.expect("office: a choice in what is carried", look.value("[...[...document.querySelectorAll('#fields tr')].at(-1).children].slice(0, 3).map((it) => it.textContent)"), ["local outside_port of nat", "{outside_port}", "= 1024"])
+    look.expect("office: a choice in an answer", look.value("document.querySelector('#answers td:nth-child(5)').textContent.includes('destination port 53, outside_port 1024')"), True)
+    look.value("(() => { byId('filter').value = 'where outside_port 1024'; showGroups(); })()")
+    look.expect("office: paths by a choice", look.value("[...document.querySelectorAll('.record')].map((it) => it.dataset.number)"), ["3", "7", "10"])
+    look.value("byId('filter').value = ''")
     look.open(report=FABRIC[0], job=FABRIC[1], record=148)
     look.expect("fabric: the chosen row is seen", look.value("(() => { const [list, row] = [byId('records'), document.querySelector('.record.chosen')].map((it) => it.getBoundingClientRect()); return [row.top >= list.top, row.bottom <= list.bottom]; })()"), [True, True])
     look.open(report="/examples/border-filter/border.json", job="/examples/border-filter/border.sefl")
     look.expect("border: a path", look.value(ROWS)[10], "18: acl; TCP from 192.0.2.0/25 to 198.51.100.0/24 port 22")
     look.open(report="/examples/leak/leak.json")
     look.expect("leak without its job", [it.split(" \u2014 ")[0] for it in look.value(ROWS)][:1], ["1: edge, join, others"])
+
+
+def test_choices(look):
+    """A choice has the name of what it sets, with a count where that was set before or is an unknown field; behind a loop over names it has its number."""
+    job = ("symnet 2;\nnode r 1 -> 1 { in 0 { %s set head L3+72:8 = any; allocate global in:8; set global in:8 = any; set global in:8 = any; forward 0; } }\n"
+           "inject r.0 { tag L3 = 112; field head L3+72:8; }\n")
+    for code, names in (("", ["protocol", "protocol (2)", "in", "in (2)"]), ('for v in "^x" { noop; }', ["protocol", "choice 0", "choice 1", "choice 2"])):
+        look.show({"r.sefl": job % code, "r.json": made_files.report([made_files.path([], ["in r.0", "out r.0"], "delivered", [6, 17, 3, 4])])})
+        look.expect(f"{code}: choices", look.value("[...document.querySelectorAll('#packet tr')].map((it) => it.children[0].textContent)"), names)
+    look.expect("the value of a choice", look.value("byId('message').textContent + symbolName(symbolsOf(null, null), 1)"), "symbol 1")
+
+
+def test_rounds(look):
+    """A path that goes round is named by one round, and one round is told, however often the path comes round."""
+    links, way = [(("top", 0), ("a", 0)), (("a", 0), ("b", 0)), (("b", 0), ("a", 0))], ["in top.0", "out top.0", *["in a.0", "out a.0", "in b.0", "out b.0"] * 5, "in a.0"]
+    files = {"net.sefl": made_job(links, "top"), "net.json": made_files.report([made_files.path([], way, "cut", [0])])}
+    for first in (2, 6, 14):
+        look.show({**files, "net.loops": made_files.written({"loops": [{"first": first, "number": 0}], "open": [], "symnet": 1})})
+        look.expect(f"a round from place {first}: its path", look.value(ROWS), ["0: top, a, b, a .. for ever"])
+        look.expect(f"a round from place {first}: one round", look.value("[document.querySelector('#loops td:nth-child(2)').textContent, byId('round').textContent]"),
+                    ["in a.0 \u2192 out a.0 \u2192 in b.0 \u2192 out b.0 \u2192 in a.0 again", "0 a 0 \u2192 0 b 0 \u2192 0 a"])
+        look.expect(f"a round from place {first}: its boxes", look.value("[...document.querySelectorAll('.node')].filter((it) => it.querySelector('.box.round')).map((it) => it.dataset.box)"), ["a", "b"])
+    look.show({"list.acl": made_files.LIST, "list.rules": made_files.RULES})
+    look.expect("rules after a report: what is left of it", look.value("['network', 'detail', 'groups', 'undecided'].map((name) => byId(name).childNodes.length)"), [0] * 4)
+
+
+def test_counts(look):
+    """Sides that no packet takes are told by the report's own count, where none of them is listed and where some are."""
+    summary = lambda report: look.show({"r.json": report}) or look.value("byId('summary').textContent.split(', ').slice(0, 3).join(', ')")  # noqa: E731
+    path, pruned = made_files.path([], ["in r.0"], "stopped", [0]), {"before": {"sat": [0]}, "decisions": ["else"], "kind": "pruned", "refutation": [["empty", 0, [0, 1]]]}
+    for records, refuted, words in (([path], 1187, "1 path, 1,187 pruned sides (only counted)"), ([path, pruned], 1187, "1 path, 1,187 pruned sides (1,186 of them only counted)"),
+                                    ([path, pruned], 1, "1 path, 1 pruned side, 0 unexplored; done: these are all; 16 hops"), ([path], 0, "1 path, 0 pruned sides, 0 unexplored; done: these are all; 16 hops")):
+        told = summary(made_files.written({**json.loads(made_files.report(records)), "refuted": refuted}))
+        look.expect(f"{refuted} refuted", told[:len(words)], words)
 
 
 # Of each record with a packet: whether the packet has the traffic by which the record is named. Numbers of those that have not.
@@ -380,7 +431,20 @@ def test_phone(look):
         lists, picture = (look.value(f"(() => {{ const {{ left, right, top, bottom }} = document.querySelector('{it}').getBoundingClientRect(); return [left, right, top, bottom]; }})()") for it in ("#records", "svg.picture"))
         look.expect(f"{words}: the picture below the list", picture[2] >= lists[3], True)
         look.expect(f"{words}: the picture is as wide as the window", picture[1] - picture[0] > 320, True)
+        drawn = look.value(DRAWN)
+        window, first = drawn["window"], next(it for it in drawn["boxes"] if it["name"] == look.value("boxesOf(state.job, state.report.records[state.chosen])[0]"))
+        look.expect(f"{words}: the numbers of ports can be read", drawn["scale"] >= 0.69, True)
+        look.expect(f"{words}: the way is seen from its beginning", window["left"] <= first["left"] and first["right"] <= window["right"] and window["top"] <= first["top"] and first["bottom"] <= window["bottom"], True)
+        look.expect(f"{words}: what is wider than its table", look.value("[...document.querySelectorAll('#decisions, #answers')].filter((it) => it.scrollWidth > it.clientWidth + 1).map((it) => it.id)"), [])
+    look.expect("rows of the packet on one line", look.value("[...document.querySelectorAll('#packet tr')].filter((it) => it.getBoundingClientRect().height > 30).length"), 0)
+    look.open(list="/examples/border-filter/border.acl", answer="/examples/border-filter/border.rules")
+    look.expect("rules: what sticks out", look.value(WIDE), [False])
+    look.expect("rules: those on several lines", look.value("[...document.querySelectorAll('#rules tr:not(.hidden):not(:first-child)')].filter((it) => it.getBoundingClientRect().height > 30).length"), 0)
     look.size(1400, 900)
+    look.open(report=f"{OFFICE}.json", job=f"{OFFICE}.sefl", answer=f"{OFFICE}.answers")
+    columns = look.value("[...document.querySelectorAll('#answers tr')].map((row) => [...row.children].map((it) => it.textContent === '' ? null : it.getBoundingClientRect()).map((it) => it && [it.left, it.right, it.top]))")
+    look.expect("answers: their columns begin at one place", [len({row[column][0] for row in columns if row[column]}) for column in range(5)], [1] * 5)
+    look.expect("answers: the raw form below the question", [(row[5][0] == row[1][0], row[5][2] > row[1][2]) for row in columns if row[5]], [(True, True)] * sum(row[5] is not None for row in columns))
 
 
 ODD = [None, -1, 0, 1.5, 2**60, "x", "constructor", True, [], {}, [[]], {"a": 1}, 10**40]
@@ -500,6 +564,9 @@ def test(expect, browser, address, folder):
     test_alone(look)
     test_folds(look)
     test_names(look)
+    test_choices(look)
+    test_rounds(look)
+    test_counts(look)
     test_traffic(look)
     test_other_job(look)
     test_conditions(look)

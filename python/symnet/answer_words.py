@@ -192,21 +192,17 @@ def _walk_lines(walks: Mapping[str, Sequence[Path]]) -> List[str]:
 
 
 def rules_lines(fates: Sequence[Fate], rules: Optional[Sequence[Rule]]) -> List[str]:
-    """A line for each rule: its packet, or the rules that hide it; and below, for each hidden rule, which of its packets each of them has."""
+    """How many rules are hidden; then for each rule its text, and a packet that it decides, or the rules that hide it and which of its packets each of them has."""
     hidden = [number for number, fate in enumerate(fates) if fate.values is None]
-    of_rule, of_packet = [], []
+    listed = ", ".join(map(str, hidden[:HIDDEN])) + (f" and {len(hidden) - HIDDEN:,} more" if len(hidden) > HIDDEN else "")
+    lines = [f"{_plural(len(fates), 'rule', 'rules')}, {len(hidden)} hidden{f': {listed}' if hidden else ''}"]
     for number, fate in enumerate(fates):
-        of_rule.append((str(number), *((str(rules[number].line), rules[number].text) if rules is not None else ()), "hidden" if fate.values is None else "decides"))
-        of_packet += [] if fate.values is None else [[value_text(kind, value) for value, (_, kind, _) in zip(fate.values, LIST_FIELDS)]]
-    starts = columns([("rule", *(("line", "text") if rules is not None else ()), ""), *of_rule])
-    packets = iter(columns([[name for name, _, _ in LIST_FIELDS], *of_packet]))
-    width = max(map(len, starts))
-    lines = [f"{starts[0].ljust(width)}  {next(packets)}"]
-    for number, (fate, start) in enumerate(zip(fates, starts[1:])):
-        lines.append(f"{start.ljust(width)}  {_hidden_words(number, fate, rules) if fate.values is None else next(packets)}")
-    lines.append(f"{_plural(len(fates), 'rule', 'rules')}, {len(hidden)} hidden")
-    for number in hidden:
-        lines += [f"rule {number} is hidden:", *_part_lines(fates[number], rules[number].ranges if rules is not None else None)]
+        lines.append(f"rule {number}" if rules is None else f"rule {number}, line {rules[number].line}: {rules[number].text}")
+        if fate.values is None:
+            lines += [f"  hidden {_hidden_words(number, fate, rules)}", *_part_lines(fate, rules[number].ranges if rules is not None else None)]
+        else:
+            protocol, source, destination, source_port, port = (value_text(kind, value) for value, (_, kind, _) in zip(fate.values, LIST_FIELDS))
+            lines.append(f"  decides protocol {protocol}, from {source} port {source_port} to {destination} port {port}")
     return lines
 
 
@@ -245,7 +241,8 @@ def _acts(permits: bool, count: int) -> str:
     return {(True, True): "permits", (False, True): "denies", (True, False): "permit", (False, False): "deny"}[permits, count == 1]
 
 
-PARTS = 100
+# How many parts of a hidden rule are told, and how many numbers of hidden rules.
+PARTS, HIDDEN = 100, 20
 
 
 def _part_lines(fate: Fate, whole: Optional[Ranges]) -> List[str]:
@@ -253,7 +250,7 @@ def _part_lines(fate: Fate, whole: Optional[Ranges]) -> List[str]:
     for part in fate.parts[:PARTS]:
         sides = [f"{name} {range_text(kind, low, high)}" for field, ((low, high), (name, kind, greatest)) in enumerate(zip(part.ranges, LIST_FIELDS))
                  if (low, high) != (whole[field] if whole else (0, greatest))]
-        lines.append(f"  rule {part.rule} has {'those with ' + ', '.join(sides) if sides else 'all of its packets'}")
+        lines.append(f"    rule {part.rule} has {'those with ' + ', '.join(sides) if sides else 'all of its packets'}")
     left = len(fate.parts) - PARTS
-    return lines + ([f"  and {left} parts more"] if left > 0 else [])
+    return lines + ([f"    and {left} parts more"] if left > 0 else [])
 

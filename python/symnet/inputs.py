@@ -88,8 +88,13 @@ class Job:
             return self.fields[symbol]
         number = symbol - len(self.fields)
         if number < len(choices):
-            return _again(choices[number], choices[:number].count(choices[number]))
-        return _again(self.chosen[0], number) if len(self.chosen) == 1 else f"choice {number}"
+            return self._again(choices[number], choices[:number].count(choices[number]))
+        return self._again(self.chosen[0], number) if len(self.chosen) == 1 else f"choice {number}"
+
+    def _again(self, target: str, earlier: int) -> str:
+        """What a choice sets, with a count where the same was chosen before, or is an unknown field."""
+        count = earlier + self.fields.count(target)
+        return f"{target} ({count + 1})" if count else target
 
     def code(self, place: str) -> Optional[Tuple[Statement, ...]]:
         """What steers in the code of a port, as `in r.0`; None where the box is that of a table, or is not in the job."""
@@ -100,11 +105,6 @@ class Job:
             return None
         begin = node.codes.get(f"{side} {number}")
         return () if begin is None else self.tokens.code(begin)
-
-
-def _again(target: str, earlier: int) -> str:
-    """What a choice sets, with a count where the same was chosen before."""
-    return f"{target} ({earlier + 1})" if earlier else target
 
 
 @dataclass(frozen=True)

@@ -6,24 +6,32 @@ from typing import List, Optional, Sequence, Tuple
 from .fields import kind_of, name_of, value_text
 from .inputs import Job
 
-_METADATA = re.compile(r"(?:global|local) (\w+):\w+( \(\d+\))?", re.ASCII)
+_METADATA = re.compile(r"(?:global|local) (\w+):\w+", re.ASCII)
+_COUNTED = re.compile(r"(.*?)( \(\d+\))?", re.DOTALL)
+
+# The widest part of a row for which the other rows leave room.
+WIDEST = 40
 
 
 def bare(target: str) -> str:
     """The name of metadata without its scope and its width; anything else as it is."""
     found = _METADATA.fullmatch(target)
-    return f"{found[1]}{found[2] or ''}" if found else target
+    return found[1] if found else target
 
 
 def named(job: Job, symbol: int, choices: Sequence[str] = ()) -> Tuple[str, str]:
     """The name of a value of a packet, and what it is in the job. `choices` are what is set on its way, where that is known."""
     target = job.target(symbol, choices)
-    return (name_of(target) if symbol < len(job.fields) else bare(name_of(target))), target
+    if symbol < len(job.fields):
+        return name_of(target), target
+    found = _COUNTED.fullmatch(target)
+    target, count = (found[1], found[2] or "") if found else (target, "")
+    return bare(name_of(target)) + count, target
 
 
 def columns(rows: Sequence[Sequence[str]], indent: str = "") -> List[str]:
-    """The rows as lines, each column as wide as its widest part."""
-    widths = [max(len(row[column]) for row in rows) for column in range(len(rows[0]))] if rows else []
+    """The rows as lines, each column as wide as its widest part; a part that is wider than most makes no other row wider."""
+    widths = [max((len(row[column]) for row in rows if len(row[column]) <= WIDEST), default=0) for column in range(len(rows[0]))] if rows else []
     return [indent + "  ".join(part.ljust(width) for part, width in zip(row, widths)).rstrip() for row in rows]
 
 

@@ -214,8 +214,15 @@ def read_written(text: Union[str, bytes]) -> Written:
     """The object that a command wrote; NotReport where the text is none."""
     try:
         whole = json.loads(text)
-    except (ValueError, RecursionError) as error:
+    except RecursionError:
+        raise NotReport("no JSON: it is nested too deep") from None
+    except UnicodeDecodeError as error:
+        raise NotReport(f"no JSON: its byte {error.start} begins no character of UTF-8") from None
+    except json.JSONDecodeError as error:
         raise NotReport(f"no JSON: {error}") from None
+    except ValueError:
+        # Python reads no number of more than some thousand digits
+        raise NotReport("no report: it has a number with more digits than any that is written") from None
     version = whole.get("symnet") if isinstance(whole, dict) else None
     if not isinstance(whole, dict) or version != 1 or isinstance(version, (bool, float)):
         raise NotReport("no report: it is no object with the key symnet 1")

@@ -1,16 +1,18 @@
 // Answers.
 
+// The record of the report that has this number. Null where there is none.
+const recordAt = (number) => (state.report && !state.report.isWalks && state.report.records[number]) || null;
+
 // A button that shows a record of the report, or the words alone where there is none.
 function recordLink(number, words) {
-  const isThere = state.report && !state.report.isWalks && number < state.report.records.length;
-  return isThere ? element("button", { class: "more", click: () => choose(number) }, words) : words;
+  return recordAt(number) !== null ? element("button", { class: "more", click: () => choose(number) }, words) : words;
 }
 
 // A packet in one line.
-function packetWords(values, fields) {
+function packetWords(values, symbols) {
   return values.map((value, symbol) => {
-    const target = symbolTarget(fields, symbol), position = positionOf(target);
-    return `${nameOf(target)} ${valueWords(position && position.kind, value)}`;
+    const position = positionOf(symbolTarget(symbols, symbol));
+    return `${symbolName(symbols, symbol)} ${valueWords(position && position.kind, value)}`;
   }).join(", ");
 }
 
@@ -25,12 +27,12 @@ function checkAsk({ answers }) {
 }
 
 function joinAsk(answer, { job }) {
-  if (!job) return { asks: [], fields: null };
+  if (!job) return { asks: [] };
   if (job.asks.length !== answer.answers.length) throw new Error(`the job has ${plural(job.asks.length, "question", "questions")}, and the answer ${answer.answers.length}: it is of another job`);
   const fields = unknownFields(job);
   const bad = answer.answers.findIndex(({ values }) => values !== undefined && values.length < fields.length);
   if (bad >= 0) throw new Error(`answer ${bad} has fewer values than the job has unknown fields: it is of another job`);
-  return { asks: job.asks, fields };
+  return { asks: job.asks };
 }
 
 const SHADES = { yes: "good", no: "bad", unknown: "warn" };
@@ -40,7 +42,7 @@ function showAsk({ answers, joined }) {
     const ask = joined.asks[number] || { text: "", note: "" };
     const shown = answer.number === undefined ? [] : [recordLink(answer.number, `record ${answer.number}`)];
     const open = answer.numbers ? [`open: records ${answer.numbers.join(", ")}`, ...openLines(state.report, answer.numbers, state.job).map((line) => element("div", { class: "warn" }, line))] : [];
-    const packet = answer.values ? [element("span", {}, packetWords(answer.values, joined.fields)), element("div", { class: "soft" }, answer.values.join(" "))] : [];
+    const packet = answer.values ? [element("span", {}, packetWords(answer.values, symbolsOf(state.job, recordAt(answer.number)))), element("div", { class: "soft" }, answer.values.join(" "))] : [];
     return element("tr", {}, element("td", {}, String(number)), element("td", {}, codeWords(ask.text), element("div", { class: "soft" }, ask.note)),
       element("td", { class: SHADES[answer.answer] }, answer.answer), element("td", {}, ...shown, ...open), element("td", {}, ...packet), rawCell(ask.text, codeWords(ask.text)));
   });
@@ -118,7 +120,16 @@ function checkLoops({ loops, open }) {
 const openNumber = (path) => (isCount(path) ? path : path.number);
 const visitsOf = (path) => (isCount(path) ? [] : path.visits);
 
-// For each loop that the report shows, by the number of its record, the ports from the beginning of a round to its end. Empty without a report.
+// The shortest part of ports that go round, which comes again and again: its last port is its first.
+function oneRound(places) {
+  const size = places.length - 1;
+  for (let length = 1; length < size; length += 1) {
+    if (size % length === 0 && places.every((place, at) => at < length || place === places[at - length])) return places.slice(0, length + 1);
+  }
+  return places;
+}
+
+// For each loop that the report shows, by the number of its record, the ports of one round, and those ahead of it. Empty without a report.
 function joinLoops({ loops, open }, { report }) {
   const rounds = new Map();
   if (!report || report.isWalks) return rounds;
@@ -131,18 +142,21 @@ function joinLoops({ loops, open }, { report }) {
   for (const { first, number } of loops) {
     const places = cut(number);
     if (first >= places.length - 1 || places[first] !== places[places.length - 1]) throw new Error(`record ${number} of the report does not end where a round begins at its place ${first}: the answer is of another job or other hops`);
-    rounds.set(number, places.slice(first));
+    const length = oneRound(places.slice(first)).length - 1;
+    let begin = first;
+    while (begin > 0 && places[begin - 1] === places[begin - 1 + length]) begin -= 1;
+    rounds.set(number, { ahead: places.slice(0, begin), round: places.slice(begin, begin + length + 1) });
   }
   return rounds;
 }
 
 const loopsWords = ({ loops, open }) => `${plural(loops.length, "path goes", "paths go")} round for ever, ${plural(open.length, "is only cut", "are only cut")}`;
 
-// The ports of the round of a record, or null.
-function roundOf(number) {
-  const { answer } = state;
-  return answer && answer.kind === "loops" && answer.joined.has(number) ? answer.joined.get(number) : null;
-}
+const loopOf = (number) => (state.answer && state.answer.kind === "loops" && state.answer.joined.get(number)) || null;
+
+// The ports of one round of a record, from its first port to that again, and the ports ahead of it. Null where it does not go round.
+const roundOf = (number) => (loopOf(number) === null ? null : loopOf(number).round);
+const aheadOf = (number) => (loopOf(number) === null ? null : loopOf(number).ahead);
 
 function showLoops(answer) {
   const { loops, open, joined } = answer;
@@ -151,7 +165,7 @@ function showLoops(answer) {
   const more = open.length > 0 ? ` Of the open paths it is only known that they are cut: more hops (--hops) may show where they end.${told}` : "";
   const row = (number, words2) => element("tr", {}, element("td", {}, recordLink(number, `record ${number}`)), element("td", {}, words2));
   const rows = [
-    ...loops.slice(0, PAGE).map(({ first, number }) => row(number, joined.has(number) ? roundWords(joined.get(number)) : `its round begins at place ${first}`)),
+    ...loops.slice(0, PAGE).map(({ first, number }) => row(number, joined.has(number) ? roundWords(joined.get(number).round) : `its round begins at place ${first}`)),
     ...open.slice(0, PAGE).map((path) => row(openNumber(path), ["only cut", ...visitsOf(path).slice(0, 1).map((visit) => visitWords(visit, null))].join("; ")))];
   const left = Math.max(loops.length - PAGE, 0) + Math.max(open.length - PAGE, 0);
   return [element("h2", {}, "Loops"), element("p", { id: "loops-words" }, words + more), element("table", { id: "loops" }, ...rows),
@@ -159,8 +173,8 @@ function showLoops(answer) {
 }
 
 // Why an earlier visit of the last port shows no loop.
-function visitWords(visit, fields) {
-  const packet = () => (fields === null ? "" : `: so it is for the packet with ${packetWords(visit.values, fields)}`);
+function visitWords(visit, symbols) {
+  const packet = () => (symbols === null ? "" : `: so it is for the packet with ${packetWords(visit.values, symbols)}`);
   const why = {
     choice: () => "a value was chosen after it",
     layout: () => "other tags or cells were there",

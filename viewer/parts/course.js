@@ -113,6 +113,25 @@ function runCode(course, code, place) {
 // The tests, copies and tables that a record's decisions stand for, as far as it can be followed.
 const stepsOf = (job, record) => courseOf(job, record).events.filter(({ decision }) => decision !== null);
 
+// What the choices on a record's way set, in order, as far as it can be followed.
+const choicesOf = (job, record) => courseOf(job, record).events.filter(({ step }) => step.kind === "set").map(({ step }) => settings.of(step.text.slice(3).trim())).filter(({ source }) => source === "any").map(({ target }) => target);
+
+// What the numbers of a record's packet are, in order: the unknown fields, and the choices on its way by what they set, with a count where that is an earlier one too.
+// Null where the job is not given; the fields alone where no record is.
+function symbolsOf(job, record) {
+  const fields = unknownFields(job);
+  if (fields === null || !record) return fields;
+  const values = packetOf(record);
+  // A packet of the fields alone has no choice.
+  if (values !== null && values.length <= fields.length) return fields;
+  const symbols = fields.slice();
+  for (const target of choicesOf(job, record)) {
+    const name = nameOf(target).replace(/^(?:global|local) (\w+):\w+$/, "$1"), earlier = symbols.filter((symbol) => symbol.target === target).length;
+    symbols.push({ target, name: earlier === 0 ? name : `${name} (${earlier + 1})`, isChoice: true });
+  }
+  return symbols;
+}
+
 // The ports of a record's way; of one without places as far as its decisions can be followed.
 const placesOf = (job, record) => record.places || courseOf(job, record).visited;
 

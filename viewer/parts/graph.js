@@ -33,15 +33,23 @@ function networkOf({ job, report }) {
 
 // ---- boxes that are folded
 
-// The box that each helper belongs to: one with which it is linked and whose name begins its own, as `east` of `east_ttl`.
+// The box that each helper belongs to: the one with the longest name that begins its own, as `east` of `east_ttl`, and with which it is linked, if only by its other helpers.
 function ownersOf({ boxes, wires }) {
-  const owners = new Map();
-  const offer = (helper, box) => {
-    if (helper.startsWith(`${box}_`) && (!owners.has(helper) || owners.get(helper).length < box.length)) owners.set(helper, box);
-  };
+  const near = new Map(boxes.map((box) => [box, new Set()])), owners = new Map();
   for (const { from, to } of wires) {
-    offer(boxOf(from), boxOf(to));
-    offer(boxOf(to), boxOf(from));
+    const [one, other] = [boxOf(from), boxOf(to)];
+    if (near.has(one) && near.has(other)) { near.get(one).add(other); near.get(other).add(one); }
+  }
+  for (const owner of [...boxes].sort((a, b) => b.length - a.length)) {
+    const open = [owner], isSeen = new Set(open);
+    while (open.length > 0) {
+      for (const other of near.get(open.pop())) {
+        if (isSeen.has(other) || !other.startsWith(`${owner}_`)) continue;
+        isSeen.add(other);
+        open.push(other);
+        if (!owners.has(other)) owners.set(other, owner);
+      }
+    }
   }
   return new Map(boxes.map((box) => {
     let owner = box;

@@ -1,6 +1,7 @@
 // The picture of a network: layoutOf of layout.js drawn as SVG, with the way of a path marked, folding, zoom and pan.
 
-const DRAWN = 600, FOLDED_FROM = 60, READABLE = 0.5;
+// From how many boxes on only the way is drawn, and from how many on helpers are folded; the least scale at which the numbers of ports can be read.
+const DRAWN = 600, FOLDED_FROM = 60, READABLE = 0.7;
 // How many pixels a pointer moves at most that only presses.
 const STILL = 4;
 const NAME_LENGTH = 22, MOST_SCALE = 3, LEAST_SCALE = 0.02;
@@ -57,12 +58,14 @@ class View {
     this.shape.setAttribute("viewBox", `${this.x - width / 2} ${this.y - height / 2} ${width} ${height}`);
   }
 
-  // Shows a rectangle as large as it fits, at its own size at most.
-  fit({ x, y, width, height }) {
+  // Shows a rectangle as large as it fits, at its own size at most. Where that is below the least scale the part is shown that begins with a box.
+  fit({ x, y, width, height }, least = LEAST_SCALE, box = null) {
     this.measure();
-    this.scale = Math.max(Math.min(this.size.width / (width + 16), this.size.height / (height + 16), 1), LEAST_SCALE);
-    this.x = x + width / 2;
-    this.y = y + height / 2;
+    this.scale = Math.max(Math.min(this.size.width / (width + 16), this.size.height / (height + 16), 1), least);
+    const middleOf = (begin, length, seen, wanted) => (length <= seen || wanted === null ? begin + length / 2 : Math.min(Math.max(wanted, begin + seen / 2), begin + length - seen / 2));
+    const [seenWidth, seenHeight] = [this.size.width / this.scale, this.size.height / this.scale];
+    this.x = middleOf(x - 8, width + 16, seenWidth, box === null ? null : box.x - STUB - 8 + seenWidth / 2);
+    this.y = middleOf(y - 8, height + 16, seenHeight, box === null ? null : box.y + box.height / 2);
     this.apply();
   }
 
@@ -125,14 +128,20 @@ class Picture {
   }
 
   // Shows the whole network, the way, or the way alone; a view that was chosen by hand stays, as long as it has the way.
-  show(mode) {
+  show(mode, least = LEAST_SCALE) {
     const isAlone = this.isLarge || mode === "alone" || (mode === "own" && this.drawn.only !== null), only = isAlone ? this.onWay() : null;
     const isSame = only === null ? this.drawn.only === null : this.drawn.only !== null && isSameList([...only], [...this.drawn.only]);
     if (!isSame) { this.draw(only); this.remark(); }
     this.note.textContent = only === null ? "" : `only the boxes on the way are drawn, of ${this.network.boxes.length.toLocaleString("en")}`;
     if (mode === "own" && isSame) { this.view.measure(); this.view.apply(); return; }
     const { layout, marked } = this.drawn;
-    this.view.fit(mode === "way" && marked.length > 0 ? around(layout, marked) : { x: 0, y: 0, width: layout.width, height: layout.height });
+    this.view.fit(mode === "way" && marked.length > 0 ? around(layout, marked) : { x: 0, y: 0, width: layout.width, height: layout.height }, least, this.firstBox());
+  }
+
+  // The rectangle of the box where the first way begins. Null where there is none.
+  firstBox() {
+    const { graph, layout } = this.drawn, [first] = this.last ? this.last[0].flat() : [];
+    return (first !== undefined && layout.boxes[graph.groupOf.get(boxOf(first))]) || null;
   }
 
   onWay() {
@@ -151,7 +160,7 @@ class Picture {
 
   // Called once the picture stands in the page and has a size, and when that or the way changes.
   begin() {
-    this.show(this.mode || this.readable());
+    if (this.mode !== null) this.show(this.mode); else this.show(this.readable(), READABLE);
   }
 
   resized() {

@@ -46,7 +46,7 @@ function wayLine(places, named = { id: "way" }) {
 }
 
 function detailOf(record, number) {
-  const fields = unknownFields(state.job);
+  const symbols = symbolsOf(state.job, record);
   const parts = [element("h2", { id: "title" }, `${record.kind === "path" ? "Path" : record.kind === "pruned" ? "Pruned side" : "Unexplored"} ${number}`)];
   if (record.kind === "path") {
     parts.push(element("p", { id: "end" }, endWords(record.end), " \u2014 ", verdictWords(record)));
@@ -54,28 +54,28 @@ function detailOf(record, number) {
     if (traffic !== "" && record.verdict !== null) parts.push(element("p", { id: "traffic" }, `Its packets: ${traffic}`));
     const fault = record.end && typeof record.end === "object" && state.job ? state.job.items.get(record.end.site) : undefined;
     if (fault) parts.push(element("p", {}, `line ${fault.line}: `, element("code", {}, fault.text)));
-    parts.push(...roundRows(number, fields), element("h2", {}, "Way"), wayLine(record.places));
+    parts.push(...roundRows(number, symbols), element("h2", {}, "Way"), wayLine(record.places));
   }
   if (record.kind === "pruned") {
     parts.push(element("p", { id: "end", class: "soft" }, record.decisions.length === 0 ? "No packet meets the injection." : "No packet takes the last decision."));
-    parts.push(element("h2", {}, "Why"), element("pre", { id: "why" }, refutationWords(record.refutation, fields).join("\n")));
+    parts.push(element("h2", {}, "Why"), element("pre", { id: "why" }, refutationWords(record.refutation, symbols).join("\n")));
     parts.push(element("p", { class: "soft" }, "Tests are numbered along the way from 0, those of the injection first; the parts of a test are numbered from 0 too."));
   }
   if (record.kind === "unexplored") parts.push(element("p", { id: "end", class: "warn" }, "This decision was open when the limit was reached."));
   parts.push(...decisionRows(record), ...originRows(record));
-  if (record.kind === "path") parts.push(...packetRows(record, fields), ...fieldRows(record, fields));
+  if (record.kind === "path") parts.push(...packetRows(record, symbols), ...fieldRows(record, symbols));
   return parts;
 }
 
 // Where the answer of loops is given: the ports of one round, or that the path is only cut, and what differs at each earlier visit of its last port.
-function roundRows(number, fields) {
+function roundRows(number, symbols) {
   const { answer } = state;
   if (!answer || answer.kind !== "loops") return [];
   const round = roundOf(number);
   if (round !== null) return [element("h2", {}, "Round, for ever"), wayLine(round, { id: "round", class: "bad" })];
   const path = answer.open.find((one) => openNumber(one) === number);
   if (path === undefined) return [];
-  const visits = visitsOf(path).map((visit) => element("li", {}, visitWords(visit, fields)));
+  const visits = visitsOf(path).map((visit) => element("li", {}, visitWords(visit, symbols)));
   return [element("p", { id: "round", class: "warn" }, "It is only cut: no hop is left, and no round was found. More hops may show where it ends."),
     ...(visits.length > 0 ? [element("p", {}, "Its last port was visited before, and each time something differed:"), element("ul", { id: "visits" }, ...visits)] : [])];
 }
@@ -109,21 +109,21 @@ function decisionWords(event) {
   return `copy ${decision}, to port ${step.ports ? step.ports[decision] : "?"}`;
 }
 
-function packetRows(record, fields) {
+function packetRows(record, symbols) {
   const values = packetOf(record);
   if (values === null || values.length === 0) return [];
-  return [element("h2", {}, record.verdict.sat ? "Its least packet" : "The least values"), packetTable("packet", values, fields)];
+  return [element("h2", {}, record.verdict.sat ? "Its least packet" : "The least values"), packetTable("packet", values, symbols)];
 }
 
 // A cell with the raw form of what stands beside it, empty where that is the raw form itself.
 const rawCell = (raw, shown) => element("td", { class: "soft raw" }, raw === shown ? "" : raw);
 
 // A packet by the names of the unknown fields and choices, with the raw forms beside them.
-function packetTable(id, values, fields) {
+function packetTable(id, values, symbols) {
   const rows = values.map((value, symbol) => {
-    const target = symbolTarget(fields, symbol), position = positionOf(target);
+    const target = symbolTarget(symbols, symbol), name = symbolName(symbols, symbol), position = positionOf(target);
     const shown = valueWords(position && position.kind, value);
-    return element("tr", {}, element("td", {}, nameOf(target)), element("td", {}, shown), rawCell(target, nameOf(target)), rawCell(String(value), shown));
+    return element("tr", {}, element("td", {}, name), element("td", {}, shown), rawCell(target, name), rawCell(String(value), shown));
   });
   return element("table", { id }, ...rows);
 }
@@ -146,7 +146,7 @@ function injectedAt(tags) {
   return found;
 }
 
-function fieldRows(record, fields) {
+function fieldRows(record, symbols) {
   const values = packetOf(record);
   const tags = new Map(record.fields.tags.map(([name, address]) => [name, Number(address)]));
   const injected = injectedAt(tags);
@@ -156,7 +156,7 @@ function fieldRows(record, fields) {
     cells.forEach((cell, index) => {
       const isTop = index === cells.length - 1;
       const position = reference === undefined ? undefined : positionOf(reference);
-      const words = cellWords(cell, fields, position && position.kind);
+      const words = cellWords(cell, symbols, position && position.kind);
       const value = cellValue(cell, values);
       const isSame = from && isTop && (from.symbol >= 0 ? sameAs(cell, from.symbol) : cell.length > 1 && (cell.length === 2 || cell[2].length === 0) && BigInt(cell[1]) === from.field.given);
       const note = !from || !isTop || record.verdict === null ? "" : isSame ? "as injected" : "changed";

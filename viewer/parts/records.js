@@ -81,6 +81,8 @@ function showAll() {
     byId("answer").className = report && answer && answer.kind !== "answer" ? "beside" : "";
     byId("answer").replaceChildren(...(answer ? ANSWERS[answer.kind].show(answer) : []));
     if (report) showReport();
+    // What an earlier report left is not of this answer.
+    else for (const name of ["network", "detail", "groups", "undecided"]) byId(name).replaceChildren();
   } catch (error) {
     main.style.display = "none";
     byId("drop").style.display = "block";
@@ -103,11 +105,12 @@ function joinAnswer() {
 
 const PAGE = 200;
 
-// The name of a record: its way by boxes, and its traffic; of a side that no packet takes the test that is never so.
+// The name of a record: its way by boxes, of one that goes round with one round, and its traffic; of a side that no packet takes the test that is never so.
 function nameOfRecord(number) {
   if (!state.names.has(number)) {
-    const record = state.report.records[number], { job, tables } = state;
-    state.names.set(number, { way: boxesOf(job, record).join(", "), traffic: record.kind === "pruned" ? neverWords(job, record) : trafficWords(job, tables, record) });
+    const record = state.report.records[number], { job, tables } = state, ahead = aheadOf(number);
+    const way = ahead === null ? boxesOf(job, record).join(", ") : `${boxesOf(job, { ...record, places: [...ahead, ...roundOf(number)] }).join(", ")} .. for ever`;
+    state.names.set(number, { way, traffic: record.kind === "pruned" ? neverWords(job, record) : trafficWords(job, tables, record) });
   }
   return state.names.get(number);
 }
@@ -116,7 +119,8 @@ function neverWords(job, record) {
   const list = stepsOf(job, record), last = list[list.length - 1];
   const isLast = last !== undefined && last.index + last.count === record.decisions.length;
   if (record.decisions.length === 0) return "no packet meets the injection";
-  return isLast ? `never ${codeWords(last.step.text)}: ${decisionWords(last)}` : `after ${plural(record.decisions.length, "decision", "decisions")}`;
+  const words = isLast && (last.step.kind === "table" ? `in the table of ${boxOf(last.place)}` : codeWords(last.step.text));
+  return isLast ? `never ${words}: ${decisionWords(last)}` : `after ${plural(record.decisions.length, "decision", "decisions")}`;
 }
 
 function recordRow(number, isMixed) {
@@ -155,8 +159,8 @@ function shownValues(record) {
     const position = positionOf(target);
     found.push({ names: `${nameOf(target)} ${target}`.toLowerCase(), kind: position && position.kind, value: BigInt(value) });
   };
-  const values = packetOf(record), fields = unknownFields(state.job);
-  if (values !== null) values.forEach((value, symbol) => add(symbolTarget(fields, symbol), value));
+  const values = packetOf(record), symbols = symbolsOf(state.job, record);
+  if (values !== null) values.forEach((value, symbol) => add(symbolTarget(symbols, symbol), value));
   if (values !== null && state.job) for (const field of state.job.fields) add(field.target, field.given);
   if (!record.fields) return found;
   for (const [address, cells] of record.fields.heads) {

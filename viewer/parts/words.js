@@ -86,16 +86,16 @@ function openLines(report, numbers, job) {
 const VISIT_CAUSES = { cases: `there are ${tooMany(null)}; --cases all tries them`, coupled: COUPLED, outside: OUTSIDE };
 const visitCause = (cause) => (Object.hasOwn(VISIT_CAUSES, cause) ? VISIT_CAUSES[cause] : cause);
 
-// The field that a symbol is, or the number of a choice on the way.
-function symbolTarget(fields, symbol) {
-  if (fields === null) return `symbol ${symbol}`;
-  return symbol < fields.length ? fields[symbol].target : `choice ${symbol - fields.length}`;
+// The field that a symbol is, or what a choice on the way sets; its number among the choices where that is not known. The symbols are those of symbolsOf.
+function symbolTarget(symbols, symbol) {
+  if (symbols === null) return `symbol ${symbol}`;
+  return symbol < symbols.length ? symbols[symbol].target : `choice ${symbol - symbols.filter(({ isChoice }) => !isChoice).length}`;
 }
 
-const symbolName = (fields, symbol) => nameOf(symbolTarget(fields, symbol));
+const symbolName = (symbols, symbol) => (symbols !== null && symbol < symbols.length && symbols[symbol].name) || nameOf(symbolTarget(symbols, symbol));
 
 // A cell is [width], [width, value] in walks, or [width, constant, [[symbol, coefficient], ..]]; the kind says how its values are written.
-function cellWords(cell, fields, kind) {
+function cellWords(cell, symbols, kind) {
   if (cell.length === 1) return "not set";
   if (cell.length === 2 || cell[2].length === 0) return valueWords(kind, cell[1]);
   const width = BigInt(cell[0]);
@@ -104,7 +104,7 @@ function cellWords(cell, fields, kind) {
     const factor = BigInt(coefficient);
     const isNegative = width > 1n && factor > 1n << (width - 1n);
     const size = isNegative ? (1n << width) - factor : factor;
-    const name = `{${symbolName(fields, Number(symbol))}}`;
+    const name = `{${symbolName(symbols, Number(symbol))}}`;
     parts.push(`${isNegative ? "- " : parts.length > 0 ? "+ " : ""}${size === 1n ? "" : `${size} * `}${name}`);
   }
   const constant = BigInt(cell[1]);
@@ -130,11 +130,11 @@ const sameAs = (cell, symbol) => cell.length === 3 && BigInt(cell[1]) === 0n && 
 // A test of a path, or the member of it to which the numbers of a split lead.
 const memberWords = (pick, way = []) => `${way.map((number) => `part ${number} of `).reverse().join("")}test ${pick}`;
 
-function refutationWords(steps, fields) {
+function refutationWords(steps, symbols) {
   return steps.map((step) => {
     switch (step[0]) {
-      case "empty": return `no value of {${symbolName(fields, step[1])}} meets the tests ${step[2].join(", ")} at once`;
-      case "domain": return `for each range of values that {${symbolName(fields, step[1])}} may have:`;
+      case "empty": return `no value of {${symbolName(symbols, step[1])}} meets the tests ${step[2].join(", ")} at once`;
+      case "domain": return `for each range of values that {${symbolName(symbols, step[1])}} may have:`;
       case "split": return `for each way in which ${memberWords(step[1], step[2])} can have its truth (none, where nothing follows):`;
       case "cycle": return `the bounds ${step[1].join(", ")} together ask a sum below zero to be at least zero`;
       default: return JSON.stringify(step);
