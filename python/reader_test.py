@@ -275,6 +275,20 @@ def check_lists(expect):
     expect("many hidden rules", report.shown(many, report.Inputs()).split("\n")[0], f"101 rules, 100 hidden: {', '.join(map(str, range(1, 21)))} and 80 more")
 
 
+def check_cuts(expect):
+    """Of a comparison how many paths are cut, where that was counted."""
+    def cut(counts):
+        return lines_of('{"answer":"same","cut":%s,"symnet":1}' % counts)
+    expect("nothing is said of cuts", lines_of('{"answer":"same","symnet":1}'), ["same: each packet of the injection is delivered at the same ports with the same header, within the bound of hops"])
+    expect("no path is cut", cut("[0,0]"), ["same: each packet of the injection is delivered at the same ports with the same header", "  no path is cut at the bound of hops, so it holds of walks of any length"])
+    expect("paths are cut", cut("[1,20]")[1:], ["  1 path of the first network and 20 paths of the second are cut at the bound of hops: raise --hops to look further"])
+    for counts in ("[1]", "[1,2,3]", "[1,-1]", '"1"'):
+        try:
+            expect(f"cuts that are none: {counts}", answers.read_compared({"answer": "same", "cut": json.loads(counts), "symnet": 1}), "a message")
+        except answers.NotAnswer:
+            pass
+
+
 def check_ways(expect):
     """The way of an answer, the boxes of a loop, and where a packet leaves."""
     answer = made_files.written({"answers": [{"answer": "yes", "number": 0, "values": [6, 1, 2]}], "symnet": 1})
@@ -445,6 +459,7 @@ def check(expect):
     check_jobs(expect)
     check_records(expect)
     check_lists(expect)
+    check_cuts(expect)
     check_ways(expect)
     check_sizes(expect)
     check_widths(expect)

@@ -9,7 +9,7 @@ from typing import Dict, Iterator, List, Optional, Sequence, Tuple, Union
 from .fields import kind_of, value_text
 from .inputs import LIST_FIELDS, Job, NotInput, read_job
 from .library import Text, as_bytes
-from .packets import bare, named
+from .packets import bare, named, uncounted
 
 Value = Union[int, str, ipaddress.IPv4Address, ipaddress.IPv6Address]
 
@@ -63,7 +63,7 @@ class Packet(Mapping[str, Value]):
         self._places: Dict[str, int] = {}
         for at, (name, target, value) in enumerate(values):
             self._rows.append((target if _plain(name) in self._places else name, target, kind_of(target), value))
-            for key in (name, target, bare(target)):
+            for key in (name, target, bare(target), target + uncounted(name)[1]):
                 self._places.setdefault(_plain(key), at)
 
     def _place(self, key: str) -> int:

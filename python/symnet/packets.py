@@ -6,7 +6,7 @@ from typing import List, Optional, Sequence, Tuple
 from .fields import kind_of, name_of, value_text
 from .inputs import Job
 
-_METADATA = re.compile(r"(?:global|local) (\w+):\w+", re.ASCII)
+_METADATA = re.compile(r"(?:global|local) (\w+):\w+( \(\d+\))?", re.ASCII)
 _COUNTED = re.compile(r"(.*?)( \(\d+\))?", re.DOTALL)
 
 # The widest part of a row for which the other rows leave room.
@@ -16,7 +16,13 @@ WIDEST = 40
 def bare(target: str) -> str:
     """The name of metadata without its scope and its width; anything else as it is."""
     found = _METADATA.fullmatch(target)
-    return found[1] if found else target
+    return f"{found[1]}{found[2] or ''}" if found else target
+
+
+def uncounted(target: str) -> Tuple[str, str]:
+    """What a choice sets without the count of those that set it before, and that count as it stands behind it."""
+    found = _COUNTED.fullmatch(target)
+    return (found[1], found[2] or "") if found else (target, "")
 
 
 def named(job: Job, symbol: int, choices: Sequence[str] = ()) -> Tuple[str, str]:
@@ -24,8 +30,7 @@ def named(job: Job, symbol: int, choices: Sequence[str] = ()) -> Tuple[str, str]
     target = job.target(symbol, choices)
     if symbol < len(job.fields):
         return name_of(target), target
-    found = _COUNTED.fullmatch(target)
-    target, count = (found[1], found[2] or "") if found else (target, "")
+    target, count = uncounted(target)
     return bare(name_of(target)) + count, target
 
 

@@ -195,6 +195,7 @@ function checkCompared(answer) {
     unknown: () => isListOf(answer.left, isCount) && isListOf(answer.right, isCount),
   };
   if (!Object.hasOwn(forms, answer.answer) || !forms[answer.answer]()) throw new Error("the answer of compare is none of same, other, unknown and partial");
+  if (answer.cut !== undefined && !(isListOf(answer.cut, isCount) && answer.cut.length === 2)) throw new Error("the answer of compare has no two counts of paths that are cut");
 }
 
 function joinCompared(answer, { job, report }) {
@@ -206,19 +207,28 @@ function joinCompared(answer, { job, report }) {
 
 const SIDES = { left: ["first network (JOB)", "second (OTHER)"], right: ["second network (OTHER)", "first (JOB)"] };
 
+// How many paths are cut at the bound of hops, where that was counted.
+function cutNote(answer) {
+  if (answer.cut === undefined) return [];
+  const [first, second] = answer.cut;
+  const words = first === 0 && second === 0 ? "No path of either network is cut at the bound of hops, so this holds of walks of any length."
+    : `${plural(first, "path", "paths")} of the first network and ${plural(second, "path", "paths")} of the second are cut at the bound of hops: compare with more --hops to look further.`;
+  return [element("p", { id: "cut", class: first === 0 && second === 0 ? "soft" : "warn" }, words)];
+}
+
 function showCompared(answer) {
   const { fields, isShown } = answer.joined;
   const say = (shade, words, ...more) => [element("h2", {}, "Comparison"), element("p", { id: "compared", class: shade }, words), ...more];
-  if (answer.answer === "same") return say("good", "The two networks deliver the same: each packet of the injection comes out at the same ports with the same header, within the bound of hops. Tags, metadata, and walks that fail, stop or are cut are not compared.");
+  if (answer.answer === "same") return say("good", "The two networks deliver the same: each packet of the injection comes out at the same ports with the same header, within the bound of hops. Tags, metadata, and walks that fail, stop or are cut are not compared.", ...cutNote(answer));
   if (answer.answer === "partial") return say("warn", "Not known: an exploration reached its limit of records. Raise --limit, or narrow the injection by where lines, and compare again.");
   if (answer.answer === "unknown") {
     const paths = ["left", "right"].filter((side) => answer[side].length > 0).map((side) => `${answer[side].length === 1 ? "path" : "paths"} ${answer[side].join(", ")} of the ${SIDES[side][0]}`);
-    return say("warn", `Not known: no difference was found, and of ${paths.join(" and ")} it was not decided whether the other network delivers the same.`, element("p", { class: "warn" }, HINT));
+    return say("warn", `Not known: no difference was found, and of ${paths.join(" and ")} it was not decided whether the other network delivers the same.`, element("p", { class: "warn" }, HINT), ...cutNote(answer));
   }
   const [has, lacks] = SIDES[answer.side];
   const note = isShown ? [element("p", {}, recordLink(answer.number, `record ${answer.number}`), ` of the report is drawn below; it is this path where the report is that of the ${has}.`)] : [];
   const file = element("p", { class: "soft" }, "The packet as a file for walk, which shows what becomes of it in each network: ", element("code", { id: "packet-file" }, answer.values.join(" ")));
-  return say("bad", `The networks differ. Path ${answer.number} of the ${has} delivers this packet, and the ${lacks} does not deliver the same.`, packetTable("difference", answer.values, fields), file, ...bothNetworks(answer), ...note);
+  return say("bad", `The networks differ. Path ${answer.number} of the ${has} delivers this packet, and the ${lacks} does not deliver the same.`, packetTable("difference", answer.values, fields), file, ...bothNetworks(answer), ...cutNote(answer), ...note);
 }
 
 // Both networks beside each other, where something of the second is given: with the walks of the packet, or with the path that the answer names.
