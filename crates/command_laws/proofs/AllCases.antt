@@ -1,5 +1,5 @@
 -- With the greatest bound no record is undecided for its number of choices of cases.
-use Rattle.std.proofs.Common.{◌≡◌, ℕ, zero, suc, ◌-◌, ◌*◌, ◌^◌, ◌<◌, ◌≤◌, List, [], ◌∷◌, Option, None, Some, Result, Ok, Err, refl, sym, ap, subst, ◌∙◌, arith}
+use Rattle.std.proofs.Common.{◌≡◌, ℕ, ◌*◌, ◌<◌, ◌≤◌, List, [], ◌∷◌, None, Some, Result, Ok, Err, refl, sym, ap, subst, ◌∙◌, arith}
 use Rattle.std.specs.List.{AllByRecursion}
 use Rattle.sn_width.specs.declared.faults.LayoutFault.{LayoutFault}
 use Rattle.lin_term.specs.Terms.{LinearTerm}
@@ -8,7 +8,6 @@ use Rattle.path_formula.specs.Formulas.{FormulaTree}
 use Rattle.path_cond.specs.Choices.{choice_count, formula_choices, range_choices}
 use Rattle.path_cond.specs.Seen.{itself, tried}
 use Rattle.refutation_check.specs.Seen.{AreManyChoices}
-use Rattle.refutation_check.specs.declared.outcome.Cause.{Cause}
 use Rattle.refutation_check.specs.declared.outcome.Cause.TheVariants.{Outside, Cases, Coupled}
 use Rattle.refutation_check.specs.declared.outcome.Verdict.{Verdict}
 use Rattle.refutation_check.specs.declared.outcome.Verdict.TheVariants.{Sat, Undecided}
@@ -16,13 +15,12 @@ use Rattle.cell_stacks.specs.Outcome.{and_then, on_ok}
 use Rattle.net_check.specs.Network.{Network, Entry}
 use Rattle.sefl_meaning.specs.Carried.{Carried, scene_at}
 use Rattle.sefl_meaning.specs.Injected.{injected, unknown_count, unknown_widths}
-use Rattle.sefl_meaning.specs.Start.{start_from, start_of, tests_in, tree_from}
-use Rattle.sefl_meaning.specs.Values.{Values}
+use Rattle.sefl_meaning.specs.Start.{start_from, tests_in, tree_from}
 use Rattle.term_values.specs.TermValues.{terms}
 use Rattle.exact_records.specs.Exact.{IsGood}
-use Rattle.exact_records.specs.Packets.{AreExactFor, IsExplored}
+use Rattle.exact_records.specs.Packets.{IsExplored}
 use Rattle.exact_records.specs.Records.{IsVerdictOn, RecordTree, SymCondition, SymStart, condition_on, path, pruned, unexplored}
-use Rattle.command_laws.specs.Cases.{AllCasesAreTried, HasAllCasesTried, IsOfCases, IsTriedInAll, all_choices}
+use Rattle.command_laws.specs.Cases.{AllCasesAreTried, HasAllCasesTried, IsTriedInAll, all_choices}
 
 -- ---- the bound of what is explored
 

@@ -1,16 +1,16 @@
 -- A report that was written whole is confirmed whole; and one that is partial is not.
-use Rattle.std.proofs.Common.{◌≡◌, ◌≤◌, ℕ, suc, Bool, true, false, inl, inr, List, [], ◌∷◌, ◌++◌, length, map, refl, sym, ap, subst, ◌∙◌, Option, None, Some, Ok, Err}
-use Rattle.std.specs.List.{AllByRecursion}
+use Rattle.std.proofs.Common.{◌≡◌, ◌≤◌, ℕ, suc, ◌+◌, arith, Bool, true, false, inl, inr, List, [], ◌∷◌, ◌++◌, length, map, refl, sym, ap, subst, ◌∙◌, Option, None, Some, Ok}
+use Rattle.std.specs.List.{AllByRecursion, fold}
 use Rattle.sefl_meaning.specs.declared.walk.Decision.{Decision}
 use Rattle.net_check.specs.Network.{Network, Entry}
 use Rattle.path_records.specs.declared.records.Record.{Record}
 use Rattle.path_records.specs.declared.records.Record.TheVariants.{Path, Pruned, Unexplored}
 use Rattle.path_records.specs.declared.sides.RefutedSides.TheVariants.{Written}
-use Rattle.exact_records.specs.Exact.{AreExact, IsCutOff, IsTried, IsUnexplored, IsWhole}
+use Rattle.exact_records.specs.Exact.{AreExact, IsCutOff, IsTried, IsUnexplored}
 use Rattle.exact_records.specs.Packets.{AreExactFor}
 use Rattle.exact_records.specs.Records.{HasMeaning, RecordTree, SymStart, decisions_of}
 use Rattle.exact_records.specs.View.{record_trees}
-use Rattle.record_lines.specs.Lines.{refuted_count}
+use Rattle.record_lines.specs.Lines.{refuted_by, refuted_count}
 use Rattle.record_text.specs.declared.report.Report.{Report}
 use Rattle.report_forms.specs.Seen as seen
 use Rattle.path_report.specs.Reading.{ReadsReport}
@@ -18,7 +18,7 @@ use Rattle.record_checks.specs.Counts.{count_where, counts_of, is_pruned, is_sat
 use Rattle.record_checks.specs.declared.counts.Confirmed.{Confirmed}
 use Rattle.whole_checks.specs.Chains.{IsChain, IsChainBehind}
 use Rattle.whole_checks.specs.Confirming.{ConfirmsBehind}
-use Rattle.whole_checks.specs.Walks.{ChainsShowWalks, ExactRecordsAreChains, ShowEachWalk}
+use Rattle.whole_checks.specs.Walks.{ChainsShowWalks, ExactRecordsAreChains}
 use Rattle.command_edge.specs.Puts.{Outcome, text, refused}
 use Rattle.command_edge.specs.declared.ending.Ending.{Ending}
 use Rattle.command_edge.specs.declared.ending.Ending.TheVariants.{Done, Partial}
@@ -27,12 +27,12 @@ use Rattle.explore_command.specs.Explores.{IsEnding, IsReport, is_done, said_by}
 use Rattle.explore_command.specs.Headline.{IsReadBack}
 use Rattle.replay_command.specs.Counted.{confirmed_text}
 use Rattle.replay_command.specs.Replays.{choices_of}
-use Rattle.replay_command.specs.Wholes.{HasHead, IsWholeText, Told, WholeOf, told_by}
+use Rattle.replay_command.specs.Wholes.{IsWholeText, Told, WholeOf, told_by}
 use Rattle.command_laws.proofs.Confirmed.{meanings, no_fault, said_back, tree_of, trees_seen}
 
 -- ---- counts, from the first record on and by recursion
 
-counted_on : Confirmed → List RecordTree → Confirmed
+abbrev counted_on : Confirmed → List RecordTree → Confirmed
 counted_on counts [] = counts
 counted_on counts (x ∷ xs) = counted_on (with_record x counts) xs
 
@@ -59,12 +59,18 @@ counted_all : (xs : List RecordTree) → counted_on (counts_of []) xs ≡ counts
 counted_all [] = refl
 counted_all (x ∷ xs) = counted_one x xs (counts_of []) ∙ ap (with_record x) (counted_all xs)
 
--- as many refuted sides as the report's own number says
+-- as many refuted sides as the report's own number says, with some before them
+folded : (n : ℕ) (xs : List Record) → fold (λ a x. a + refuted_by x) n xs ≡ n + count_where is_pruned (record_trees xs)
+folded n [] = omega arith
+folded n (Path decisions places end' fields verdict ∷ xs) =
+    let rest : n + 0 + count_where is_pruned (record_trees xs) ≡ n + count_where is_pruned (record_trees xs) = omega arith in folded (n + 0) xs ∙ rest
+folded n (Pruned decisions before refutation ∷ xs) =
+    let rest : n + 1 + count_where is_pruned (record_trees xs) ≡ n + suc (count_where is_pruned (record_trees xs)) = omega arith in folded (n + 1) xs ∙ rest
+folded n (Unexplored decisions ∷ xs) =
+    let rest : n + 0 + count_where is_pruned (record_trees xs) ≡ n + count_where is_pruned (record_trees xs) = omega arith in folded (n + 0) xs ∙ rest
+
 refuted_counted : (xs : List Record) → refuted_count xs ≡ count_where is_pruned (record_trees xs)
-refuted_counted [] = refl
-refuted_counted (Path decisions places end' fields verdict ∷ xs) = refuted_counted xs
-refuted_counted (Pruned decisions before refutation ∷ xs) = ap suc (refuted_counted xs)
-refuted_counted (Unexplored decisions ∷ xs) = refuted_counted xs
+refuted_counted xs = let all : 0 + count_where is_pruned (record_trees xs) ≡ count_where is_pruned (record_trees xs) = omega arith in folded 0 xs ∙ all
 
 -- ---- a chain is confirmed
 
@@ -76,9 +82,9 @@ chain_confirms s (x ∷ xs) before number counts all chain =
 
 -- ---- where nothing was left, the records keep the limit
 
-all_behind : {P : RecordTree → Type 0} (xs ys : List RecordTree) → AllByRecursion P (xs ++ ys) → AllByRecursion P ys
-all_behind [] ys all = all
-all_behind (x ∷ xs) ys all = all_behind xs ys all.1
+all_behind : (P : RecordTree → Type 0) (xs ys : List RecordTree) → AllByRecursion P (xs ++ ys) → AllByRecursion P ys
+all_behind P [] ys all = all
+all_behind P (x ∷ xs) ys all = all_behind P xs ys all.1
 
 none_untried : (xs : List RecordTree) → AllByRecursion IsTried xs → AllByRecursion IsUnexplored xs → (xs ≡ [] → ⊥) → ⊥
 none_untried [] tried untried some = some refl
@@ -87,7 +93,7 @@ none_untried (x ∷ xs) tried untried some = tried.0 untried.0
 module _ (s : SymStart) (limit : ℕ) (rs : List RecordTree) (tried : AllByRecursion IsTried rs) where
   not_cut : IsCutOff s limit rs → ⊥
   not_cut cut =
-      none_untried cut.left (all_behind (cut.done ++ cut.last ∷ []) cut.left (subst (λ (xs : List RecordTree). AllByRecursion IsTried xs) cut.joined tried)) cut.untried cut.some
+      none_untried cut.left (all_behind IsTried (cut.done ++ cut.last ∷ []) cut.left (subst (λ (xs : List RecordTree). AllByRecursion IsTried xs) cut.joined tried)) cut.untried cut.some
 
   within : AreExact s limit rs → length rs ≤ limit
   within exact = elim exact.limited [
@@ -98,7 +104,7 @@ module _ (s : SymStart) (limit : ℕ) (rs : List RecordTree) (tried : AllByRecur
 -- ---- the report that was written
 
 -- what a report that is seen so tells
-told : seen.ReportSeen → Told
+abbrev told : seen.ReportSeen → Told
 told r = record {
   most = choices_of r.cases;
   hops = r.hops;
