@@ -64,6 +64,9 @@ UNCONFIRMED = {
     2: "the refutation of the record is not accepted, or its decisions end at no test: explore the job again",
     3: "the places, the end or the fields are not those of the decisions: explore the job again",
     4: "an undecided path may not have this cause: explore the job again",
+    5: "before this record one is missing, it was not tried, or it stands in another place; behind the last record its number is told: explore the job again, with "
+       "`--pruned all` and a `--limit` that is not met",
+    6: "no record is missing, but the report says another `state`, `refuted` or `limit`: explore the job again",
 }
 FORMS = literals(WORDS / "usage.rt")[0] + "\n"
 LIST = "permit 6 10.0.0.0/8 0.0.0.0/0 any 80\r\n# a rule\r\n\tdeny any 10.0.0.0/8 0.0.0.0/0 any 9-5\r\n"
@@ -203,6 +206,9 @@ USAGES = [
     ("replay job report --hops=5", "`--hops`: the command has no such option"),
     ("explore job --pruned some", "`some`: --pruned takes all or count"),
     ("loops job --open all", "`all`: --open takes numbers or visits"),
+    ("replay job report --records all", "`all`: --records takes each or whole"),
+    ("walk job packets --packets=many", "`many`: --packets takes one or lines"),
+    ("compare job other --cut none", "`none`: --cut takes omit or count"),
     ("model", "`model`: behind it stands mac, fib, click or acl"),
     ("model tree file", "`tree`: behind `model` stands mac, fib, click or acl"),
     ("model fib file --style x", "`x`: --style takes chain, grouped or egress"),
@@ -309,6 +315,8 @@ LAST = [
 ROWS = [
     ("compare", "choices of other widths at one port",
      "two paths that leave by one port chose values of other widths: let both jobs choose the same fields in the same order"),
+    ("replay", "two paths are exchanged", UNCONFIRMED[5]),
+    ("replay", "more records than the limit", UNCONFIRMED[6]),
     *(("forged", name, UNCONFIRMED[kind]) for name, kind in (("one pick of two", 2), ("no side", 2), ("a path is called undecided by cases", 4))),
 ]
 
